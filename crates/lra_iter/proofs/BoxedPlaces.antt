@@ -6,6 +6,7 @@ use Rattle.std.proofs.Math.Nat.{suc-mul}
 use Rattle.std.proofs.lemmas.Result.{IfOk-weaker}
 use Rattle.lra_flow.specs.Plan.{Plan}
 use Rattle.lra_domain.specs.Meaning.{Meaning}
+use Rattle.lra_others.specs.Others.{Others}
 use Rattle.lra_outcomes.specs.declared.memory.Memory.{Memory}
 use Rattle.lra_outcomes.specs.declared.outcome.Outcome.{Outcome}
 use Rattle.lra_places.specs.declared.places.Entering.{Entering}
@@ -36,25 +37,25 @@ module _ {V H E : Type 0} (m : Meaning V H) (set : Plan) (R : outcome_or.Result 
     AgainHere r = IfOk R (λ n. (b : Box (GrowingPlace V H) Global) × (p : Box (place.Place V H) Global) ×
         (n ≡ Again p r) × (p.value ≡ Growing b) × (b.value ≡ g))
 
-    pub growing_leads : (tree : Entering V) (whole : Due V) (memory : Memory V) → OpensHere tree →
-        IsGrowing m set g whole (due tree memory) × MayBePassed m set (due tree memory) →
-        IfOk R (λ n. Leads m set whole n memory)
-    growing_leads tree whole memory h leads = IfOk-weaker R
+    pub growing_leads : (o : Others V) (tree : Entering V) (whole : Due V) (memory : Memory V) → OpensHere tree →
+        IsGrowing o m set g whole (due tree memory) × MayBePassed o m set (due tree memory) →
+        IfOk R (λ n. Leads o m set whole n memory)
+    growing_leads o tree whole memory h leads = IfOk-weaker R
         (λ n. (b : Box (GrowingPlace V H) Global) × (n ≡ Opens (Growing b) tree) × (b.value ≡ g))
-        (λ n. Leads m set whole n memory)
-        (λ n at. subst (λ (x : next.Next V H). Leads m set whole x memory) (sym at.1)
-        (subst (λ (x : GrowingPlace V H). IsGrowing m set x whole (due tree memory)) (sym at.2) leads.0, leads.1)) h
+        (λ n. Leads o m set whole n memory)
+        (λ n at. subst (λ (x : next.Next V H). Leads o m set whole x memory) (sym at.1)
+        (subst (λ (x : GrowingPlace V H). IsGrowing o m set x whole (due tree memory)) (sym at.2) leads.0, leads.1)) h
 
-    pub growing_made : (r : Outcome V) (whole : Due V) (memory : Memory V) → AgainHere r →
-        ((part : Due V) × IsGrowing m set g whole part × IsMade m set part (seen r) memory) →
-        IfOk R (λ n. Leads m set whole n memory)
-    growing_made r whole memory h made = IfOk-weaker R
+    pub growing_made : (o : Others V) (r : Outcome V) (whole : Due V) (memory : Memory V) → AgainHere r →
+        ((part : Due V) × IsGrowing o m set g whole part × IsMade o m set part (seen r) memory) →
+        IfOk R (λ n. Leads o m set whole n memory)
+    growing_made o r whole memory h made = IfOk-weaker R
         (λ n. (b : Box (GrowingPlace V H) Global) × (p : Box (place.Place V H) Global) × (n ≡ Again p r) ×
-        (p.value ≡ Growing b) × (b.value ≡ g)) (λ n. Leads m set whole n memory)
-        (λ n at. subst (λ (x : next.Next V H). Leads m set whole x memory) (sym at.2) (
+        (p.value ≡ Growing b) × (b.value ≡ g)) (λ n. Leads o m set whole n memory)
+        (λ n at. subst (λ (x : next.Next V H). Leads o m set whole x memory) (sym at.2) (
           made.0,
-          subst (λ (x : place.Place V H). IsOpen m set x whole made.0) (sym at.3)
-              (subst (λ (x : GrowingPlace V H). IsGrowing m set x whole made.0) (sym at.4) made.1),
+          subst (λ (x : place.Place V H). IsOpen o m set x whole made.0) (sym at.3)
+              (subst (λ (x : GrowingPlace V H). IsGrowing o m set x whole made.0) (sym at.4) made.1),
           made.2,
         )) h
 
@@ -100,25 +101,25 @@ module _ {V H E : Type 0} (m : Meaning V H) (set : Plan) (R : outcome_or.Result 
     AgainThere r = IfOk R (λ n. (b : Box (NarrowingPlace V) Global) × (p : Box (place.Place V H) Global) ×
         (n ≡ Again p r) × (p.value ≡ Narrowing b) × (b.value ≡ g))
 
-    pub narrowing_leads : (tree : Entering V) (whole : Due V) (memory : Memory V) → OpensThere tree →
-        IsNarrowing m set g whole (due tree memory) × MayBePassed m set (due tree memory) →
-        IfOk R (λ n. Leads m set whole n memory)
-    narrowing_leads tree whole memory h leads = IfOk-weaker R
+    pub narrowing_leads : (o : Others V) (tree : Entering V) (whole : Due V) (memory : Memory V) → OpensThere tree →
+        IsNarrowing o m set g whole (due tree memory) × MayBePassed o m set (due tree memory) →
+        IfOk R (λ n. Leads o m set whole n memory)
+    narrowing_leads o tree whole memory h leads = IfOk-weaker R
         (λ n. (b : Box (NarrowingPlace V) Global) × (n ≡ Opens (Narrowing b) tree) × (b.value ≡ g))
-        (λ n. Leads m set whole n memory)
-        (λ n at. subst (λ (x : next.Next V H). Leads m set whole x memory) (sym at.1)
-        (subst (λ (x : NarrowingPlace V). IsNarrowing m set x whole (due tree memory)) (sym at.2) leads.0, leads.1)) h
+        (λ n. Leads o m set whole n memory)
+        (λ n at. subst (λ (x : next.Next V H). Leads o m set whole x memory) (sym at.1)
+        (subst (λ (x : NarrowingPlace V). IsNarrowing o m set x whole (due tree memory)) (sym at.2) leads.0, leads.1)) h
 
-    pub narrowing_made : (r : Outcome V) (whole : Due V) (memory : Memory V) → AgainThere r →
-        ((part : Due V) × IsNarrowing m set g whole part × IsMade m set part (seen r) memory) →
-        IfOk R (λ n. Leads m set whole n memory)
-    narrowing_made r whole memory h made = IfOk-weaker R
+    pub narrowing_made : (o : Others V) (r : Outcome V) (whole : Due V) (memory : Memory V) → AgainThere r →
+        ((part : Due V) × IsNarrowing o m set g whole part × IsMade o m set part (seen r) memory) →
+        IfOk R (λ n. Leads o m set whole n memory)
+    narrowing_made o r whole memory h made = IfOk-weaker R
         (λ n. (b : Box (NarrowingPlace V) Global) × (p : Box (place.Place V H) Global) × (n ≡ Again p r) ×
-        (p.value ≡ Narrowing b) × (b.value ≡ g)) (λ n. Leads m set whole n memory)
-        (λ n at. subst (λ (x : next.Next V H). Leads m set whole x memory) (sym at.2) (
+        (p.value ≡ Narrowing b) × (b.value ≡ g)) (λ n. Leads o m set whole n memory)
+        (λ n at. subst (λ (x : next.Next V H). Leads o m set whole x memory) (sym at.2) (
           made.0,
-          subst (λ (x : place.Place V H). IsOpen m set x whole made.0) (sym at.3)
-              (subst (λ (x : NarrowingPlace V). IsNarrowing m set x whole made.0) (sym at.4) made.1),
+          subst (λ (x : place.Place V H). IsOpen o m set x whole made.0) (sym at.3)
+              (subst (λ (x : NarrowingPlace V). IsNarrowing o m set x whole made.0) (sym at.4) made.1),
           made.2,
         )) h
 

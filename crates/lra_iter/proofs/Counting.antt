@@ -7,12 +7,14 @@ use Rattle.std.proofs.lemmas.Bool.{cases_eq}
 use Rattle.std.proofs.lemmas.Bool.Decides.{nat_tests}
 use Rattle.lra_linear.proofs.Membership.{contains_none, contains_head, contains_tail, contains_cases}
 use Rattle.lra_program.specs.Program.{Expr, Cond, Program}
-use Rattle.lra_operations.specs.Graph.{Exit, broken, continued, returned, Node, empty, point, act, check, seq, choose, iterate, catch, leave}
+use Rattle.lra_operations.specs.declared.asides.Aside.TheVariants.{Entering, Noting}
+use Rattle.lra_operations.specs.Graph.{Exit, broken, continued, returned, Node, empty, aside, point, act, check, seq, choose, iterate, catch, leave}
 use Rattle.lra_operations.specs.Graph.{select, Arms, no_arms, entry, arm}
 use Rattle.lra_program.specs.Sites.{Site, sites_of}
 use Rattle.lra_flow.specs.Plan.{Plan, Widening}
 use Rattle.lra_flow.specs.Operations.{Operations}
-use Rattle.lra_flow.specs.Pass.{Entry, value, failing, Result, noted, jumps, behind, Through, GoesRound, Grows, Narrows, Pass, ArmsPass}
+use Rattle.lra_flow.specs.Pass.{Entry, value, failing, given, Result, noted, jumps, behind, Through, GoesRound, Grows, Narrows}
+use Rattle.lra_flow.specs.Pass.{Admission, nothing_admitted, PassAmong, ArmsPassAmong}
 use Rattle.lra_flow.specs.Analysis.{Iteration}
 use Rattle.lra_iter.specs.Numbers.{one_if, values_in, values_in_arms, checks_in, checks_in_arms, asserts_of, IsNumbered}
 use Rattle.lra_iter.specs.Counts.{values_at, failing_at, AreCounted}
@@ -29,11 +31,13 @@ pub values_append : {V : Type 0} (k : ℕ) (xs ys : List (Entry V)) → values_a
 values_append k [] ys = omega arith
 values_append k (value q v ∷ xs) ys = let i = values_append k xs ys in omega (arith, i)
 values_append k (failing q v ∷ xs) ys = values_append k xs ys
+values_append k (given q place v ∷ xs) ys = values_append k xs ys
 
 pub failing_append : {V : Type 0} (k : ℕ) (xs ys : List (Entry V)) → failing_at k (xs ++ ys) ≡ failing_at k xs + failing_at k ys
 failing_append k [] ys = omega arith
 failing_append k (value q v ∷ xs) ys = failing_append k xs ys
 failing_append k (failing q v ∷ xs) ys = let i = failing_append k xs ys in omega (arith, i)
+failing_append k (given q place v ∷ xs) ys = failing_append k xs ys
 
 -- so many values and so many values where an assertion is false
 pub record Found {V : Type 0} (k : ℕ) (xs : List (Entry V)) (c d : ℕ) : Type 0 where
@@ -56,7 +60,7 @@ jump_entries broken v nothing f = refl
 jump_entries continued v nothing f = refl
 jump_entries returned v nothing f = refl
 
-module _ (V H : Type 0) (ops : Operations V H) (k : ℕ) where
+module _ (V H : Type 0) (ops : Operations V H) (admission : Admission V) (k : ℕ) where
   module _ (q base : ℕ) (c : Cond) (body : Through V) (n d : ℕ) (inside : (f : Option ℕ) (v : V) (r : Result V) → body f v r → Found k r.entries n d) where
     round_found : (f : Option ℕ) (v : V) (r : Result V) → GoesRound V H ops q base c body f v r → Found k r.entries (one_if q k + n) d
     round_found f v r (w, e, s, on, turn, is) =
@@ -74,9 +78,13 @@ module _ (V H : Type 0) (ops : Operations V H) (k : ℕ) where
     narrows_found (suc more) first u s v r (next, t, e, joined, turn, rest) found = narrows_found more first next t v r rest (round_found (noted q e s.flag) next t turn)
 
   mutual
-    pub pass_found : (set : Plan) (g : Node) (f : Option ℕ) (v : V) (r : Result V) → Pass V H ops set g f v r
+    pub pass_found : (set : Plan) (g : Node) (f : Option ℕ) (v : V) (r : Result V) → PassAmong V H ops admission set g f v r
         → Found k r.entries (values_in g k) (checks_in g k)
     pass_found set empty f v r is = subst (λ (y : Result V). Found k y.entries 0 0) (sym is) (record { values = refl; checks = refl })
+    pass_found set (aside here Entering) f v r (w, e, admits, is) = subst (λ (y : Result V). Found k y.entries 0 0) (sym is)
+        (record { values = refl; checks = refl })
+    pass_found set (aside here (Noting place)) f v r is = subst (λ (y : Result V). Found k y.entries 0 0) (sym is)
+        (record { values = refl; checks = refl })
     pass_found set (point q) f v r is = subst (λ (y : Result V). Found k y.entries (one_if q k) 0) (sym is) (record { values = omega arith; checks = refl })
     pass_found set (act q op) f v r (w, e, done, is) = subst (λ (y : Result V). Found k y.entries 0 0) (sym is) (record { values = refl; checks = refl })
     pass_found set (check q base c) f v r (u, w, d, e, off, on, is) = subst (λ (y : Result V). Found k y.entries 0 (one_if q k)) (sym is)
@@ -90,8 +98,10 @@ module _ (V H : Type 0) (ops : Operations V H) (k : ℕ) where
         (both_found k x.entries y.entries (values_in a k) (checks_in a k) (values_in b k) (checks_in b k) (pass_found set a (noted q d f) on x one)
         (pass_found set b (noted q e x.flag) off y two))
     pass_found set (iterate q base c a) f v r (h, later, u, top, out, x, y, e, started, grown, narrowed, off, is) =
-        let g = grows_found q base c (Pass V H ops set a) (values_in a k) (checks_in a k) (pass_found set a) set.widening set.delay f h later u x grown in
-        let n = narrows_found q base c (Pass V H ops set a) (values_in a k) (checks_in a k) (pass_found set a) set.narrow v u x top y narrowed g in
+        let g = grows_found q base c (PassAmong V H ops admission set a) (values_in a k)
+        (checks_in a k) (pass_found set a) set.widening set.delay f h later u x grown in
+        let n = narrows_found q base c (PassAmong V H ops admission set a) (values_in a k)
+        (checks_in a k) (pass_found set a) set.narrow v u x top y narrowed g in
         subst (λ (z : Result V). Found k z.entries (one_if q k + values_in a k) (checks_in a k)) (sym is) (record { values = n.values; checks = n.checks })
     pass_found set (catch q j a) f v r (w, e, x, one, joined, is) =
         subst (λ (z : Result V). Found k z.entries (values_in a k) (checks_in a k)) (sym is)
@@ -103,7 +113,7 @@ module _ (V H : Type 0) (ops : Operations V H) (k : ℕ) where
     pass_found set (select q base e arms) f v r (other, x, none, pass) = arms_found set q base e _ v other arms (noted q x f) None r pass
 
     arms_found : (set : Plan) (q base : ℕ) (e : Expr) (d : Bool) (v other : V) (arms : Arms) (f : Option ℕ) (running : Option V) (r : Result V)
-        → ArmsPass V H ops set q base e d v other arms f running r → Found k r.entries (values_in_arms arms k) (checks_in_arms arms k)
+        → ArmsPassAmong V H ops admission set q base e d v other arms f running r → Found k r.entries (values_in_arms arms k) (checks_in_arms arms k)
     arms_found set q base e d v other no_arms f running r (w, x, out, is) = subst (λ (y : Result V). Found k y.entries 0 0) (sym is)
         (record { values = refl; checks = refl })
     arms_found set q base e d v other (entry l arms) f running r (u, w, x, y, enters, joins, rest) =
@@ -113,8 +123,10 @@ module _ (V H : Type 0) (ops : Operations V H) (k : ℕ) where
         (both_found k x.entries y.entries (values_in a k) (checks_in a k) (values_in_arms arms k) (checks_in_arms arms k) (pass_found set a f w x one)
         (arms_found set q base e d v other arms x.flag (Some x.normal) y rest))
 
-  pub iteration_found : (set : Plan) (P : Program) (g : Node) (r : Result V) → Iteration ops set P g r → Found k r.entries (values_in g k) (checks_in g k)
-  iteration_found set P g r (none, first, e, universal, values, pass) = pass_found set g (noted 0 e None) first r pass
+pub iteration_found : (V H : Type 0) (ops : Operations V H) (k : ℕ) (set : Plan) (P : Program) (g : Node) (r : Result V)
+    → Iteration ops set P g r → Found k r.entries (values_in g k) (checks_in g k)
+iteration_found V H ops k set P g r (none, first, e, universal, values, pass) =
+    pass_found V H ops nothing_admitted k set g (noted 0 e None) first r pass
 
 -- entries ------------------------------------------------------------------------------------------------------------
 
@@ -135,6 +147,7 @@ module _ (V : Type 0) where
       later : (y : Entry V) → 1 ≤ failing_at q xs → 1 ≤ failing_at q (y ∷ xs)
       later (value p v) i = i
       later (failing p v) i = omega (arith, i)
+      later (given p place v) i = i
 
   pub value_counted : (q : ℕ) (u : V) (xs : List (Entry V)) → Contains xs (value q u) → 1 ≤ values_at q xs
   value_counted q u [] h = absurd (contains_none (value q u) h)
@@ -146,6 +159,7 @@ module _ (V : Type 0) where
       later : (y : Entry V) → 1 ≤ values_at q xs → 1 ≤ values_at q (y ∷ xs)
       later (value p v) i = omega (arith, i)
       later (failing p v) i = i
+      later (given p place v) i = i
 
   -- a number that is counted has an entry
   pub counted_value : (q : ℕ) (xs : List (Entry V)) → 1 ≤ values_at q xs → (v : V) × Contains xs (value q v)
@@ -155,6 +169,8 @@ module _ (V : Type 0) where
     | inr ne ↦ (let o = one_other p q ne in let i = counted_value q xs (omega (arith, h, o)) in (i.0, contains_tail (value p v) (value q i.0) xs i.1))
   ]
   counted_value q (failing p u ∷ xs) h = let i = counted_value q xs h in (i.0, contains_tail (failing p u) (value q i.0) xs i.1)
+  counted_value q (given p place u ∷ xs) h =
+      let i = counted_value q xs h in (i.0, contains_tail (given p place u) (value q i.0) xs i.1)
 
   pub counted_failing : (q : ℕ) (xs : List (Entry V)) → 1 ≤ failing_at q xs → (u : V) × Contains xs (failing q u)
   counted_failing q [] h = absurd (omega (arith, h))
@@ -163,6 +179,8 @@ module _ (V : Type 0) where
     | inr ne ↦ (let o = one_other p q ne in let i = counted_failing q xs (omega (arith, h, o)) in (i.0, contains_tail (failing p u) (failing q i.0) xs i.1))
   ]
   counted_failing q (value p v ∷ xs) h = let i = counted_failing q xs h in (i.0, contains_tail (value p v) (failing q i.0) xs i.1)
+  counted_failing q (given p place v ∷ xs) h =
+      let i = counted_failing q xs h in (i.0, contains_tail (given p place v) (failing q i.0) xs i.1)
 
   -- a number that has one entry has no other one
   pub one_failing : (q : ℕ) (u v : V) (xs : List (Entry V)) → failing_at q xs ≤ 1 → Contains xs (failing q u) → Contains xs (failing q v) → u ≡ v
@@ -184,6 +202,7 @@ module _ (V : Type 0) where
       fewer : (y : Entry V) → failing_at q (y ∷ xs) ≤ 1 → failing_at q xs ≤ 1
       fewer (value p w) few = few
       fewer (failing p w) few = omega (arith, few)
+      fewer (given p place w) few = few
 
   pub one_value : (q : ℕ) (u v : V) (xs : List (Entry V)) → values_at q xs ≤ 1 → Contains xs (value q u) → Contains xs (value q v) → u ≡ v
   one_value q u v [] few h i = absurd (contains_none (value q u) h)
@@ -204,6 +223,7 @@ module _ (V : Type 0) where
       fewer : (y : Entry V) → values_at q (y ∷ xs) ≤ 1 → values_at q xs ≤ 1
       fewer (value p w) few = omega (arith, few)
       fewer (failing p w) few = few
+      fewer (given p place w) few = few
 
 pub asserts_few : (o : Option Site) → asserts_of o ≤ 1
 asserts_few None = omega arith
@@ -221,10 +241,10 @@ iteration_fails_once {V} {H} ops set P g r numbered iteration q u v =
     one_failing V q u v r.entries (let c = found.checks in let n = numbered.checks q in let few = asserts_few (slice_get (sites_of P) q) in omega (arith, c, n, few))
 
 -- and a pass over a numbered tree has one value for each point, one for each assertion, and no other
-pub pass_counted : {V H : Type 0} (ops : Operations V H) (T : List Site) (set : Plan) (g : Node) (f : Option ℕ) (v : V) (r : Result V) → IsNumbered T g → Pass V H ops set g f v r →
-    AreCounted T r.entries
-pass_counted {V} {H} ops T set g f v r numbered pass = record {
-  values = λ q s there. (pass_found V H ops q set g f v r pass).values ∙ numbered.values q s there;
-  no_values = λ q there. (pass_found V H ops q set g f v r pass).values ∙ numbered.no_values q there;
-  checks = λ q. (pass_found V H ops q set g f v r pass).checks ∙ numbered.checks q;
+pub pass_counted : {V H : Type 0} (ops : Operations V H) (admission : Admission V) (T : List Site) (set : Plan) (g : Node) (f : Option ℕ) (v : V) (r : Result V)
+    → IsNumbered T g → PassAmong V H ops admission set g f v r → AreCounted T r.entries
+pass_counted {V} {H} ops admission T set g f v r numbered pass = record {
+  values = λ q s there. (pass_found V H ops admission q set g f v r pass).values ∙ numbered.values q s there;
+  no_values = λ q there. (pass_found V H ops admission q set g f v r pass).values ∙ numbered.no_values q there;
+  checks = λ q. (pass_found V H ops admission q set g f v r pass).checks ∙ numbered.checks q;
 }

@@ -15,11 +15,11 @@ use Rattle.lra_flow.specs.Pass.{value, failing}
 use Rattle.lra_flow.specs.Pass as pass
 use Rattle.lra_flow.specs.Analysis.{IsUnreachable}
 use Rattle.lra_outcomes.specs.declared.outcome.Entry.{Entry}
-use Rattle.lra_outcomes.specs.declared.outcome.Entry.TheVariants.{Value, Failing}
+use Rattle.lra_outcomes.specs.declared.outcome.Entry.TheVariants.{Value, Failing, Given}
 use Rattle.lra_outcomes.specs.Outcome.{entry_view}
 use Rattle.lra_iter.specs.Counts.{values_at, failing_at, AreApart}
 use Rattle.lra_iter.specs.Tables.{AreTabled, filled_from}
-use Rattle.lra_iter.proofs.Tabled.{Next, next_in, few_before, few_checks_before, value_inside, failing_inside, value_tabled, failing_tabled}
+use Rattle.lra_iter.proofs.Tabled.{Next, next_in, few_before, few_checks_before, value_inside, failing_inside, value_tabled, failing_tabled, given_tabled}
 
 same_items : {A : Type 0} (xs : List A) → map (λ (x : A). x) xs ≡ xs
 same_items [] = refl
@@ -81,6 +81,10 @@ module _ {V : Type 0} (n : ℕ) (all front : List (Entry V)) (x : Entry V) (apar
         let few : failing_at p (seen_front ++ failing p v ∷ []) ≤ 1 = subst (λ (e : Entry V). failing_at p (seen_front ++ entry_view e ∷ []) ≤ 1) is one in
         subst (λ (es : List (pass.Entry V)). AreTabled m n es values (slice_set verdicts p (Some proved))) (seen_more (Failing p v) is)
         (failing_tabled m n seen_front values verdicts tabled p (failing_place p v is) v proved few so)
+
+    pub given_filled : (place : ℕ) → x ≡ Given p place v → AreTabled m n (map (entry_view {V = V}) (front ++ x ∷ [])) values verdicts
+    given_filled place is = subst (λ (es : List (pass.Entry V)). AreTabled m n es values verdicts) (seen_more (Given p place v) is)
+        (given_tabled m n seen_front values verdicts tabled p place v)
 
 -- one place more
 pub filled_some : {A : Type 0} (n : ℕ) (t : List (Option A)) (k : ℕ) (x : A) → slice_get t k ≡ Some (Some x) → filled_from n (take (suc k) t) ≡ filled_from n (take k t) ++ (n + k, x) ∷ []

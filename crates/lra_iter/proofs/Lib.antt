@@ -4,9 +4,12 @@ mod TurnSteps
 mod BoxedPlaces
 mod Tabled
 mod Filling
+mod Noting
+mod AsideSteps
 pub mod Counting
 mod Solving
 pub mod Covering
+mod CoveringAmong
 pub mod Widths
 mod LoopNumbers
 -- The written iteration has one solution.

@@ -7,14 +7,16 @@ use Rattle.lra_domain.specs.declared.Mode.TheVariants.{Join}
 use Rattle.lra_domain.specs.Rank.{RankFits, RankBelow}
 use Rattle.lra_domain.specs.Parts.{CapsWithin}
 use Rattle.lra_domain.specs.Meaning.{Meaning, Values, Grew}
+use Rattle.lra_others.specs.Others.{Others}
 use Rattle.lra_domain.proofs.RankNumbers.{phased, phased_joins, phased_falls}
 use Rattle.lra_domain.specs.declared.Exactness.{Exactness}
 use Rattle.lra_program.specs.Program.{Cond}
 use Rattle.lra_operations.specs.Graph as graph
 use Rattle.lra_flow.specs.Plan.{Plan, Widening, standard, limited, by_thresholds, mode_at}
 use Rattle.lra_flow.specs.Operations.{Operations, dropping}
+use Rattle.lra_flow.specs.Among.{admitted}
 use Rattle.lra_flow.specs.Thresholds.{loop_rows}
-use Rattle.lra_flow.specs.Pass.{AreJoined, Result, noted, first_of_call, Pass, GoesRound, Grows, Narrows}
+use Rattle.lra_flow.specs.Pass.{AreJoined, Result, noted, first_of_call, PassAmong, GoesRound, Grows, Narrows}
 use Rattle.lra_outcomes.specs.declared.outcome.Turn.{Turn}
 use Rattle.lra_outcomes.specs.declared.heads.Growing.{Growing}
 use Rattle.lra_outcomes.specs.declared.memory.Memory.{Memory}
@@ -23,11 +25,11 @@ use Rattle.lra_outcomes.specs.Memory.{StaysKept}
 use Rattle.lra_places.specs.Open.{GrowLoop, HeadLoop, NarrowLoop}
 use Rattle.lra_outcomes.specs.Outcome.{headed, seen, AllHave, AreKept, HasGrown, IsKept, IsTurned, JumpsFit, NarrowsTo}
 
-module _ {V H : Type 0} (m : Meaning V H) (set : Plan) (q base : ℕ) (c : Cond) (a : graph.Node) where
+module _ {V H : Type 0} (o : Others V) (m : Meaning V H) (set : Plan) (q base : ℕ) (c : Cond) (a : graph.Node) where
   -- a head begins
   pub grow_starts : (first : V) (f : Option ℕ) (head : H) (memory : Memory V) →
       (dropping m).started first (loop_rows set.widening (m.dims first) base c a) head → RankFits (m.rank head)
-      → GrowLoop m set q base c a first f set.delay f head None memory memory
+      → GrowLoop o m set q base c a first f set.delay f head None memory memory
   grow_starts first f head memory begins fits = record {
     dims = begins.1;
     fits = fits;
@@ -39,14 +41,14 @@ module _ {V H : Type 0} (m : Meaning V H) (set : Plan) (q base : ℕ) (c : Cond)
   -- it grows by what its round left
   pub grow_next : (first : V) (f : Option ℕ) (left left' : ℕ) (so_far : Option ℕ) (head next : H) (v : V)
       (e d : Exactness) (s : Result V) (before turn : Option (Turn V)) (old memory new : Memory V)
-      → GrowLoop m set q base c a first f left so_far head before old memory
+      → GrowLoop o m set q base c a first f left so_far head before old memory
       → Values m head e v → m.dims v ≡ m.head_dims head → CapsWithin (m.head_capped head) (m.capped v)
-      → GoesRound V H (dropping m) q base c (Pass V H (dropping m) set a) (noted q e so_far) v (headed q v s)
+      → GoesRound V H (dropping m) q base c (PassAmong V H (dropping m) (admitted o m) set a) (noted q e so_far) v (headed q v s)
       → Grew m head s.normal (mode_at set.widening left) d next → m.dims s.normal ≡ m.head_dims head →
       m.head_dims next ≡ m.head_dims head
       → CapsWithin (λ k. m.head_capped head k × m.capped s.normal k) (m.head_capped next) → RankFits (m.rank next)
-      → left' ≡ left - 1 → AreKept m set a (noted q d s.flag) turn → StaysKept m set a f old (noted q d s.flag) new
-      → GrowLoop m set q base c a first f left' (noted q d s.flag) next turn old new
+      → left' ≡ left - 1 → AreKept o m set a (noted q d s.flag) turn → StaysKept o m set a f old (noted q d s.flag) new
+      → GrowLoop o m set q base c a first f left' (noted q d s.flag) next turn old new
   grow_next first f left left' so_far head next v e d s before turn old memory new loop values dims caps round grew
       behind same more fits is kept stays = record {
         dims = same ∙ loop.dims;
@@ -59,7 +61,7 @@ module _ {V H : Type 0} (m : Meaning V H) (set : Plan) (q base : ℕ) (c : Cond)
           d,
           (e, (values, dims, caps), round),
           (grew, behind, same, more),
-          subst (λ (n : ℕ). Grows V H (dropping m) q base c (Pass V H (dropping m) set a) set.widening n
+          subst (λ (n : ℕ). Grows V H (dropping m) q base c (PassAmong V H (dropping m) (admitted o m) set a) set.widening n
               (noted q d s.flag) next later w r) is h,
         );
       }
@@ -68,34 +70,34 @@ module _ {V H : Type 0} (m : Meaning V H) (set : Plan) (q base : ℕ) (c : Cond)
   pub head_starts : (first : V) (f : Option ℕ) (growing : Growing V H) (memory : Memory V) →
       (dropping m).started first (loop_rows set.widening (m.dims first) base c a) growing.head → RankFits (m.rank growing.head)
       → IsValued m q f growing.head growing.value growing.flag → growing.left ≡ set.delay
-      → HeadLoop m set q base c a first f growing None memory memory
+      → HeadLoop o m set q base c a first f growing None memory memory
   head_starts first f growing memory begins fits valued left = record {
     so_far = f;
     valued = valued;
-    loop = subst (λ (n : ℕ). GrowLoop m set q base c a first f n f growing.head None memory memory) (sym left)
+    loop = subst (λ (n : ℕ). GrowLoop o m set q base c a first f n f growing.head None memory memory) (sym left)
         (grow_starts first f growing.head memory begins fits);
   }
 
   module _ (first : V) (f : Option ℕ) (growing : Growing V H) (turn : Option (Turn V)) (old memory : Memory V)
-      (loop : HeadLoop m set q base c a first f growing turn old memory) where
+      (loop : HeadLoop o m set q base c a first f growing turn old memory) where
     pub head_wide : m.dims growing.value ≡ m.dims first
     head_wide = loop.valued.1.1 ∙ loop.loop.dims
 
-    module _ (s : Result V) (round : GoesRound V H (dropping m) q base c (Pass V H (dropping m) set a) growing.flag
+    module _ (s : Result V) (round : GoesRound V H (dropping m) q base c (PassAmong V H (dropping m) (admitted o m) set a) growing.flag
         growing.value (headed q growing.value s)) where
-      head_round : GoesRound V H (dropping m) q base c (Pass V H (dropping m) set a)
+      head_round : GoesRound V H (dropping m) q base c (PassAmong V H (dropping m) (admitted o m) set a)
           (noted q loop.valued.0 loop.so_far) growing.value (headed q growing.value s)
-      head_round = subst (λ (x : Option ℕ). GoesRound V H (dropping m) q base c (Pass V H (dropping m) set a) x
+      head_round = subst (λ (x : Option ℕ). GoesRound V H (dropping m) q base c (PassAmong V H (dropping m) (admitted o m) set a) x
           growing.value (headed q growing.value s)) loop.valued.2 round
 
       pub head_stable : (dropping m).stays growing.head s.normal (mode_at set.widening growing.left)
-          → HasGrown m set q base c a first f growing.value (headed q growing.value s)
+          → HasGrown o m set q base c a first f growing.value (headed q growing.value s)
       head_stable stays = loop.loop.grows [] growing.value (headed q growing.value s)
           ((loop.valued.0, loop.valued.1, head_round), stays)
 
       pub head_next : (d : Exactness) (next : Growing V H) (last : Option (Turn V)) (new : Memory V)
-          → GrowsBy m set.widening q d growing s next → AreKept m set a (noted q d s.flag) last
-          → StaysKept m set a f old (noted q d s.flag) new → HeadLoop m set q base c a first f next last old new
+          → GrowsBy m set.widening q d growing s next → AreKept o m set a (noted q d s.flag) last
+          → StaysKept o m set a f old (noted q d s.flag) new → HeadLoop o m set q base c a first f next last old new
       head_next d next last new by kept stays =
           let value = loop.valued.1 in
           let grown = by.grown in
@@ -109,8 +111,8 @@ module _ {V H : Type 0} (m : Meaning V H) (set : Plan) (q base : ℕ) (c : Cond)
 
   -- a narrowing begins
   pub narrow_starts : (first : V) (f : Option ℕ) (u : V) (turn : Turn V) (memory : Memory V) → m.dims u ≡ m.dims first →
-      IsTurned m set q base c a f u turn
-      → NarrowLoop m set q base c a first u (seen turn.outcome) set.narrow u turn.entered (seen turn.outcome) memory memory
+      IsTurned o m set q base c a f u turn
+      → NarrowLoop o m set q base c a first u (seen turn.outcome) set.narrow u turn.entered (seen turn.outcome) memory memory
   narrow_starts first f u turn memory dims turned = record {
     dims = dims;
     behind = turned.dims ∙ dims;
@@ -123,12 +125,12 @@ module _ {V H : Type 0} (m : Meaning V H) (set : Plan) (q base : ℕ) (c : Cond)
   -- one round of narrowing more
   pub narrow_next : (first start : V) (begun : Result V) (left k : ℕ) (top next entered on : V) (last turned : Result V)
       (e : Exactness) (so_far : Option ℕ) (old memory new : Memory V)
-      → NarrowLoop m set q base c a first start begun left top entered last old memory → left ≡ suc k →
+      → NarrowLoop o m set q base c a first start begun left top entered last old memory → left ≡ suc k →
       (dropping m).joined first last.normal e next → so_far ≡ noted q e last.flag
-      → GoesRound V H (dropping m) q base c (Pass V H (dropping m) set a) so_far next (headed q next turned)
-      → m.dims turned.normal ≡ m.dims next → JumpsFit m a (m.dims next) turned → IsKept m set a turned.flag on turned
-      → StaysKept m set a begun.flag old turned.flag new →
-      NarrowLoop m set q base c a first start begun k next on turned old new
+      → GoesRound V H (dropping m) q base c (PassAmong V H (dropping m) (admitted o m) set a) so_far next (headed q next turned)
+      → m.dims turned.normal ≡ m.dims next → JumpsFit m a (m.dims next) turned → IsKept o m set a turned.flag on turned
+      → StaysKept o m set a begun.flag old turned.flag new →
+      NarrowLoop o m set q base c a first start begun k next on turned old new
   narrow_next first start begun left k top next entered on last turned e so_far old memory new loop is joined flagged
       round behind jumps kept stays = record {
         dims = joined.2;
@@ -137,24 +139,24 @@ module _ {V H : Type 0} (m : Meaning V H) (set : Plan) (q base : ℕ) (c : Cond)
         kept = kept;
         stays = stays;
         narrows = λ v r h. loop.narrows v r (subst (λ (n : ℕ). Narrows V H (dropping m) q base c
-            (Pass V H (dropping m) set a) n first top (headed q top last) v r) (sym is) (
+            (PassAmong V H (dropping m) (admitted o m) set a) n first top (headed q top last) v r) (sym is) (
               next,
               headed q next turned,
               e,
               joined,
               subst (λ (x : Option ℕ). GoesRound V H (dropping m) q base c
-                  (Pass V H (dropping m) set a) x next (headed q next turned)) flagged round,
+                  (PassAmong V H (dropping m) (admitted o m) set a) x next (headed q next turned)) flagged round,
               h,
             ));
       }
 
   -- no round is left
   pub narrow_ends : (first start : V) (begun : Result V) (left : ℕ) (top entered : V) (last : Result V)
-      (old memory : Memory V) (loop : NarrowLoop m set q base c a first start begun left top entered last old memory)
-      → left ≡ 0 → NarrowsTo m set q base c a first start (headed q start begun) top (headed q top last)
+      (old memory : Memory V) (loop : NarrowLoop o m set q base c a first start begun left top entered last old memory)
+      → left ≡ 0 → NarrowsTo o m set q base c a first start (headed q start begun) top (headed q top last)
   narrow_ends first start begun left top entered last old memory loop is =
       loop.narrows top (headed q top last)
-      (subst (λ (n : ℕ). Narrows V H (dropping m) q base c (Pass V H (dropping m) set a) n first top
+      (subst (λ (n : ℕ). Narrows V H (dropping m) q base c (PassAmong V H (dropping m) (admitted o m) set a) n first top
       (headed q top last) top (headed q top last)) (sym is) (refl, refl))
 
 not_join : (widening : Widening) → mode_at widening 0 ≡ Join → ⊥

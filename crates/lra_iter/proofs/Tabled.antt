@@ -11,7 +11,7 @@ use Rattle.lra_linear.proofs.Membership.{contains_none, contains_head, contains_
 use Rattle.lra_domain.specs.Meaning.{Meaning}
 use Rattle.lra_program.specs.Sites.{Site}
 use Rattle.lra_program.specs.Assertions.{assertions_from}
-use Rattle.lra_flow.specs.Pass.{Entry, value, failing, Result}
+use Rattle.lra_flow.specs.Pass.{Entry, value, failing, given, Result}
 use Rattle.lra_flow.specs.Analysis.{IsUnreachable, Solves}
 use Rattle.lra_iter.specs.Numbers.{asserts_of}
 use Rattle.lra_iter.specs.Counts.{values_at, failing_at, AreCounted, AreApart}
@@ -91,6 +91,29 @@ module _ {V H : Type 0} (m : Meaning V H) (n : ℕ) where
     is_verdict = λ q b e. absurd (no_place n q b (subst (λ (t : List (Option Bool)). slice_get t q ≡ Some (Some b)) are e));
     has_verdict = λ q u h. absurd (contains_none (failing q u) h);
   }
+
+  -- what a variable got has no place
+  pub given_tabled : (xs : List (Entry V)) (values : List (Option V)) (verdicts : List (Option Bool)) → AreTabled m n xs values verdicts → (p place : ℕ) (v : V)
+      → AreTabled m n (xs ++ given p place v ∷ []) values verdicts
+  given_tabled xs values verdicts tabled p place v = record {
+    places = tabled.places;
+    verdict_places = tabled.verdict_places;
+    is_value = λ q w. (
+      λ e. Contains-append_left xs (given p place v ∷ []) (value q w) ((tabled.is_value q w).0 e),
+      λ h. elim (Contains-push_cases xs (given p place v) (value q w) h) [ inl i ↦ (tabled.is_value q w).1 i | inr e ↦ absurd (no_value q w e) ],
+    );
+    is_verdict = λ q b e. let k = tabled.is_verdict q b e in (k.0, Contains-append_left xs (given p place v ∷ []) (failing q k.0) k.1, k.2);
+    has_verdict = λ q u h. elim (Contains-push_cases xs (given p place v) (failing q u) h) [
+      | inl i ↦ tabled.has_verdict q u i
+      | inr e ↦ absurd (no_failing q u e)
+    ];
+  }
+    where
+      no_value : (q : ℕ) (w : V) → (let a : Entry V = given p place v in a) ≡ value q w → ⊥
+      no_value q w e = cc
+
+      no_failing : (q : ℕ) (w : V) → (let a : Entry V = given p place v in a) ≡ failing q w → ⊥
+      no_failing q w e = cc
 
   module _ (xs : List (Entry V)) (values : List (Option V)) (verdicts : List (Option Bool)) (tabled : AreTabled m n xs values verdicts) (p : ℕ) (inside : p < n) where
     pub value_tabled : (v : V) → values_at p (xs ++ value p v ∷ []) ≤ 1 → AreTabled m n (xs ++ value p v ∷ []) (slice_set values p (Some v)) verdicts

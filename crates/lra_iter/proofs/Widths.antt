@@ -1,20 +1,24 @@
 -- The value that an iteration has at a point has a dimension for each variable that lives there.
-use Rattle.std.proofs.Common.{◌≡◌, ℕ, zero, suc, ◌-◌, ◌++◌, List, [], ◌∷◌, length, Option, Some, None, Bool, true, false, inl, inr, sym, ap, ◌∙◌}
+use Rattle.std.proofs.Common.{◌≡◌, ◌↔◌, ◌<◌, ℕ, zero, suc, ◌-◌, ◌++◌, List, [], ◌∷◌, length, Option, Some, None, Bool, true, false, inl, inr, sym, ap, ◌∙◌}
 use Rattle.std.proofs.Common.{subst}
 use Rattle.std.specs.Prelude.{slice_get}
 use Rattle.std.specs.List.{AllByRecursion, Contains}
 use Rattle.lra_linear.proofs.Membership.{contains_none, contains_cases}
 use Rattle.lra_domain.specs.declared.Exactness.{Exactness}
 use Rattle.lra_domain.specs.Meaning.{Meaning}
+use Rattle.lra_others.specs.Others.{Others}
 use Rattle.lra_domain.specs.Laws.{Laws}
 use Rattle.lra_program.specs.Program.{Expr, Cond, Program}
-use Rattle.lra_operations.specs.Graph.{Exit, broken, continued, returned, Node, empty, point, act, check, seq, choose, iterate, catch, leave}
+use Rattle.lra_operations.specs.declared.asides.Aside.TheVariants.{Entering, Noting}
+use Rattle.lra_operations.specs.Graph.{Exit, broken, continued, returned, Node, empty, aside, point, act, check, seq, choose, iterate, catch, leave}
 use Rattle.lra_operations.specs.Graph.{select, Arms, no_arms, entry, arm, entries_of}
 use Rattle.lra_program.specs.Sites.{Site}
 use Rattle.lra_flow.specs.Plan.{Plan, Widening}
 use Rattle.lra_flow.specs.Operations.{dropping}
-use Rattle.lra_flow.specs.Pass.{AreJoined, Entry, value, failing, Result, noted, jumps, first_of_call, values_behind, behind, Through, GoesRound, Grows, Narrows, Pass}
-use Rattle.lra_flow.specs.Pass.{ArmsPass, MatchesNone, Enters, JoinsRunning, ComesOut, RunsFrom}
+use Rattle.lra_flow.specs.Among.{admitted}
+use Rattle.lra_flow.specs.Pass.{AreJoined, Entry, value, failing, given, Result, noted, jumps, first_of_call, values_behind, behind, Through, GoesRound}
+use Rattle.lra_flow.specs.Pass.{Grows, Narrows}
+use Rattle.lra_flow.specs.Pass.{Admission, nothing_admitted, PassAmong, ArmsPassAmong, MatchesNone, Enters, JoinsRunning, ComesOut, RunsFrom}
 use Rattle.lra_base.specs.declared.case_labels.CaseLabel.{CaseLabel}
 use Rattle.lra_base.specs.declared.case_labels.CaseLabel.TheVariants.{Case, Default}
 use Rattle.lra_places.specs.Open.{RunHas}
@@ -22,7 +26,7 @@ use Rattle.lra_flow.specs.Analysis.{Derivation, Solves}
 use Rattle.lra_flow.proofs.Caps.{all_both}
 use Rattle.lra_flow.specs.Live.{dims_behind, live_after}
 use Rattle.lra_change.proofs.OperationWidths.{leaves_dims, changes_dims, value_dims, globals_dims}
-use Rattle.lra_iter.specs.Lives.{LiveAt, ArmsHave, PointsHave, AreWide}
+use Rattle.lra_iter.specs.Lives.{LiveAt, ArmsHave, PointsHave, AreWide, NotesHave}
 
 module _ (V H : Type 0) (m : Meaning V H) where
   joined_dims : (v : V) (us : List V) (e : Exactness) (w : V) → AreJoined (dropping m) v us e w → m.dims w ≡ m.dims v
@@ -76,6 +80,7 @@ module _ (V H : Type 0) (m : Meaning V H) where
     abbrev EntryHas : Entry V → Type 0
     EntryHas (value q v) = LiveAt T q (m.dims v)
     EntryHas (failing q v) = Unit {0}
+    EntryHas (given q place v) = place < m.dims v
 
     -- the values at points have as many dimensions as variables live there, and the one that goes on has n
     pub record Wide (n : ℕ) (r : Result V) : Type 0 where
@@ -123,11 +128,15 @@ module _ (V H : Type 0) (m : Meaning V H) where
           let top : m.dims next ≡ n = joined.2 ∙ k in
           narrows_wide more first next t v r rest k (record { top = top; result = round_wide (noted q e s.flag) next t turn top })
 
-    module _ (laws : Laws m) (set : Plan) where
+    module _ (admission : Admission V) (keeps : (v : V) (e : Exactness) (w : V) → admission v e w → m.dims w ≡ m.dims v) (laws : Laws m) (set : Plan) where
       mutual
-        pass_wide : (g : Node) (f : Option ℕ) (v : V) (r : Result V) (n : ℕ) → Pass V H (dropping m) set g f v r → m.dims v ≡ n → PointsHave T g n
-            → Wide (live_after g n) r
+        pass_wide : (g : Node) (f : Option ℕ) (v : V) (r : Result V) (n : ℕ) → PassAmong V H (dropping m) admission set g f v r
+            → m.dims v ≡ n → PointsHave T g n → Wide (live_after g n) r
         pass_wide empty f v r n is h p = wide_is n r _ is (record { normal = h; entries = tt })
+        pass_wide (aside here Entering) f v r n (w, e, admits, is) h p = wide_is n r _ is
+            (record { normal = keeps v e w admits ∙ h; entries = tt })
+        pass_wide (aside here (Noting place)) f v r n is h p = wide_is n r _ is
+            (record { normal = h; entries = (subst (λ (k : ℕ). place < k) (sym h) p, tt) })
         pass_wide (point q) f v r n is h p = wide_is n r _ is (record { normal = h; entries = (live_same q n (m.dims v) h p, tt) })
         pass_wide (act q op) f v r n (w, e, done, is) h p = wide_is (dims_behind op n) r _ is
             (record { normal = changes_dims V H m op v e w done ∙ ap (dims_behind op) h; entries = tt })
@@ -142,10 +151,10 @@ module _ (V H : Type 0) (m : Meaning V H) where
             let y = pass_wide b (noted q e s.flag) off t n two (leaves_dims V H m base c false v e off is_off ∙ h) p.1 in
             wide_is (live_after a n) r _ is (record { normal = joined.2 ∙ x.normal; entries = all_both EntryHas s.entries t.entries x.entries y.entries })
         pass_wide (iterate q base c a) f v r n (k, later, u, top, out, s, t, e, started, grown, narrowed, off, is) h p =
-            let inside : (f' : Option ℕ) (v' : V) (r' : Result V) → Pass V H (dropping m) set a f' v' r' → m.dims v' ≡ n → Wide n r' =
+            let inside : (f' : Option ℕ) (v' : V) (r' : Result V) → PassAmong V H (dropping m) admission set a f' v' r' → m.dims v' ≡ n → Wide n r' =
             λ f' v' r' turn d. subst (λ (j : ℕ). Wide j r') p.2 (pass_wide a f' v' r' n turn d p.1) in
-            let x = grows_wide q base c (Pass V H (dropping m) set a) n p.0 inside set.widening set.delay f k later u s grown (started.1 ∙ h) in
-            let y = narrows_wide q base c (Pass V H (dropping m) set a) n p.0 inside set.narrow v u s top t narrowed h x in
+            let x = grows_wide q base c (PassAmong V H (dropping m) admission set a) n p.0 inside set.widening set.delay f k later u s grown (started.1 ∙ h) in
+            let y = narrows_wide q base c (PassAmong V H (dropping m) admission set a) n p.0 inside set.narrow v u s top t narrowed h x in
             wide_is n r _ is (record { normal = leaves_dims V H m base c false top e out off ∙ y.top; entries = y.result.entries })
         pass_wide (catch q k a) f v r n (w, e, s, one, joined, is) h p =
             let x = pass_wide a f v s n one h p in
@@ -155,7 +164,8 @@ module _ (V H : Type 0) (m : Meaning V H) where
             arms_wide q base e _ v other arms (noted q x f) None r n pass h (none_dims base e (entries_of arms) v x other none ∙ h) tt p
 
         arms_wide : (q base : ℕ) (e : Expr) (d : Bool) (v other : V) (arms : Arms) (f : Option ℕ) (o : Option V) (r : Result V) (n : ℕ)
-            → ArmsPass V H (dropping m) set q base e d v other arms f o r → m.dims v ≡ n → m.dims other ≡ n → RunHas m n o → ArmsHave T arms n → Wide n r
+            → ArmsPassAmong V H (dropping m) admission set q base e d v other arms f o r
+            → m.dims v ≡ n → m.dims other ≡ n → RunHas m n o → ArmsHave T arms n → Wide n r
         arms_wide q base e d v other no_arms f o r n (w, x, out, is) h k runs p = wide_is n r _ is
             (record { normal = out_dims d o other x w n out runs k; entries = tt })
         arms_wide q base e d v other (entry l arms) f o r n (u, w, x, y, enters, joins, rest) h k runs p =
@@ -167,9 +177,9 @@ module _ (V H : Type 0) (m : Meaning V H) where
             let y = arms_wide q base e d v other arms s.flag (Some s.normal) t n rest h k x.normal p.2 in
             wide_is n r _ is (record { normal = y.normal; entries = all_both EntryHas s.entries t.entries x.entries y.entries })
 
-    entry_has : (xs : List (Entry V)) (q : ℕ) (v : V) → AllByRecursion EntryHas xs → Contains xs (value q v) → LiveAt T q (m.dims v)
-    entry_has [] q v h there = absurd (contains_none (value q v) there)
-    entry_has (x ∷ xs) q v h there = elim (contains_cases x (value q v) xs there) [ inl same ↦ subst EntryHas same h.0 | inr later ↦ entry_has xs q v h.1 later ]
+    entry_has : (xs : List (Entry V)) (x : Entry V) → AllByRecursion EntryHas xs → Contains xs x → EntryHas x
+    entry_has [] x h there = absurd (contains_none x there)
+    entry_has (y ∷ xs) x h there = elim (contains_cases y x xs there) [ inl same ↦ subst EntryHas same h.0 | inr later ↦ entry_has xs x h.1 later ]
 
 -- each value that an iteration has at a point has as many dimensions as variables live there
 pub values_wide : {V H : Type 0} (m : Meaning V H) → Laws m → (T : List Site) (plan : Plan) (P : Program) (g : Node) (r : Result V) → PointsHave T g (length P.globals) →
@@ -178,12 +188,20 @@ pub values_wide : {V H : Type 0} (m : Meaning V H) → Laws m → (T : List Site
 values_wide {V} {H} m laws T plan P g r lives (none, first, e, universal, begun, pass) q v s found there =
     let n = length P.globals in
     let begins : m.dims first ≡ n = globals_dims V H m P.globals none e first begun (laws.universal_dims 0 plan.parts none universal.0) in
-    let wide = pass_wide V H m T laws plan g (noted 0 e None) first r n pass begins lives in
-    entry_has V H m T r.entries q v wide.entries found s there
+    let wide = pass_wide V H m T nothing_admitted (λ u c w same. ap (λ (y : V). m.dims y) same.0) laws plan g (noted 0 e None) first r n pass begins lives in
+    entry_has V H m T r.entries (value q v) wide.entries found s there
 
--- so have the values that are found
-pub found_wide : {V H : Type 0} (m : Meaning V H) → Laws m → (T : List Site) (plan : Plan) (g : Node) (f : Option ℕ) (first : V) (r : Result V) (n : ℕ) (values : List V)
-    (verdicts : List (ℕ × Bool)) (flagged : Option ℕ)
-    → Pass V H (dropping m) plan g f first r → m.dims first ≡ n → Solves m r values verdicts flagged → PointsHave T g n → AreWide m T values
-found_wide {V} {H} m laws T plan g f first r n values verdicts flagged pass begins solves lives q v there =
-    entry_has V H m T r.entries q v (pass_wide V H m T laws plan g f first r n pass begins lives).entries ((solves.is_value q v).0 there)
+module _ {V H : Type 0} (o : Others V) (m : Meaning V H) (laws : Laws m) (T : List Site) (plan : Plan)
+    (g : Node) (f : Option ℕ) (first : V) (r : Result V) (n : ℕ)
+    (pass : PassAmong V H (dropping m) (admitted o m) plan g f first r) (begins : m.dims first ≡ n) (lives : PointsHave T g n) where
+  found_have : AllByRecursion (EntryHas V H m T) r.entries
+  found_have = (pass_wide V H m T (admitted o m) (λ u c w admits. admits.1) laws plan g f first r n pass begins lives).entries
+
+  -- so have the values that are found
+  pub found_wide : (values : List V) (verdicts : List (ℕ × Bool)) (flagged : Option ℕ) → Solves m r values verdicts flagged → AreWide m T values
+  found_wide values verdicts flagged solves q v there = entry_has V H m T r.entries (value q v) found_have ((solves.is_value q v).0 there)
+
+  -- and the value of each note has one for its variable
+  pub notes_wide : (notes : List (ℕ × ℕ × V)) → ((q place : ℕ) (v : V) → Contains notes (q, place, v) ↔ Contains r.entries (given q place v))
+      → NotesHave m notes
+  notes_wide notes noted_so q place v there = entry_has V H m T r.entries (given q place v) found_have ((noted_so q place v).0 there)

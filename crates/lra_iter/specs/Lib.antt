@@ -4,3 +4,4 @@ pub mod Counts
 pub mod Tables
 pub mod Solved
 pub mod Sound
+pub mod Among

@@ -1,8 +1,10 @@
 -- How many variables live at the points of a tree, and values with a dimension for each of them.
-use Rattle.std.specs.Prelude.{◌≡◌, ℕ, List, Some, slice_get}
+use Rattle.std.specs.Prelude.{◌≡◌, ◌<◌, ℕ, List, Some, slice_get}
+use Rattle.std.specs.List.{Contains}
 use Rattle.lra_domain.specs.Meaning.{Meaning}
-use Rattle.lra_operations.specs.Graph.{Node, empty, point, act, check, seq, choose, iterate, catch, leave, select}
-use Rattle.lra_operations.specs.Graph.{Arms, no_arms, entry, arm}
+use Rattle.lra_operations.specs.declared.asides.Aside.TheVariants.{Entering, Noting}
+use Rattle.lra_operations.specs.Graph.{Node, empty, aside, point, act, check, seq, choose, iterate, catch, leave}
+use Rattle.lra_operations.specs.Graph.{select, Arms, no_arms, entry, arm}
 use Rattle.lra_program.specs.Sites.{Site}
 use Rattle.lra_flow.specs.Live.{live_after}
 
@@ -11,9 +13,12 @@ abbrev pub LiveAt : List Site → ℕ → ℕ → Type 0
 LiveAt T q n = (s : Site) → slice_get T q ≡ Some s → n ≡ s.live
 
 abbrev mutual
-  -- begun with n variables, the tree comes to each of its points with as many as live there
+  -- begun with n variables, the tree comes to each of its points with as many as live there, and where what a variable
+  -- got is noted, that variable lives
   pub PointsHave : List Site → Node → ℕ → Type 0
   PointsHave T empty n = Unit {0}
+  PointsHave T (aside here Entering) n = Unit {0}
+  PointsHave T (aside here (Noting place)) n = place < n
   PointsHave T (point q) n = LiveAt T q n
   PointsHave T (act q op) n = Unit {0}
   PointsHave T (check q base c) n = Unit {0}
@@ -32,3 +37,7 @@ abbrev mutual
 -- each value has a dimension for each variable that lives at its point
 abbrev pub AreWide : {V H : Type 0} → Meaning V H → List Site → List V → Type 0
 AreWide {V} m T values = (q : ℕ) (v : V) → slice_get values q ≡ Some v → LiveAt T q (m.dims v)
+
+-- the value of each note has a dimension for its variable
+abbrev pub NotesHave : {V H : Type 0} → Meaning V H → List (ℕ × ℕ × V) → Type 0
+NotesHave {V} m notes = (q place : ℕ) (v : V) → Contains notes (q, place, v) → place < m.dims v

@@ -1,11 +1,14 @@
 -- What is found of a program by an iteration over its tree.
-use Rattle.std.specs.Prelude.{◌≡◌, ℕ, List, Option, None, Some, Bool}
+use Rattle.std.specs.Prelude.{◌≡◌, ◌↔◌, ℕ, List, Option, None, Some, Bool}
+use Rattle.std.specs.List.{Contains}
 use Rattle.lra_domain.specs.Meaning.{Meaning}
+use Rattle.lra_others.specs.Others.{Others}
 use Rattle.lra_program.specs.Program.{Program}
 use Rattle.lra_operations.specs.Graph.{Node}
 use Rattle.lra_flow.specs.Plan.{Plan}
-use Rattle.lra_flow.specs.Pass.{Result}
+use Rattle.lra_flow.specs.Pass.{given, Result}
 use Rattle.lra_flow.specs.Analysis.{Written, Derivation, Strains, Solves}
+use Rattle.lra_flow.specs.Among.{WrittenAmong, DerivationAmong, StrainsAmong}
 
 -- values, verdicts and the first flag of a derivation with drops: without a flag it is the written iteration, and the
 -- first flag stands where the written iteration strains
@@ -16,3 +19,14 @@ pub record IsSolved {V H : Type 0} (m : Meaning V H) (plan : Plan) (P : Program)
   pub solves : Solves m result values verdicts flagged
   pub written : flagged ≡ None → Written m plan P tree result
   pub strained : (q : ℕ) → flagged ≡ Some q → Strains m plan P tree q
+
+-- the same among others, and what variables got: a note has the number of the point, the variable's place and the value
+-- that the derivation has behind that
+pub record IsSolvedAmong {V H : Type 0} (o : Others V) (m : Meaning V H) (plan : Plan) (P : Program) (tree : Node)
+    (values : List V) (notes : List (ℕ × ℕ × V)) (verdicts : List (ℕ × Bool)) (flagged : Option ℕ) : Type 0 where
+  pub result : Result V
+  pub derived : DerivationAmong o m plan P tree result
+  pub solves : Solves m result values verdicts flagged
+  pub noted : (q place : ℕ) (v : V) → Contains notes (q, place, v) ↔ Contains result.entries (given q place v)
+  pub written : flagged ≡ None → WrittenAmong o m plan P tree result
+  pub strained : (q : ℕ) → flagged ≡ Some q → StrainsAmong o m plan P tree q

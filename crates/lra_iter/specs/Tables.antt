@@ -2,8 +2,20 @@
 use Rattle.std.specs.Prelude.{◌≡◌, ◌↔◌, ℕ, suc, List, [], ◌∷◌, length, Option, None, Some, Bool, IsTrue, slice_get}
 use Rattle.std.specs.List.{Contains}
 use Rattle.lra_domain.specs.Meaning.{Meaning}
-use Rattle.lra_flow.specs.Pass.{Entry, value, failing}
+use Rattle.lra_flow.specs.Pass.{Entry, value, failing, given}
 use Rattle.lra_flow.specs.Analysis.{IsUnreachable}
+use Rattle.lra_iter.specs.declared.tables.Note.{Note}
+
+-- a note is the number of the point, the variable's place and the value
+abbrev pub note_view : {V : Type 0} → Note V → ℕ × ℕ × V
+note_view one = (one.point, one.variable, one.value)
+
+-- what variables got, in the order in which it is found
+abbrev pub notes_in : {V : Type 0} → List (Entry V) → List (ℕ × ℕ × V)
+notes_in [] = []
+notes_in (value q v ∷ xs) = notes_in xs
+notes_in (failing q v ∷ xs) = notes_in xs
+notes_in (given q place v ∷ xs) = (q, place, v) ∷ notes_in xs
 
 -- n places for values, and n for whether an assertion is proved: filled where there is such an entry
 pub record AreTabled {V H : Type 0} (m : Meaning V H) (n : ℕ) (xs : List (Entry V)) (values : List (Option V))

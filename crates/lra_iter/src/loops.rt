@@ -17,6 +17,7 @@ ghost use Rattle.lra_places.specs.StepsLeft.{next_left, most_rounds, rounds_left
 
 use lra_change::leave;
 use lra_domain::{Domain, Exactness};
+use lra_others::Disturb;
 use lra_outcomes::{
     Entered, Entry, Found, Growing, HeadTurn, Loop, Memory, Outcome, Turn, enter_with, grow_by,
     note, start,
@@ -85,7 +86,7 @@ fn leave_loop<D: Domain>(
 }
 
 /// The loop is left with the value at its head and its last round, and may be kept.
-fn finish<D: Domain>(
+fn finish<D: Domain, F: Disturb<D>>(
     alloc: Global,
     memory: &mut Memory<D>,
     the_loop: &Loop<'_>,
@@ -96,30 +97,32 @@ fn finish<D: Domain>(
     ensures left { IfOk result (λ r. LeavesWith D.meaning the_loop.now.point the_loop.now.base
         (cond_view the_loop.now.condition.now) last.value (seen last.turn.outcome) (seen r)) }
     ensures dims { IfOk result (λ r. D.meaning.dims r.normal ≡ D.meaning.dims last.value) }
-    ensures keeps { (plan : Plan) (loops : ℕ → graph.Node) → IfOk result (λ r.
-        MayRecall D.meaning plan loops last.turn.outcome.flag memory.old →
-        IsKept D.meaning plan (loops the_loop.now.point) r.flag first (seen r) →
-        MayRecall D.meaning plan loops r.flag memory.new) }
+    ensures keeps { (others : F) (plan : Plan) (loops : ℕ → graph.Node) → IfOk result (λ r.
+        MayRecall (F.others others) D.meaning plan loops last.turn.outcome.flag memory.old →
+        IsKept (F.others others) D.meaning plan (loops the_loop.now.point) r.flag first (seen r) →
+        MayRecall (F.others others) D.meaning plan loops r.flag memory.new) }
 {
     let HeadTurn { value, turn } = last;
     let outcome = leave_loop(alloc, the_loop, value, turn.into_outcome())?;
-    memory.end(alloc, the_loop.point, first, &outcome)?;
+    memory.end::<F>(alloc, the_loop.point, first, &outcome)?;
     Ok(outcome)
 }
 
 /// What comes into a loop's body from the value at its head: what the condition leaves, or the kept turn, where that
 /// entered it last.
-fn enter<D: Domain>(
+fn enter<D: Domain, F: Disturb<D>>(
     alloc: Global,
     the_loop: &Loop<'_>,
     value: &D,
     flag: Option<usize>,
     kept: Option<Turn<D>>,
 ) -> Result<Entered<D>, AllocError>
-    requires few { D.meaning.dims value.now ≤ most_live }
-    requires kept { AreKept D.meaning the_loop.now.plan.now (node_view the_loop.now.body.now) flag kept }
-    ensures { IfOk result (IsEntered D.meaning the_loop.now.plan.now the_loop.now.point the_loop.now.base
-        (cond_view the_loop.now.condition.now) (node_view the_loop.now.body.now) flag value.now) }
+    requires { D.meaning.dims value.now ≤ most_live }
+    ensures { (others : F) → AreKept (F.others others) D.meaning the_loop.now.plan.now
+        (node_view the_loop.now.body.now) flag kept →
+        IfOk result (IsEntered (F.others others) D.meaning the_loop.now.plan.now the_loop.now.point
+        the_loop.now.base (cond_view the_loop.now.condition.now) (node_view the_loop.now.body.now)
+        flag value.now) }
 {
     let mut on = value.copy(alloc)?;
     let exactness = leave(
@@ -131,27 +134,29 @@ fn enter<D: Domain>(
         Exactness::Exact,
     )?;
     let inside = note(the_loop.point, exactness, flag);
-    enter_with(alloc, kept, on, inside)
+    enter_with::<D, F>(alloc, kept, on, inside)
 }
 
 /// Once round a loop whose head grows, from its value.
-fn turn_growing<'a, D: Domain>(
+fn turn_growing<'a, D: Domain, F: Disturb<D>>(
     alloc: Global,
     the_loop: Loop<'a>,
     first: D,
     growing: Growing<D, D::Head>,
     kept: Option<Turn<D>>,
 ) -> Result<Next<'a, D, D::Head>, AllocError>
-    requires { (set : Plan) × (whole : Due D) × (memory : Memory D) × MayBePassed D.meaning set whole ×
-        IsHead D.meaning set the_loop whole first growing kept memory }
-    ensures leads { (set : Plan) (whole : Due D) (memory : Memory D) → MayBePassed D.meaning set whole →
-        IsHead D.meaning set the_loop.entry whole first growing kept memory →
-        IfOk result (λ next. Leads D.meaning set whole next memory) }
+    requires { (others : F) × (set : Plan) × (whole : Due D) × (memory : Memory D) ×
+        MayBePassed (F.others others) D.meaning set whole × IsHead (F.others others) D.meaning set
+        the_loop whole first growing kept memory }
+    ensures leads { (others : F) (set : Plan) (whole : Due D) (memory : Memory D) →
+        MayBePassed (F.others others) D.meaning set whole → IsHead (F.others others) D.meaning set
+        the_loop.entry whole first growing kept memory →
+        IfOk result (λ next. Leads (F.others others) D.meaning set whole next memory) }
     ensures steps { (b : ℕ) (set : Plan) → IfOk result (λ next. next_left D.meaning b set next
         < turns_left D.meaning b set the_loop.entry
         (suc (set.narrow + rounds_left b growing.left (D.meaning.rank growing.head)))) }
 {
-    match enter(alloc, &the_loop, &growing.value, growing.flag, kept)? {
+    match enter::<D, F>(alloc, &the_loop, &growing.value, growing.flag, kept)? {
         Entered::Again(turn) => {
             let (entered, outcome) = turn.into_parts();
             let place = GrowingPlace {
@@ -180,45 +185,49 @@ fn turn_growing<'a, D: Domain>(
 }
 
 /// A loop's head starts, unless what the loop gave for this value is kept.
-pub fn open_loop<'a, D: Domain>(
+pub fn open_loop<'a, D: Domain, F: Disturb<D>>(
     alloc: Global,
     memory: &mut Memory<D>,
     the_loop: Loop<'a>,
     value: D,
     flag: Option<usize>,
 ) -> Result<Next<'a, D, D::Head>, AllocError>
-    requires { (set : Plan) × (whole : Due D) × IsLoopDue D.meaning set the_loop whole value flag memory.old }
-    ensures leads { (set : Plan) (whole : Due D) →
-        IsLoopDue D.meaning set the_loop.entry whole value flag memory.old →
-        IfOk result (λ next. Leads D.meaning set whole next memory.new) }
+    requires { (others : F) × (set : Plan) × (whole : Due D) × IsLoopDue (F.others others) D.meaning
+        set the_loop whole value flag memory.old }
+    ensures leads { (others : F) (set : Plan) (whole : Due D) →
+        IsLoopDue (F.others others) D.meaning set the_loop.entry whole value flag memory.old →
+        IfOk result (λ next. Leads (F.others others) D.meaning set whole next memory.new) }
     ensures steps { (set : Plan) → the_loop.entry.plan.now ≡ set → IfOk result (λ next.
         next_left D.meaning (2 ^ 64) set next
         < 2 + most_rounds (2 ^ 64) set * suc (tree_steps D.meaning (2 ^ 64) set the_loop.entry.body.now)) }
 {
-    if let Some(given) = memory.begin(alloc, the_loop.point, &value, flag)? {
+    if let Some(given) = memory.begin::<F>(alloc, the_loop.point, &value, flag)? {
         return Ok(Next::Passed(given));
     }
     let growing = start(alloc, &the_loop, &value, flag)?;
-    turn_growing(alloc, the_loop, value, growing, None)
+    turn_growing::<D, F>(alloc, the_loop, value, growing, None)
 }
 
 /// Once round a loop that is narrowed, from the value at its head.
-fn turn_narrowing<'a, D: Domain>(
+fn turn_narrowing<'a, D: Domain, F: Disturb<D>>(
     alloc: Global,
     narrowing: Narrowing<'a, D>,
     flag: Option<usize>,
     kept: Turn<D>,
 ) -> Result<Next<'a, D, D::Head>, AllocError>
-    requires { (set : Plan) × (whole : Due D) × (memory : Memory D) × MayBePassed D.meaning set whole ×
-        IsWaiting D.meaning set narrowing whole flag memory ×
-        IsKept D.meaning set (node_view narrowing.the_loop.body.now) flag kept.entered (seen kept.outcome) }
-    ensures leads { (set : Plan) (whole : Due D) (memory : Memory D) → MayBePassed D.meaning set whole →
-        IsWaiting D.meaning set narrowing.entry whole flag memory →
-        IfOk result (λ next. Leads D.meaning set whole next memory) }
+    requires { (others : F) × (set : Plan) × (whole : Due D) × (memory : Memory D) ×
+        MayBePassed (F.others others) D.meaning set whole ×
+        IsWaiting (F.others others) D.meaning set narrowing whole flag memory }
+    ensures leads { (others : F) (set : Plan) (whole : Due D) (memory : Memory D) →
+        MayBePassed (F.others others) D.meaning set whole →
+        IsWaiting (F.others others) D.meaning set narrowing.entry whole flag memory →
+        IsKept (F.others others) D.meaning set (node_view narrowing.entry.the_loop.body.now) flag
+        kept.entered (seen kept.outcome) →
+        IfOk result (λ next. Leads (F.others others) D.meaning set whole next memory) }
     ensures steps { (b : ℕ) (set : Plan) → IfOk result (λ next. next_left D.meaning b set next
         < turns_left D.meaning b set narrowing.entry.the_loop (suc narrowing.entry.left)) }
 {
-    match enter(alloc, &narrowing.the_loop, &narrowing.top, flag, Some(kept))? {
+    match enter::<D, F>(alloc, &narrowing.the_loop, &narrowing.top, flag, Some(kept))? {
         Entered::Again(turn) => {
             let (entered, outcome) = turn.into_parts();
             let place = NarrowingPlace { narrowing, entered };
@@ -234,7 +243,7 @@ fn turn_narrowing<'a, D: Domain>(
 
 /// The loop is left with its last round where no round of narrowing is left. Else the value at its head becomes the
 /// join of the first one with what that round left, and is passed anew.
-fn narrow_on<'a, D: Domain>(
+fn narrow_on<'a, D: Domain, F: Disturb<D>>(
     alloc: Global,
     memory: &mut Memory<D>,
     the_loop: Loop<'a>,
@@ -242,16 +251,18 @@ fn narrow_on<'a, D: Domain>(
     last: HeadTurn<D>,
     left: u32,
 ) -> Result<Next<'a, D, D::Head>, AllocError>
-    requires { (set : Plan) × (whole : Due D) × MayBePassed D.meaning set whole ×
-        IsNarrowed D.meaning set the_loop whole first last left memory.old }
-    ensures leads { (set : Plan) (whole : Due D) → MayBePassed D.meaning set whole →
-        IsNarrowed D.meaning set the_loop.entry whole first last left memory.old →
-        IfOk result (λ next. Leads D.meaning set whole next memory.new) }
+    requires { (others : F) × (set : Plan) × (whole : Due D) ×
+        MayBePassed (F.others others) D.meaning set whole × IsNarrowed (F.others others) D.meaning
+        set the_loop whole first last left memory.old }
+    ensures leads { (others : F) (set : Plan) (whole : Due D) →
+        MayBePassed (F.others others) D.meaning set whole → IsNarrowed (F.others others) D.meaning
+        set the_loop.entry whole first last left memory.old →
+        IfOk result (λ next. Leads (F.others others) D.meaning set whole next memory.new) }
     ensures steps { (b : ℕ) (set : Plan) → IfOk result (λ next. next_left D.meaning b set next
         < turns_left D.meaning b set the_loop.entry left) }
 {
     if left == 0 {
-        let outcome = finish(alloc, memory, &the_loop, first, last)?;
+        let outcome = finish::<D, F>(alloc, memory, &the_loop, first, last)?;
         return Ok(Next::Passed(outcome));
     }
     let HeadTurn { value: _, turn } = last;
@@ -262,21 +273,25 @@ fn narrow_on<'a, D: Domain>(
         top,
         left: left - 1,
     };
-    turn_narrowing(alloc, narrowing, flag, turn)
+    turn_narrowing::<D, F>(alloc, narrowing, flag, turn)
 }
 
 /// Behind a round of a loop whose head grows: it is narrowed if it is stable, and else turned again.
-pub fn go_on_growing<'a, D: Domain>(
+pub fn go_on_growing<'a, D: Domain, F: Disturb<D>>(
     alloc: Global,
     memory: &mut Memory<D>,
     place: GrowingPlace<'a, D, D::Head>,
     outcome: Outcome<D>,
 ) -> Result<Next<'a, D, D::Head>, AllocError>
-    requires { (set : Plan) × (whole : Due D) × (part : Due D) × MayBePassed D.meaning set whole ×
-        IsGrowing D.meaning set place whole part × IsMade D.meaning set part (seen outcome) memory.old }
-    ensures leads { (set : Plan) (whole part : Due D) → MayBePassed D.meaning set whole →
-        IsGrowing D.meaning set place.entry whole part → IsMade D.meaning set part (seen outcome) memory.old →
-        IfOk result (λ next. Leads D.meaning set whole next memory.new) }
+    requires { (others : F) × (set : Plan) × (whole : Due D) × (part : Due D) ×
+        MayBePassed (F.others others) D.meaning set whole × IsGrowing (F.others others) D.meaning
+        set place whole part × IsMade (F.others others) D.meaning set part (seen outcome)
+        memory.old }
+    ensures leads { (others : F) (set : Plan) (whole part : Due D) →
+        MayBePassed (F.others others) D.meaning set whole → IsGrowing (F.others others) D.meaning
+        set place.entry whole part → IsMade (F.others others) D.meaning set part (seen outcome)
+        memory.old → IfOk result (λ next. Leads (F.others others) D.meaning set whole next
+        memory.new) }
     ensures falls { (set : Plan) → place.entry.the_loop.plan.now ≡ set → IfOk result (λ next.
         next_left D.meaning (2 ^ 64) set next < turns_left D.meaning (2 ^ 64) set place.entry.the_loop
         (set.narrow + rounds_left (2 ^ 64) place.entry.growing.left (D.meaning.rank place.entry.growing.head))) }
@@ -293,23 +308,27 @@ pub fn go_on_growing<'a, D: Domain>(
         let left = the_loop.plan.narrow();
         let value = growing.into_value();
         let last = HeadTurn { value, turn };
-        return narrow_on(alloc, memory, the_loop, first, last, left);
+        return narrow_on::<D, F>(alloc, memory, the_loop, first, last, left);
     }
-    turn_growing(alloc, the_loop, first, growing, Some(turn))
+    turn_growing::<D, F>(alloc, the_loop, first, growing, Some(turn))
 }
 
 /// Behind a round of a loop that is narrowed.
-pub fn go_on_narrowing<'a, D: Domain>(
+pub fn go_on_narrowing<'a, D: Domain, F: Disturb<D>>(
     alloc: Global,
     memory: &mut Memory<D>,
     place: NarrowingPlace<'a, D>,
     outcome: Outcome<D>,
 ) -> Result<Next<'a, D, D::Head>, AllocError>
-    requires { (set : Plan) × (whole : Due D) × (part : Due D) × MayBePassed D.meaning set whole ×
-        IsNarrowing D.meaning set place whole part × IsMade D.meaning set part (seen outcome) memory.old }
-    ensures leads { (set : Plan) (whole part : Due D) → MayBePassed D.meaning set whole →
-        IsNarrowing D.meaning set place.entry whole part → IsMade D.meaning set part (seen outcome) memory.old →
-        IfOk result (λ next. Leads D.meaning set whole next memory.new) }
+    requires { (others : F) × (set : Plan) × (whole : Due D) × (part : Due D) ×
+        MayBePassed (F.others others) D.meaning set whole × IsNarrowing (F.others others) D.meaning
+        set place whole part × IsMade (F.others others) D.meaning set part (seen outcome)
+        memory.old }
+    ensures leads { (others : F) (set : Plan) (whole part : Due D) →
+        MayBePassed (F.others others) D.meaning set whole → IsNarrowing (F.others others) D.meaning
+        set place.entry whole part → IsMade (F.others others) D.meaning set part (seen outcome)
+        memory.old → IfOk result (λ next. Leads (F.others others) D.meaning set whole next
+        memory.new) }
     ensures falls { (set : Plan) → place.entry.narrowing.the_loop.plan.now ≡ set → IfOk result (λ next.
         next_left D.meaning (2 ^ 64) set next
         < turns_left D.meaning (2 ^ 64) set place.entry.narrowing.the_loop place.entry.narrowing.left) }
@@ -323,5 +342,5 @@ pub fn go_on_narrowing<'a, D: Domain>(
     } = narrowing;
     let turn = Turn { entered, outcome };
     let last = HeadTurn { value, turn };
-    narrow_on(alloc, memory, the_loop, first, last, left)
+    narrow_on::<D, F>(alloc, memory, the_loop, first, last, left)
 }

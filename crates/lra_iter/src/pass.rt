@@ -1,6 +1,6 @@
 //! The pass over a tree of operations.
 
-ghost use Rattle.std.specs.Prelude.{◌≡◌, ◌≤◌, ◌<◌, ◌^◌, ◌++◌, ◌∷◌, [], ℕ, Ok, Err, IfOk, OnOk, MatchResult};
+ghost use Rattle.std.specs.Prelude.{◌≡◌, ◌≤◌, ◌<◌, ◌^◌, Ok, Err, IfOk, MatchResult};
 ghost use Rattle.lra_flow.specs.Room.{most_live};
 ghost use Rattle.lra_flow.specs.Plan.{Plan};
 ghost use Rattle.lra_operations.specs.GraphViews.{node_view};
@@ -11,10 +11,11 @@ ghost use Rattle.lra_places.specs.declared.places.Step.TheVariants.{Goes};
 ghost use Rattle.lra_places.specs.Open.{Due, due, AreUnderWay, IsMade, IsOpen, Leads, MayBePassed, Reaches};
 ghost use Rattle.lra_places.specs.StepsLeft.{all_left, next_left, place_left, tree_steps, TakesFewer};
 
+use crate::asides::pass_aside;
 use crate::catches::catch_jumps;
 use crate::loops::{go_on_growing, go_on_narrowing, open_loop};
 use lra_domain::Domain;
-use lra_operations::Node;
+use lra_others::Disturb;
 use lra_outcomes::{Memory, Outcome, Plan, Shape, pass_leaf};
 use lra_places::{
     Entering, Next, Place, Places, Step, go_on_choice, go_on_row, go_on_selection, meet_again,
@@ -23,26 +24,30 @@ use lra_places::{
 use std::alloc::{AllocError, Global};
 
 /// The first step into a tree: a tree with none in it is passed, and of any other a place opens.
-fn open_tree<'a, D: Domain>(
+fn open_tree<'a, D: Domain, F: Disturb<D>>(
     alloc: Global,
     plan: &'a Plan,
+    others: &F,
     memory: &mut Memory<D>,
     tree: Entering<'a, D>,
 ) -> Result<Next<'a, D, D::Head>, AllocError>
     requires parts { 1 ≤ plan.now.parts }
-    requires may { MayBePassed D.meaning plan.now (due tree memory.old) }
-    ensures leads { IfOk result (λ next.
-        Leads D.meaning plan.entry.now (due tree.entry memory.old) next memory.new) }
+    requires may { MayBePassed (F.others others.now) D.meaning plan.now (due tree memory.old) }
+    ensures leads { IfOk result (λ next. Leads (F.others others.now) D.meaning plan.entry.now
+        (due tree.entry memory.old) next memory.new) }
     ensures falls { IfOk result (λ next. next_left D.meaning (2 ^ 64) plan.entry.now next
         < tree_steps D.meaning (2 ^ 64) plan.entry.now tree.entry.node.now) }
 {
     let Entering { node, value, flag } = tree;
     match Shape::of(plan, node) {
-        Shape::Leaf(leaf) => passed(pass_leaf(alloc, plan, &leaf, value, flag)),
-        Shape::Row(row) => open_row(alloc, row, value, flag),
-        Shape::Choice(choice) => open_choice(alloc, choice, value, flag),
-        Shape::Loop(the_loop) => open_loop(alloc, memory, the_loop, value, flag),
-        Shape::Select(selection) => open_selection(alloc, selection, value, flag),
+        Shape::Leaf(leaf) => passed::<D, F>(pass_leaf(alloc, plan, &leaf, value, flag)),
+        Shape::Aside(point, what) => {
+            passed::<D, F>(pass_aside(alloc, others, point, what, value, flag))
+        }
+        Shape::Row(row) => open_row::<D, F>(alloc, row, value, flag),
+        Shape::Choice(choice) => open_choice::<D, F>(alloc, choice, value, flag),
+        Shape::Loop(the_loop) => open_loop::<D, F>(alloc, memory, the_loop, value, flag),
+        Shape::Select(selection) => open_selection::<D, F>(alloc, selection, value, flag),
         Shape::Catch(catch) => {
             let node = catch.body;
             let place = Place::Catch(catch.point, catch.exit);
@@ -52,57 +57,40 @@ fn open_tree<'a, D: Domain>(
 }
 
 /// The next step at a place, behind what the tree under way there gave.
-fn go_on<'a, D: Domain>(
+fn go_on<'a, D: Domain, F: Disturb<D>>(
     alloc: Global,
     memory: &mut Memory<D>,
     place: Place<'a, D, D::Head>,
     outcome: Outcome<D>,
 ) -> Result<Next<'a, D, D::Head>, AllocError>
-    requires { (set : Plan) × (whole : Due D) × (part : Due D) × MayBePassed D.meaning set whole ×
-        IsOpen D.meaning set place whole part × IsMade D.meaning set part (seen outcome) memory.old ×
+    requires { (others : F) × (set : Plan) × (whole : Due D) × (part : Due D) ×
+        MayBePassed (F.others others) D.meaning set whole × IsOpen (F.others others) D.meaning set
+        place whole part × IsMade (F.others others) D.meaning set part (seen outcome) memory.old ×
         (1 ≤ set.parts) }
-    ensures leads { (set : Plan) (whole part : Due D) → MayBePassed D.meaning set whole →
-        IsOpen D.meaning set place.entry whole part → IsMade D.meaning set part (seen outcome) memory.old →
-        IfOk result (λ next. Leads D.meaning set whole next memory.new) }
-    ensures falls { (set : Plan) (whole part : Due D) → IsOpen D.meaning set place.entry whole part →
-        IfOk result (λ next. next_left D.meaning (2 ^ 64) set next
-        < place_left D.meaning (2 ^ 64) set place.entry) }
+    ensures leads { (others : F) (set : Plan) (whole part : Due D) →
+        MayBePassed (F.others others) D.meaning set whole → IsOpen (F.others others) D.meaning set
+        place.entry whole part → IsMade (F.others others) D.meaning set part (seen outcome)
+        memory.old → IfOk result (λ next. Leads (F.others others) D.meaning set whole next
+        memory.new) }
+    ensures falls { (others : F) (set : Plan) (whole part : Due D) →
+        IsOpen (F.others others) D.meaning set place.entry whole part →
+        IfOk result (λ next. next_left D.meaning (2 ^ 64) set next < place_left D.meaning (2 ^ 64)
+        set place.entry) }
 {
     match place {
-        Place::Row(row) => go_on_row(alloc, row, outcome),
-        Place::Last(found) => passed(found.follow_with(outcome)),
-        Place::Choice(choice) => go_on_choice(alloc, choice, outcome),
-        Place::Branch(branch) => passed(meet_again(Box::into_inner(branch), outcome)),
+        Place::Row(row) => go_on_row::<D, F>(alloc, row, outcome),
+        Place::Last(found) => passed::<D, F>(found.follow_with(outcome)),
+        Place::Choice(choice) => go_on_choice::<D, F>(alloc, choice, outcome),
+        Place::Branch(branch) => passed::<D, F>(meet_again(Box::into_inner(branch), outcome)),
         Place::Growing(growing) => {
-            go_on_growing(alloc, memory, Box::into_inner(growing), outcome)
+            go_on_growing::<D, F>(alloc, memory, Box::into_inner(growing), outcome)
         }
         Place::Narrowing(narrowing) => {
-            go_on_narrowing(alloc, memory, Box::into_inner(narrowing), outcome)
+            go_on_narrowing::<D, F>(alloc, memory, Box::into_inner(narrowing), outcome)
         }
-        Place::Catch(point, exit) => passed(catch_jumps(alloc, point, exit, outcome)),
-        Place::Select(place) => go_on_selection(alloc, Box::into_inner(place), outcome),
+        Place::Catch(point, exit) => passed::<D, F>(catch_jumps(alloc, point, exit, outcome)),
+        Place::Select(place) => go_on_selection::<D, F>(alloc, Box::into_inner(place), outcome),
     }
-}
-
-/// A place opens, and the first step into the tree in it is taken.
-fn open_place<'a, D: Domain>(
-    alloc: Global,
-    plan: &'a Plan,
-    memory: &mut Memory<D>,
-    places: &mut Places<'a, D, D::Head>,
-    place: Place<'a, D, D::Head>,
-    tree: Entering<'a, D>,
-) -> Result<Next<'a, D, D::Head>, AllocError>
-    requires parts { 1 ≤ plan.now.parts }
-    requires may { MayBePassed D.meaning plan.now (due tree memory.old) }
-    ensures opens { OnOk result (places.new.open.items ≡ places.old.open.items ++ place.entry ∷ []) }
-    ensures leads { IfOk result (λ next.
-        Leads D.meaning plan.entry.now (due tree.entry memory.old) next memory.new) }
-    ensures falls { IfOk result (λ next. next_left D.meaning (2 ^ 64) plan.entry.now next
-        < tree_steps D.meaning (2 ^ 64) plan.entry.now tree.entry.node.now) }
-{
-    places.push(place)?;
-    open_tree(alloc, plan, memory, tree)
 }
 
 /// The pass goes on with what comes next.
@@ -118,57 +106,63 @@ fn goes<'a, D: Domain>(
 }
 
 /// One step: it goes on at the innermost place, or opens one. Where none is open, the whole tree is passed.
-fn take_step<'a, D: Domain>(
+fn take_step<'a, D: Domain, F: Disturb<D>>(
     alloc: Global,
     plan: &'a Plan,
+    others: &F,
     memory: &mut Memory<D>,
     places: &mut Places<'a, D, D::Head>,
     next: Next<'a, D, D::Head>,
 ) -> Result<Step<'a, D, D::Head>, AllocError>
     requires parts { 1 ≤ plan.now.parts }
-    requires way { (whole : Due D) ×
-        AreUnderWay D.meaning plan.now places.old.open.items whole next memory.old }
-    ensures leads { (whole : Due D) →
-        AreUnderWay D.meaning plan.entry.now places.old.open.items whole next.entry memory.old →
-        IfOk result (λ s. Reaches D.meaning plan.entry.now places.new.open.items whole s memory.new) }
-    ensures falls { (whole : Due D) →
-        AreUnderWay D.meaning plan.entry.now places.old.open.items whole next.entry memory.old →
+    requires way { (whole : Due D) × AreUnderWay (F.others others.now) D.meaning plan.now
+        places.old.open.items whole next memory.old }
+    ensures leads { (whole : Due D) → AreUnderWay (F.others others.now) D.meaning plan.entry.now
+        places.old.open.items whole next.entry memory.old →
+        IfOk result (λ s. Reaches (F.others others.now) D.meaning plan.entry.now
+        places.new.open.items whole s memory.new) }
+    ensures falls { (whole : Due D) → AreUnderWay (F.others others.now) D.meaning plan.entry.now
+        places.old.open.items whole next.entry memory.old →
         IfOk result (λ s. TakesFewer D.meaning (2 ^ 64) plan.entry.now places.new.open.items s
         (all_left D.meaning (2 ^ 64) plan.entry.now places.old.open.items next.entry)) }
 {
     match next {
         Next::Passed(outcome) => match places.pop() {
-            Some(place) => goes(go_on(alloc, memory, place, outcome)),
+            Some(place) => goes(go_on::<D, F>(alloc, memory, place, outcome)),
             None => Ok(Step::Ended(outcome)),
         },
         Next::Again(place, outcome) => {
-            goes(go_on(alloc, memory, Box::into_inner(place), outcome))
+            goes(go_on::<D, F>(alloc, memory, Box::into_inner(place), outcome))
         }
-        Next::Opens(place, tree) => goes(open_place(alloc, plan, memory, places, place, tree)),
+        Next::Opens(place, tree) => {
+            places.push(place)?;
+            goes(open_tree(alloc, plan, others, memory, tree))
+        }
     }
 }
 
-/// The pass from `value` over the tree, along a list of open places.
-pub fn pass<'a, D: Domain>(
+/// The pass over the tree, along a list of open places.
+pub fn pass<'a, D: Domain, F: Disturb<D>>(
     alloc: Global,
     plan: &'a Plan,
+    others: &F,
     memory: &mut Memory<D>,
-    node: &'a Node,
-    value: D,
-    flag: Option<usize>,
+    tree: Entering<'a, D>,
 ) -> Result<Outcome<D>, AllocError>
     requires parts { 1 ≤ plan.now.parts }
-    requires few { D.meaning.dims value ≤ most_live }
-    requires fits { TreeFits (node_view node.now) (D.meaning.dims value) }
-    requires remembers { Remembers D.meaning plan.now (node_view node.now) flag memory.old }
-    ensures passed { IfOk result (λ r. IsPassed D.meaning plan.now (node_view node.now) flag value (seen r)) }
-    ensures stays { IfOk result (λ r. StaysKept D.meaning plan.now (node_view node.now) flag memory.old r.flag
-        memory.new) }
+    requires few { D.meaning.dims tree.value ≤ most_live }
+    requires fits { TreeFits (node_view tree.node.now) (D.meaning.dims tree.value) }
+    requires remembers { Remembers (F.others others.now) D.meaning plan.now
+        (node_view tree.node.now) tree.flag memory.old }
+    ensures passed { IfOk result (λ r. IsPassed (F.others others.now) D.meaning plan.now
+        (node_view tree.entry.node.now) tree.entry.flag tree.entry.value (seen r)) }
+    ensures stays { IfOk result (λ r. StaysKept (F.others others.now) D.meaning plan.now
+        (node_view tree.entry.node.now) tree.entry.flag memory.old r.flag memory.new) }
 {
     let mut places = Places::none(alloc);
-    let mut next = open_tree(alloc, plan, memory, Entering { node, value, flag })?;
+    let mut next = open_tree(alloc, plan, others, memory, tree)?;
     'steps: loop {
-        match take_step(alloc, plan, memory, &mut places, next)? {
+        match take_step(alloc, plan, others, memory, &mut places, next)? {
             Step::Ended(outcome) => return Ok(outcome),
             Step::Goes(more) => next = more,
         }

@@ -10,22 +10,28 @@ ghost use Rattle.lra_flow.specs.Room.{most_live};
 ghost use Rattle.lra_flow.specs.Plan.{Plan};
 ghost use Rattle.lra_flow.specs.Analysis.{Solves};
 ghost use Rattle.lra_flow.specs.MovesOf.{first_values};
+ghost use Rattle.lra_flow.specs.Opened.{opened};
 ghost use Rattle.lra_flow.specs.Pass.{noted};
+ghost use Rattle.lra_operations.specs.Graph.{Node};
 ghost use Rattle.lra_change.specs.Changes.{Does};
 ghost use Rattle.lra_outcomes.specs.Fits.{TreeFits};
-ghost use Rattle.lra_iter.specs.Lives.{PointsHave, AreWide};
+ghost use Rattle.lra_iter.specs.Lives.{PointsHave, AreWide, NotesHave};
 ghost use Rattle.lra_outcomes.specs.Outcome.{seen};
 ghost use Rattle.lra_iter.specs.Numbers.{IsNumbered};
 ghost use Rattle.lra_iter.specs.Counts.{AreCounted};
-ghost use Rattle.lra_iter.specs.Solved.{IsSolved};
+ghost use Rattle.lra_iter.specs.Solved.{IsSolved, IsSolvedAmong};
 ghost use Rattle.lra_iter.specs.Sound.{HoldsInTree};
+ghost use Rattle.lra_iter.specs.Among.{HoldsAmong};
+ghost use Rattle.lra_iter.specs.Tables.{note_view, notes_in};
 
 use crate::pass::pass;
-use crate::tables::{number_held, tables_of, take_held};
+use crate::tables::{Note, number_held, tables_of, take_held};
 use lra_change::append_globals;
 use lra_domain::Domain;
 use lra_operations::{Graph, Site};
+use lra_others::{Disturb, Nobody};
 use lra_outcomes::{Memory, Outcome, Plan, note};
+use lra_places::Entering;
 use lra_program::GlobalVariable;
 use std::alloc::{AllocError, Global};
 
@@ -39,25 +45,40 @@ pub struct Solution<D> {
     pub flagged: Option<usize>,
 }
 
-/// What a pass found, in the order of the points.
+/// What is found of a program among others: the same, and what its variables got, in the order in which that is
+/// found.
+#[derive(Drop)]
+pub struct NotedSolution<D> {
+    pub solution: Solution<D>,
+    pub notes: Vec<Note<D>>,
+}
+
+/// What a pass found, in the order of the points, and the notes.
 fn solution_of<D: Domain>(
     alloc: Global,
     sites: &[Site],
     outcome: Outcome<D>,
-) -> Result<Solution<D>, AllocError>
+) -> Result<NotedSolution<D>, AllocError>
     requires { AreCounted (map site_view sites.now) (seen outcome).entries }
-    ensures solves { IfOk result (λ s. Solves D.meaning (seen outcome) s.values.items s.verdicts.items s.flagged) }
-    ensures points { IfOk result (λ s. length s.values.items ≡ length sites.now) }
-    ensures assertions { IfOk result (λ s. map (λ v. v.0) s.verdicts.items ≡
+    ensures solves { IfOk result (λ s. Solves D.meaning (seen outcome) s.solution.values.items
+        s.solution.verdicts.items s.solution.flagged) }
+    ensures noted { IfOk result (λ s. map note_view s.notes.items
+        ≡ notes_in (seen outcome).entries) }
+    ensures points { IfOk result (λ s. length s.solution.values.items ≡ length sites.now) }
+    ensures assertions { IfOk result (λ s. map (λ v. v.0) s.solution.verdicts.items ≡
         map (λ a. a.0) (assertions_from 0 (map site_view sites.now))) }
 {
     let flagged = outcome.flag;
     let entries = outcome.found.into_entries();
     let tables = tables_of(alloc, sites.len(), entries)?;
-    Ok(Solution {
+    let solution = Solution {
         values: take_held(alloc, tables.values)?,
         verdicts: number_held(alloc, &tables.verdicts)?,
         flagged,
+    };
+    Ok(NotedSolution {
+        solution,
+        notes: tables.notes,
     })
 }
 
@@ -77,6 +98,49 @@ fn begin<D: Domain>(
     let mut value = D::universe(alloc, 0, plan.parts())?;
     let exactness = append_globals(alloc, globals, &mut value)?;
     Ok((value, note(0, exactness, None)))
+}
+
+/// The iteration over a program's tree of operations among others, from its global variables at their first values:
+/// what others may do is taken in where the tree says so.
+pub fn analyse_with<D: Domain, F: Disturb<D>>(
+    alloc: Global,
+    plan: &Plan,
+    globals: &[GlobalVariable],
+    graph: &Graph,
+    others: &F,
+) -> Result<NotedSolution<D>, AllocError>
+    requires parts { 1 ≤ plan.now.parts }
+    requires few { length globals.now ≤ most_live }
+    requires globals { AreGoodGlobals globals.now }
+    requires fits { TreeFits (node_view graph.now.tree) (length globals.now) }
+    requires numbered { IsNumbered (map site_view graph.now.sites.items)
+        (node_view graph.now.tree) }
+    ensures solved { IfOk result (λ s. (P : Program) → P.globals ≡ globals.now →
+        IsSolvedAmong (F.others others.now) D.meaning plan.now P (node_view graph.now.tree)
+        s.solution.values.items (map note_view s.notes.items) s.solution.verdicts.items
+        s.solution.flagged) }
+    ensures sound { IfOk result (λ s. (P : Program) (g : Node) → P.globals ≡ globals.now →
+        node_view graph.now.tree ≡ opened (length P.globals) g → HoldsAmong (F.others others.now)
+        D.meaning P g s.solution.values.items (map note_view s.notes.items)
+        s.solution.verdicts.items) }
+    ensures wide { IfOk result (λ s. PointsHave (map site_view graph.now.sites.items)
+        (node_view graph.now.tree) (length globals.now) → AreWide D.meaning
+        (map site_view graph.now.sites.items) s.solution.values.items) }
+    ensures notes { IfOk result (λ s. PointsHave (map site_view graph.now.sites.items)
+        (node_view graph.now.tree) (length globals.now) →
+        NotesHave D.meaning (map note_view s.notes.items)) }
+    ensures points { IfOk result (λ s. length s.solution.values.items
+        ≡ length graph.now.sites.items) }
+    ensures assertions { IfOk result (λ s. map (λ v. v.0) s.solution.verdicts.items ≡
+        map (λ a. a.0) (assertions_from 0 (map site_view graph.now.sites.items))) }
+{
+    let (value, flag) = begin(alloc, plan, globals)?;
+    let mut memory = Memory::nothing(alloc);
+    let node = &graph.tree;
+    let tree = Entering { node, value, flag };
+    let outcome = pass(alloc, plan, others, &mut memory, tree)?;
+    let solution = solution_of(alloc, &graph.sites, outcome)?;
+    Ok(solution)
 }
 
 /// The iteration over a program's tree of operations, from its global variables at their first values.
@@ -101,9 +165,6 @@ pub fn analyse<D: Domain>(
     ensures assertions { IfOk result (λ s. map (λ v. v.0) s.verdicts.items ≡
         map (λ a. a.0) (assertions_from 0 (map site_view graph.now.sites.items))) }
 {
-    let (value, flag) = begin(alloc, plan, globals)?;
-    let mut memory = Memory::nothing(alloc);
-    let outcome = pass(alloc, plan, &mut memory, &graph.tree, value, flag)?;
-    let solution = solution_of(alloc, &graph.sites, outcome)?;
-    Ok(solution)
+    let found = analyse_with(alloc, plan, globals, graph, &Nobody)?;
+    Ok(found.solution)
 }

@@ -4,17 +4,36 @@ ghost use Rattle.std.specs.Prelude.{◌≡◌, ◌<◌, length, map, replicate, 
 ghost use Rattle.std.specs.Option.{option_to_list};
 ghost use Rattle.lra_outcomes.specs.Outcome.{entry_view};
 ghost use Rattle.lra_iter.specs.Counts.{AreApart};
-ghost use Rattle.lra_iter.specs.Tables.{AreTabled, filled_from};
+ghost use Rattle.lra_iter.specs.Tables.{note_view, notes_in, AreTabled, filled_from};
 
 use lra_domain::Domain;
 use lra_outcomes::Entry;
 use std::alloc::{AllocError, Global};
 
-/// At the numbers of the points the values, and whether an assertion is proved.
+/// What is known where at this point the variable at this place has just got a value.
+pub struct Note<D> {
+    pub point: usize,
+    pub variable: usize,
+    pub value: D,
+}
+
+impl<D: Drop> Drop for Note<D> {
+    fn drop(self) {
+        let Note {
+            point: _,
+            variable: _,
+            value: _,
+        } = self;
+    }
+}
+
+/// At the numbers of the points the values, and whether an assertion is proved; and the notes in the order in which
+/// they are found.
 #[derive(Drop)]
 pub struct Tables<D> {
     pub values: Vec<Option<D>>,
     pub verdicts: Vec<Option<bool>>,
+    pub notes: Vec<Note<D>>,
 }
 
 /// A table of so many empty places.
@@ -36,25 +55,37 @@ fn fill<T: Drop>(table: &mut Vec<Option<T>>, place: usize, value: T)
     table[place] = Some(value);
 }
 
-/// The entries at their numbers; an assertion is proved where its value is empty.
+/// The entries at their numbers, and the notes; an assertion is proved where its value is empty.
 pub fn tables_of<D: Domain>(
     alloc: Global,
     count: usize,
     entries: Vec<Entry<D>>,
 ) -> Result<Tables<D>, AllocError>
     requires { AreApart count (map entry_view entries.items) }
-    ensures { IfOk result (λ tables. AreTabled D.meaning count
+    ensures tabled { IfOk result (λ tables. AreTabled D.meaning count
         (map entry_view entries.items) tables.values.items tables.verdicts.items) }
+    ensures noted { IfOk result (λ tables. map note_view tables.notes.items ≡
+        notes_in (map entry_view entries.items)) }
 {
     let mut values = empty_table(alloc, count)?;
     let mut verdicts = empty_table(alloc, count)?;
+    let mut notes = Vec::new(alloc);
     'entries: for entry in entries {
         match entry {
             Entry::Value(point, value) => fill(&mut values, point, value),
             Entry::Failing(point, value) => fill(&mut verdicts, point, value.is_empty()),
+            Entry::Given(point, variable, value) => notes.push(Note {
+                point,
+                variable,
+                value,
+            })?,
         }
     }
-    Ok(Tables { values, verdicts })
+    Ok(Tables {
+        values,
+        verdicts,
+        notes,
+    })
 }
 
 /// What the filled places hold.

@@ -11,7 +11,8 @@ use Rattle.lra_outcomes.proofs.Again.{entered_with, kept_inside}
 use Rattle.lra_iter.proofs.loops.enter.Goals as goal
 
 pub returns : goal.returns
-returns g c =
+returns g c others kept =
+    let o = g.F.Disturb.others others in
     let m = g.D.Domain.meaning in
     let l = c.args.the_loop.now in
     let body = node_view l.body.now in
@@ -21,9 +22,9 @@ returns g c =
     let takes = rw c.in_ok-on.ensures at c.in_ok-exactness.ensures.leaves in
     let leaves = takes_made (dropping m) (guard (m.dims c.args.value.now) l.base true (cond_view l.condition.now)) c.args.value.now on e takes in
     let wide = rw c.in_ok-on.ensures at c.in_ok-exactness.ensures.dims in
-    IfOk-weaker c.enter_with.result (EntersWith m l.plan.now body inside on)
-    (IsEntered m l.plan.now l.point l.base (cond_view l.condition.now) body c.args.flag c.args.value.now)
-    (λ given enters. entered_with m l.plan.now body l.point l.base (cond_view l.condition.now) c.args.flag inside
+    IfOk-weaker c.enter_with.result (EntersWith o m l.plan.now body inside on)
+    (IsEntered o m l.plan.now l.point l.base (cond_view l.condition.now) body c.args.flag c.args.value.now)
+    (λ given enters. entered_with o m l.plan.now body l.point l.base (cond_view l.condition.now) c.args.flag inside
     c.args.value.now on e given leaves c.note-inside.ensures wide enters)
-    (c.enter_with.ensures l.plan.now body
-    (kept_inside m l.plan.now body l.point e c.args.flag inside c.args.kept c.note-inside.ensures c.requires.kept))
+    (c.enter_with.ensures others l.plan.now body
+    (kept_inside o m l.plan.now body l.point e c.args.flag inside c.args.kept c.note-inside.ensures kept))

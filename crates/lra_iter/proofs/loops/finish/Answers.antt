@@ -5,11 +5,12 @@ use Rattle.lra_outcomes.proofs.KeptLoops.{recall_later, left_later}
 use Rattle.lra_iter.proofs.loops.finish.Goals as goal
 
 pub returns-clause-keeps : goal.returns-clause-keeps
-returns-clause-keeps g c plan loops all kept =
+returns-clause-keeps g c others plan loops all kept =
+    let o = g.F.Disturb.others others in
     let m = g.D.Domain.meaning in
     let l = c.args.the_loop.now in
     let left = rw c.into_outcome.ensures at c.in_ok-outcome.ensures.left in
-    c.in_ok-end.ensures plan loops
-    (recall_later m plan loops c.args.last.turn.outcome.flag c.in_ok-outcome.outcome.flag c.args.memory.now
+    c.in_ok-end.ensures others plan loops
+    (recall_later o m plan loops c.args.last.turn.outcome.flag c.in_ok-outcome.outcome.flag c.args.memory.now
     (left_later m l.point l.base (cond_view l.condition.now) c.args.last.value (seen c.args.last.turn.outcome) (seen c.in_ok-outcome.outcome) left) all)
     kept

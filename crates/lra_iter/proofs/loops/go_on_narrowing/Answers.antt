@@ -8,14 +8,15 @@ narrow_on-requires g c =
     let given = c.requires in (
       given.0,
       given.1,
-      given.3,
-      narrowing_narrowed g.D.Domain.meaning given.0 c.args.place given.1 given.2 c.args.outcome
-          c.args.memory.now given.3 given.4 given.5,
+      given.2,
+      given.4,
+      narrowing_narrowed (g.F.Disturb.others given.0) g.D.Domain.meaning given.1 c.args.place given.2 given.3 c.args.outcome
+          c.args.memory.now given.4 given.5 given.6,
     )
 
 pub returns-clause-leads : goal.returns-clause-leads
-returns-clause-leads g c set whole part may owed made =
-    c.narrow_on.ensures.leads set whole may (narrowing_narrowed g.D.Domain.meaning set c.args.place whole part c.args.outcome
+returns-clause-leads g c others set whole part may owed made =
+    c.narrow_on.ensures.leads others set whole may (narrowing_narrowed (g.F.Disturb.others others) g.D.Domain.meaning set c.args.place whole part c.args.outcome
     c.args.memory.now may owed made)
 
 pub returns-clause-falls : goal.returns-clause-falls

@@ -6,33 +6,35 @@ use Rattle.lra_iter.proofs.TurnSteps.{begun_less}
 use Rattle.lra_iter.proofs.loops.open_loop.Goals as goal
 
 pub start-requires : goal.start-requires
-start-requires g c = due_few g.D.Domain.meaning c.requires.0 c.args.the_loop c.requires.1 c.args.value c.args.flag
-    c.args.memory.now c.requires.2
+start-requires g c = due_few (g.F.Disturb.others c.requires.0) g.D.Domain.meaning c.requires.1 c.args.the_loop c.requires.2 c.args.value
+    c.args.flag c.args.memory.now c.requires.3
 
 pub returns-in-Some-clause-leads : goal.returns-in-Some-clause-leads
-returns-in-Some-clause-leads g c set whole here =
-    loop_recalled g.D.Domain.meaning set c.args.the_loop whole c.args.value c.args.flag c.args.memory.now here
-    c.in_ok-given.field-0 c.in-Some.given c.begin.new.self c.in_ok-given.ensures.given c.begin.ensures.kept c.in-Some.is
+returns-in-Some-clause-leads g c others set whole here =
+    loop_recalled (g.F.Disturb.others others) g.D.Domain.meaning set c.args.the_loop whole c.args.value c.args.flag c.args.memory.now here
+    c.in_ok-given.field-0 c.in-Some.given c.begin.new.self (c.in_ok-given.ensures.given others) c.begin.ensures.kept c.in-Some.is
 
 pub turn_growing-requires : goal.turn_growing-requires
 turn_growing-requires g c =
-    let set = c.requires.0 in
-    let whole = c.requires.1 in
-    let here = c.requires.2 in
+    let others = c.requires.0 in
+    let set = c.requires.1 in
+    let whole = c.requires.2 in
+    let here = c.requires.3 in
     let begun = c.in_ok-growing.ensures in (
+      others,
       set,
       whole,
       c.begin.new.self,
       here.may,
-      head_opens g.D.Domain.meaning set c.args.the_loop whole c.args.value c.args.flag
+      head_opens (g.F.Disturb.others others) g.D.Domain.meaning set c.args.the_loop whole c.args.value c.args.flag
           c.args.memory.now here c.in_ok-growing.growing c.begin.new.self c.begin.ensures.kept begun.started begun.fits
           begun.valued begun.left,
     )
 
 pub returns-clause-leads : goal.returns-clause-leads
-returns-clause-leads g c set whole here =
+returns-clause-leads g c others set whole here =
     let begun = c.in_ok-growing.ensures in
-    c.turn_growing.ensures.leads set whole c.begin.new.self here.may (head_opens g.D.Domain.meaning set c.args.the_loop whole
+    c.turn_growing.ensures.leads others set whole c.begin.new.self here.may (head_opens (g.F.Disturb.others others) g.D.Domain.meaning set c.args.the_loop whole
     c.args.value c.args.flag c.args.memory.now here c.in_ok-growing.growing c.begin.new.self c.begin.ensures.kept
     begun.started begun.fits begun.valued begun.left)
 

@@ -17,21 +17,20 @@ pub enter-requires : goal.enter-requires
 enter-requires g c =
     let m = g.D.Domain.meaning in
     let given = c.requires in
-    record {
-      few = growing_few m given.0 c.args.the_loop given.1 c.args.first c.args.growing c.args.kept given.2 given.3 given.4;
-      kept = growing_kept m given.0 c.args.the_loop given.1 c.args.first c.args.growing c.args.kept given.2 given.3 given.4;
-    }
+    growing_few (g.F.Disturb.others given.0) m given.1 c.args.the_loop given.2 c.args.first c.args.growing c.args.kept given.3 given.4 given.5
 
 pub returns-in-Again-clause-leads : goal.returns-in-Again-clause-leads
-returns-in-Again-clause-leads g c set whole memory may head =
+returns-in-Again-clause-leads g c others set whole memory may head =
+    let o = g.F.Disturb.others others in
     let m = g.D.Domain.meaning in
     let l = c.args.the_loop in
     let growing = c.args.growing in
-    let entered = subst (λ r. IsEntered m l.plan.now l.point l.base (cond_view l.condition.now)
-    (node_view l.body.now) growing.flag growing.value r) c.in-Again.is c.in_ok-turn.ensures in
+    let entered = subst (λ r. IsEntered o m l.plan.now l.point l.base (cond_view l.condition.now)
+    (node_view l.body.now) growing.flag growing.value r) c.in-Again.is (c.in_ok-turn.ensures others
+    (growing_kept o m set l whole c.args.first growing c.args.kept memory may head)) in
     let parts = c.into_parts-entered in
-    growing_made m set c.again.result (place_of l c.args.first growing parts.result.0) parts.result.1 whole memory
-    c.again.ensures (growing_again m set l whole c.args.first growing c.args.kept memory may head c.in-Again.turn
+    growing_made m set c.again.result (place_of l c.args.first growing parts.result.0) o parts.result.1 whole memory
+    c.again.ensures (growing_again o m set l whole c.args.first growing c.args.kept memory may head c.in-Again.turn
     parts.result.0 parts.result.1 entered parts.ensures.entered parts.ensures.outcome)
 
 pub returns-in-Again-clause-steps : goal.returns-in-Again-clause-steps
@@ -41,15 +40,17 @@ returns-in-Again-clause-steps g c b set =
     (place_of c.args.the_loop c.args.first c.args.growing parts.result.0) b parts.result.1 c.again.ensures
 
 pub returns-in-Anew-clause-leads : goal.returns-in-Anew-clause-leads
-returns-in-Anew-clause-leads g c set whole memory may head =
+returns-in-Anew-clause-leads g c others set whole memory may head =
+    let o = g.F.Disturb.others others in
     let m = g.D.Domain.meaning in
     let l = c.args.the_loop in
     let growing = c.args.growing in
-    let entered = subst (λ r. IsEntered m l.plan.now l.point l.base (cond_view l.condition.now)
-    (node_view l.body.now) growing.flag growing.value r) c.in-Anew.is c.in_ok-turn.ensures in
-    growing_leads m set c.opens.result (place_of l c.args.first growing c.in-Anew.entered)
+    let entered = subst (λ r. IsEntered o m l.plan.now l.point l.base (cond_view l.condition.now)
+    (node_view l.body.now) growing.flag growing.value r) c.in-Anew.is (c.in_ok-turn.ensures others
+    (growing_kept o m set l whole c.args.first growing c.args.kept memory may head)) in
+    growing_leads m set c.opens.result (place_of l c.args.first growing c.in-Anew.entered) o
     (record { node = l.body; value = c.in-Anew.value; flag = c.in-Anew.flag }) whole memory c.opens.ensures
-    (growing_opens m set l whole c.args.first growing c.args.kept memory may head c.in-Anew.value c.in-Anew.flag
+    (growing_opens o m set l whole c.args.first growing c.args.kept memory may head c.in-Anew.value c.in-Anew.flag
     c.in-Anew.entered entered)
 
 pub returns-in-Anew-clause-steps : goal.returns-in-Anew-clause-steps

@@ -1,15 +1,18 @@
 -- Goals of `open_tree`: the first step into a tree.
 use Rattle.std.proofs.Common.{◌<◌, ◌≤◌, ◌^◌, refl, sym, subst, arith}
 use Rattle.std.specs.Prelude.{IfOk}
+use Rattle.lra_operations.specs.Graph.{aside}
 use Rattle.lra_flow.specs.Plan.{Plan}
 use Rattle.lra_outcomes.specs.declared.shapes.Shape.{Shape}
-use Rattle.lra_outcomes.specs.declared.shapes.Shape.TheVariants.{Leaf, Row, Choice, Loop, Catch, Select}
+use Rattle.lra_outcomes.specs.declared.shapes.Shape.TheVariants.{Aside, Leaf, Row, Choice, Loop, Catch, Select}
+use Rattle.lra_others.specs.Others.{nobody}
 use Rattle.lra_outcomes.specs.Fits.{TreeFits}
 use Rattle.std.proofs.lemmas.Result.{IfOk-weaker}
 use Rattle.lra_places.specs.Open.{due, IsMade, MayBePassed}
 use Rattle.lra_outcomes.specs.Outcome.{seen, IsPassed}
 use Rattle.lra_outcomes.specs.Shapes.{leaf_view, IsShape}
 use Rattle.lra_places.specs.StepsLeft.{most_rounds, next_left, tree_steps}
+use Rattle.lra_outcomes.proofs.AnyOthers.{leaf_among}
 use Rattle.lra_places.proofs.OpenPlaces.{catch_leads, leaf_made}
 use Rattle.lra_places.proofs.RowLeaves.{row_less}
 use Rattle.lra_places.proofs.SelectSteps.{arms_less}
@@ -29,6 +32,7 @@ pass_leaf-requires g c =
 
 pub returns-in-Leaf-clause-leads : goal.returns-in-Leaf-clause-leads
 returns-in-Leaf-clause-leads g c =
+    let o = g.F.Disturb.others c.args.others.now in
     let m = g.D.Domain.meaning in
     let set = c.args.plan.now in
     let tree = c.args.tree in
@@ -36,9 +40,10 @@ returns-in-Leaf-clause-leads g c =
     let leaf = leaf_view c.in-Leaf.leaf in
     let shape : IsShape set tree.node.now (Leaf c.in-Leaf.leaf) =
     subst (λ (x : Shape). IsShape set tree.node.now x) c.in-Leaf.is c.of.ensures in
-    c.passed.ensures.leads set whole c.args.memory.now (IfOk-weaker c.pass_leaf.result
-    (λ r. IsPassed m set leaf tree.flag tree.value (seen r)) (λ r. IsMade m set whole (seen r) c.args.memory.now)
-    (λ r one. leaf_made m set whole leaf r shape.0 one) c.pass_leaf.ensures)
+    c.passed.ensures.leads c.args.others.now set whole c.args.memory.now (IfOk-weaker c.pass_leaf.result
+    (λ r. IsPassed nobody m set leaf tree.flag tree.value (seen r)) (λ r. IsMade o m set whole (seen r) c.args.memory.now)
+    (λ r one. leaf_made o m set whole leaf r shape.0 (leaf_among o m set c.in-Leaf.leaf tree.flag tree.value (seen r) one))
+    c.pass_leaf.ensures)
 
 pub returns-in-Leaf-clause-falls : goal.returns-in-Leaf-clause-falls
 returns-in-Leaf-clause-falls g c =
@@ -51,6 +56,33 @@ returns-in-Leaf-clause-falls g c =
     ends_less m set c.passed.result (2 ^ 64) (tree_steps m (2 ^ 64) set tree.node.now) (omega (arith, one))
     (c.passed.ensures.ends (2 ^ 64) set)
 
+-- what is done beside the program's operations -------------------------------------------------------------------------
+
+pub returns-in-Aside-clause-leads : goal.returns-in-Aside-clause-leads
+returns-in-Aside-clause-leads g c =
+    let o = g.F.Disturb.others c.args.others.now in
+    let m = g.D.Domain.meaning in
+    let set = c.args.plan.now in
+    let tree = c.args.tree in
+    let whole = due tree c.args.memory.now in
+    let here = aside c.in-Aside.point c.in-Aside.what in
+    let shape : IsShape set tree.node.now (Aside c.in-Aside.point c.in-Aside.what) =
+    subst (λ (x : Shape). IsShape set tree.node.now x) c.in-Aside.is c.of.ensures in
+    c.passed-in-Aside.ensures.leads c.args.others.now set whole c.args.memory.now (IfOk-weaker c.pass_aside.result
+    (λ r. IsPassed o m set here tree.flag tree.value (seen r)) (λ r. IsMade o m set whole (seen r) c.args.memory.now)
+    (λ r one. leaf_made o m set whole here r shape.0 one) (c.pass_aside.ensures set))
+
+pub returns-in-Aside-clause-falls : goal.returns-in-Aside-clause-falls
+returns-in-Aside-clause-falls g c =
+    let m = g.D.Domain.meaning in
+    let set = c.args.plan.now in
+    let tree = c.args.tree in
+    let shape : IsShape set tree.node.now (Aside c.in-Aside.point c.in-Aside.what) =
+    subst (λ (x : Shape). IsShape set tree.node.now x) c.in-Aside.is c.of.ensures in
+    let two = shape.1 (most_rounds (2 ^ 64) set) in
+    ends_less m set c.passed-in-Aside.result (2 ^ 64) (tree_steps m (2 ^ 64) set tree.node.now) (omega (arith, two))
+    (c.passed-in-Aside.ensures.ends (2 ^ 64) set)
+
 -- trees in a row ------------------------------------------------------------------------------------------------------
 
 pub open_row-requires : goal.open_row-requires
@@ -61,8 +93,9 @@ open_row-requires g c =
     record {
       parts = subst (λ (s : Plan). 1 ≤ s.parts) (sym shape.2) c.requires.parts;
       way = (
+        c.args.others.now,
         due tree c.args.memory.now,
-        subst (λ (s : Plan). MayBePassed g.D.Domain.meaning s (due tree c.args.memory.now)) (sym shape.2) c.requires.may,
+        subst (λ (s : Plan). MayBePassed (g.F.Disturb.others c.args.others.now) g.D.Domain.meaning s (due tree c.args.memory.now)) (sym shape.2) c.requires.may,
         shape.0,
         refl,
         refl,
@@ -74,7 +107,7 @@ returns-in-Row-clause-leads g c =
     let tree = c.args.tree in
     let shape : IsShape c.args.plan.now tree.node.now (Row c.in-Row.row) =
     subst (λ (x : Shape). IsShape c.args.plan.now tree.node.now x) c.in-Row.is c.of.ensures in
-    c.open_row.ensures.leads c.args.plan.now (due tree c.args.memory.now) shape.2 shape.0 refl refl c.requires.may
+    c.open_row.ensures.leads c.args.others.now c.args.plan.now (due tree c.args.memory.now) shape.2 shape.0 refl refl c.requires.may
 
 pub returns-in-Row-clause-falls : goal.returns-in-Row-clause-falls
 returns-in-Row-clause-falls g c =
@@ -93,7 +126,7 @@ returns-in-Choice-clause-leads g c =
     let tree = c.args.tree in
     let shape : IsShape c.args.plan.now tree.node.now (Choice c.in-Choice.choice) =
     subst (λ (x : Shape). IsShape c.args.plan.now tree.node.now x) c.in-Choice.is c.of.ensures in
-    c.open_choice.ensures.leads c.args.plan.now (due tree c.args.memory.now) shape.2 shape.0 refl refl c.requires.may
+    c.open_choice.ensures.leads c.args.others.now c.args.plan.now (due tree c.args.memory.now) shape.2 shape.0 refl refl c.requires.may
 
 pub returns-in-Choice-clause-falls : goal.returns-in-Choice-clause-falls
 returns-in-Choice-clause-falls g c =
@@ -114,6 +147,7 @@ open_loop-requires g c =
     let tree = c.args.tree in
     let shape : IsShape c.args.plan.now tree.node.now (Loop c.in-Loop.the_loop) =
     subst (λ (x : Shape). IsShape c.args.plan.now tree.node.now x) c.in-Loop.is c.of.ensures in (
+      c.args.others.now,
       c.args.plan.now,
       due tree c.args.memory.now,
       record { plan = shape.2; is = shape.0; first_is = refl; flagged = refl; kept = refl; may = c.requires.may },
@@ -124,7 +158,7 @@ returns-in-Loop-clause-leads g c =
     let tree = c.args.tree in
     let shape : IsShape c.args.plan.now tree.node.now (Loop c.in-Loop.the_loop) =
     subst (λ (x : Shape). IsShape c.args.plan.now tree.node.now x) c.in-Loop.is c.of.ensures in
-    c.open_loop.ensures.leads c.args.plan.now (due tree c.args.memory.now) (record {
+    c.open_loop.ensures.leads c.args.others.now c.args.plan.now (due tree c.args.memory.now) (record {
       plan = shape.2;
       is = shape.0;
       first_is = refl;
@@ -151,7 +185,7 @@ returns-in-Catch-clause-leads g c =
     let catch = c.in-Catch.catch in
     let shape : IsShape c.args.plan.now tree.node.now (Catch catch) =
     subst (λ (x : Shape). IsShape c.args.plan.now tree.node.now x) c.in-Catch.is c.of.ensures in
-    catch_leads g.D.Domain.meaning c.args.plan.now catch.point catch.exit catch.body.now tree.value tree.flag
+    catch_leads (g.F.Disturb.others c.args.others.now) g.D.Domain.meaning c.args.plan.now catch.point catch.exit catch.body.now tree.value tree.flag
     (due tree c.args.memory.now) shape.0 refl refl c.requires.may
 
 pub returns-in-Catch-clause-falls : goal.returns-in-Catch-clause-falls
@@ -172,8 +206,9 @@ open_selection-requires g c =
     record {
       parts = subst (λ (s : Plan). 1 ≤ s.parts) (sym shape.2) c.requires.parts;
       way = (
+        c.args.others.now,
         due tree c.args.memory.now,
-        subst (λ (s : Plan). MayBePassed g.D.Domain.meaning s (due tree c.args.memory.now)) (sym shape.2) c.requires.may,
+        subst (λ (s : Plan). MayBePassed (g.F.Disturb.others c.args.others.now) g.D.Domain.meaning s (due tree c.args.memory.now)) (sym shape.2) c.requires.may,
         shape.0,
         refl,
         refl,
@@ -185,7 +220,7 @@ returns-in-Select-clause-leads g c =
     let tree = c.args.tree in
     let shape : IsShape c.args.plan.now tree.node.now (Select c.in-Select.selection) =
     subst (λ (x : Shape). IsShape c.args.plan.now tree.node.now x) c.in-Select.is c.of.ensures in
-    c.open_selection.ensures.leads c.args.plan.now (due tree c.args.memory.now) shape.2 shape.0 refl refl c.requires.may
+    c.open_selection.ensures.leads c.args.others.now c.args.plan.now (due tree c.args.memory.now) shape.2 shape.0 refl refl c.requires.may
 
 pub returns-in-Select-clause-falls : goal.returns-in-Select-clause-falls
 returns-in-Select-clause-falls g c =

@@ -13,10 +13,10 @@ open_tree-requires g c = record {
 }
 
 pub steps-init : goal.steps-init
-steps-init g c = begins g.D.Domain.meaning c.args.plan.now c.none-places.result.open.items (record {
-  tree = node_view c.args.node.now;
-  value = c.args.value;
-  flag = c.args.flag;
+steps-init g c = begins (g.F.Disturb.others c.args.others.now) g.D.Domain.meaning c.args.plan.now c.none-places.result.open.items (record {
+  tree = node_view c.args.tree.node.now;
+  value = c.args.tree.value;
+  flag = c.args.tree.flag;
   memory = c.args.memory.now;
 }) c.in_ok-next.next c.open_tree.new.memory c.none-places.ensures
     (record { few = c.requires.few; fits = c.requires.fits; remembers = c.requires.remembers }) c.in_ok-next.ensures.leads
@@ -26,9 +26,9 @@ take_step-requires g c = record {
   parts = c.requires.parts;
   way = (
     record {
-      tree = node_view c.args.node.now;
-      value = c.args.value;
-      flag = c.args.flag;
+      tree = node_view c.args.tree.node.now;
+      value = c.args.tree.value;
+      flag = c.args.tree.flag;
       memory = c.args.memory.now;
     },
     c.steps.invariant,
@@ -39,49 +39,52 @@ take_step-requires g c = record {
 
 pub returns-in-Ended-clause-passed : goal.returns-in-Ended-clause-passed
 returns-in-Ended-clause-passed g c =
+    let o = g.F.Disturb.others c.args.others.now in
     let m = g.D.Domain.meaning in
     let whole : Due _ = record {
-      tree = node_view c.args.node.now;
-      value = c.args.value;
-      flag = c.args.flag;
+      tree = node_view c.args.tree.node.now;
+      value = c.args.tree.value;
+      flag = c.args.tree.flag;
       memory = c.args.memory.now;
     } in
-    (subst (λ s. Reaches m c.args.plan.now c.take_step.new.places.open.items whole s c.take_step.new.memory)
+    (subst (λ s. Reaches o m c.args.plan.now c.take_step.new.places.open.items whole s c.take_step.new.memory)
     c.in-Ended.is (c.in_ok-outcome.ensures.leads whole c.steps.invariant)).passed
 
 pub returns-in-Ended-clause-stays : goal.returns-in-Ended-clause-stays
 returns-in-Ended-clause-stays g c =
+    let o = g.F.Disturb.others c.args.others.now in
     let m = g.D.Domain.meaning in
     let whole : Due _ = record {
-      tree = node_view c.args.node.now;
-      value = c.args.value;
-      flag = c.args.flag;
+      tree = node_view c.args.tree.node.now;
+      value = c.args.tree.value;
+      flag = c.args.tree.flag;
       memory = c.args.memory.now;
     } in
-    (subst (λ s. Reaches m c.args.plan.now c.take_step.new.places.open.items whole s c.take_step.new.memory)
+    (subst (λ s. Reaches o m c.args.plan.now c.take_step.new.places.open.items whole s c.take_step.new.memory)
     c.in-Ended.is (c.in_ok-outcome.ensures.leads whole c.steps.invariant)).stays
 
 -- it goes on ----------------------------------------------------------------------------------------------------------
 
 pub steps-preserved : goal.steps-preserved
 steps-preserved g c =
+    let o = g.F.Disturb.others c.args.others.now in
     let m = g.D.Domain.meaning in
     let whole : Due _ = record {
-      tree = node_view c.args.node.now;
-      value = c.args.value;
-      flag = c.args.flag;
+      tree = node_view c.args.tree.node.now;
+      value = c.args.tree.value;
+      flag = c.args.tree.flag;
       memory = c.args.memory.now;
     } in
-    subst (λ s. Reaches m c.args.plan.now c.take_step.new.places.open.items whole s c.take_step.new.memory)
+    subst (λ s. Reaches o m c.args.plan.now c.take_step.new.places.open.items whole s c.take_step.new.memory)
     c.in-Goes.is (c.in_ok-outcome.ensures.leads whole c.steps.invariant)
 
 pub steps-smaller : goal.steps-smaller
 steps-smaller g c =
     let m = g.D.Domain.meaning in
     let whole : Due _ = record {
-      tree = node_view c.args.node.now;
-      value = c.args.value;
-      flag = c.args.flag;
+      tree = node_view c.args.tree.node.now;
+      value = c.args.tree.value;
+      flag = c.args.tree.flag;
       memory = c.args.memory.now;
     } in
     subst (λ s. TakesFewer m (2 ^ 64) c.args.plan.now c.take_step.new.places.open.items s

@@ -14,7 +14,7 @@ tables_of-requires g c =
 pub returns-clause-solves : goal.returns-clause-solves
 returns-clause-solves g c =
     let sites = c.args.sites.now in
-    let tabled = rw c.into_entries-entries.ensures at c.in_ok-tables.ensures in
+    let tabled = rw c.into_entries-entries.ensures at c.in_ok-tables.ensures.tabled in
     let verdicts = rw c.deref.ensures.value at c.in_ok-number_held.ensures in
     tables_solve g.D.Domain.meaning (map site_view sites) (seen c.args.outcome) (length sites) c.in_ok-tables.tables.values.items c.in_ok-tables.tables.verdicts.items
     (sym (length-map sites site_view)) c.requires
@@ -23,7 +23,7 @@ returns-clause-solves g c =
 pub returns-clause-points : goal.returns-clause-points
 returns-clause-points g c =
     let sites = c.args.sites.now in
-    let tabled = rw c.into_entries-entries.ensures at c.in_ok-tables.ensures in
+    let tabled = rw c.into_entries-entries.ensures at c.in_ok-tables.ensures.tabled in
     let count = values_count g.D.Domain.meaning (map site_view sites) (seen c.args.outcome) (length sites) c.in_ok-tables.tables.values.items c.in_ok-tables.tables.verdicts.items
     (sym (length-map sites site_view)) c.requires
     tabled c.in_ok-take_held.field-0.items c.in_ok-take_held.ensures in
@@ -32,8 +32,11 @@ returns-clause-points g c =
 pub returns-clause-assertions : goal.returns-clause-assertions
 returns-clause-assertions g c =
     let sites = c.args.sites.now in
-    let tabled = rw c.into_entries-entries.ensures at c.in_ok-tables.ensures in
+    let tabled = rw c.into_entries-entries.ensures at c.in_ok-tables.ensures.tabled in
     let verdicts = rw c.deref.ensures.value at c.in_ok-number_held.ensures in
     verdicts_count g.D.Domain.meaning (map site_view sites) (seen c.args.outcome) (length sites) c.in_ok-tables.tables.values.items c.in_ok-tables.tables.verdicts.items
     (sym (length-map sites site_view)) c.requires
     tabled c.in_ok-number_held.field-0.items verdicts
+
+pub returns-clause-noted : goal.returns-clause-noted
+returns-clause-noted g c = rw c.into_entries-entries.ensures at c.in_ok-tables.ensures.noted

@@ -1,7 +1,8 @@
-use Rattle.std.proofs.Common.{map}
+use Rattle.std.proofs.Common.{◌≡◌, map}
 use Rattle.lra_outcomes.specs.Outcome.{entry_view}
-use Rattle.lra_iter.specs.Tables.{AreTabled}
+use Rattle.lra_iter.specs.Tables.{note_view, notes_in, AreTabled}
 use Rattle.lra_iter.proofs.tables.tables_of.Given as goal
 
 abbrev pub invariant-entries : goal.invariant-entries
-invariant-entries g l = AreTabled g.D.Domain.meaning l.count (map entry_view l.yielded) l.values.items l.verdicts.items
+invariant-entries g l = AreTabled g.D.Domain.meaning l.count (map entry_view l.yielded) l.values.items l.verdicts.items ×
+    (map note_view l.notes.items ≡ notes_in (map entry_view l.yielded))

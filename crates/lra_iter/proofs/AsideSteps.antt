@@ -1,0 +1,50 @@
+-- What is done beside a program's own operations is passed as it is defined.
+use Rattle.std.proofs.Common.{Vec, Global, map, ◌≡◌, ℕ, List, [], ◌∷◌, ◌++◌, Option, refl, sym, ap, subst, ◌∙◌}
+use Rattle.std.proofs.lemmas.List.{map-append}
+use Rattle.lra_domain.specs.Meaning.{Meaning}
+use Rattle.lra_domain.specs.declared.Exactness.{Exactness}
+use Rattle.lra_others.specs.Others.{Others}
+use Rattle.lra_operations.specs.declared.asides.Aside.TheVariants.{Entering, Noting}
+use Rattle.lra_operations.specs.Graph.{aside}
+use Rattle.lra_flow.specs.Plan.{Plan}
+use Rattle.lra_flow.specs.Pass.{Entry, given, Result, goes_on, noted}
+use Rattle.lra_flow.specs.Among.{admitted}
+use Rattle.lra_outcomes.specs.declared.outcome.Entry as entry
+use Rattle.lra_outcomes.specs.declared.outcome.Entry.TheVariants.{Given}
+use Rattle.lra_outcomes.specs.declared.outcome.Outcome.{Outcome}
+use Rattle.lra_outcomes.specs.Outcome.{ended, entry_view, seen, IsPassed}
+use Rattle.lra_outcomes.proofs.PassSteps.{going_on_fits}
+
+module _ {V : Type 0} (begun : Outcome V) (v : V) (f : Option ℕ)
+    (found : (u : V) (d : Option ℕ) → ended begun.found u d ≡ goes_on [] u d) (normal : begun.normal ≡ v) (flag : begun.flag ≡ f) where
+  -- nothing is found yet
+  pub begun_seen : seen begun ≡ goes_on [] v f
+  begun_seen = found begun.normal begun.flag ∙ ap (λ (x : V). goes_on [] x begun.flag) normal ∙ ap (λ (x : Option ℕ). goes_on [] v x) flag
+
+  -- and then what the variable got
+  pub gift_seen : (q place : ℕ) (u : V) (es : Vec (entry.Entry V) Global) → u ≡ begun.normal → es.items ≡ begun.found.entries.items ++ Given q place u ∷ [] →
+      seen (record begun { found = record begun.found { entries = es } }) ≡ goes_on (given q place v ∷ []) v f
+  gift_seen q place u es same more =
+      let none : map (entry_view {V = V}) begun.found.entries.items ≡ [] = ap (λ (x : Result V). x.entries) (found v f) in
+      let all : map (entry_view {V = V}) es.items ≡ given q place v ∷ [] =
+      ap (λ (xs : List (entry.Entry V)). map (entry_view {V = V}) xs) more
+      ∙ map-append (entry_view {V = V}) begun.found.entries.items (Given q place u ∷ [])
+      ∙ ap (λ (xs : List (Entry V)). xs ++ given q place u ∷ []) none ∙ ap (λ (x : V). given q place x ∷ []) (same ∙ normal) in
+      ap (λ (xs : List (Entry V)). record (seen begun) { entries = xs }) all
+      ∙ ap (λ (x : Result V). record x { entries = given q place v ∷ [] }) begun_seen
+
+module _ {V H : Type 0} (o : Others V) (m : Meaning V H) (set : Plan) (q : ℕ) (f : Option ℕ) (v : V) where
+  pub entering_passed : (w : V) (e : Exactness) (r : Result V) → admitted o m v e w → r ≡ goes_on [] w (noted q e f) →
+      IsPassed o m set (aside q Entering) f v r
+  entering_passed w e r admits is = subst (λ (x : Result V). IsPassed o m set (aside q Entering) f v x) (sym is) (record {
+    pass = (w, e, admits, refl);
+    dims = admits.1;
+    jumps = going_on_fits m (aside q Entering) (m.dims v) [] w (noted q e f);
+  })
+
+  pub noting_passed : (place : ℕ) (r : Result V) → r ≡ goes_on (given q place v ∷ []) v f → IsPassed o m set (aside q (Noting place)) f v r
+  noting_passed place r is = subst (λ (x : Result V). IsPassed o m set (aside q (Noting place)) f v x) (sym is) (record {
+    pass = refl;
+    dims = refl;
+    jumps = going_on_fits m (aside q (Noting place)) (m.dims v) (given q place v ∷ []) v f;
+  })

@@ -1,0 +1,18 @@
+-- Goals of `admit`: the value takes in what others may do.
+use Rattle.std.proofs.Common.{◌≡◌, ◌∙◌}
+use Rattle.lra_flow.specs.Pass.{noted}
+use Rattle.lra_outcomes.specs.Outcome.{seen}
+use Rattle.lra_iter.proofs.AsideSteps.{begun_seen, entering_passed}
+use Rattle.lra_iter.proofs.asides.admit.Goals as goal
+
+pub returns : goal.returns
+returns g c plan =
+    let new = c.apply.new.value in
+    let e = c.in_ok-exactness.exactness in
+    let begun = c.nothing_yet in
+    let flag : begun.result.flag ≡ noted c.args.point e c.args.flag =
+    ◌∙◌ {c = noted c.args.point e c.args.flag} begun.ensures.flag c.note-flag.ensures in
+    entering_passed (g.F.Disturb.others c.args.others.now) g.D.Domain.meaning plan c.args.point c.args.flag c.args.value
+    new e (seen begun.result)
+    (c.in_ok-exactness.ensures.admits, c.apply.ensures.dims, c.apply.ensures.capped)
+    (begun_seen begun.result new (noted c.args.point e c.args.flag) begun.ensures.found begun.ensures.normal flag)
