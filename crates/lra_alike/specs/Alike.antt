@@ -1,0 +1,35 @@
+-- A program's tree, and the same tree with what others do written into it: what is required of the one before it is
+-- passed holds of the other.
+use Rattle.std.specs.Prelude.{◌≡◌, ℕ, ◌≤◌, ◌↔◌, List, Option, Bool}
+use Rattle.lra_base.specs.declared.number_types.NumberType.{NumberType}
+use Rattle.lra_program.specs.Sites.{Site}
+use Rattle.lra_program.specs.Step.{Op}
+use Rattle.lra_operations.specs.Graph.{Exit, Node}
+use Rattle.lra_operations.specs.Asked.{asking_in}
+use Rattle.lra_flow.specs.Live.{live_after}
+use Rattle.lra_flow.specs.Opened.{opened}
+use Rattle.lra_flow.specs.Room.{most_live}
+use Rattle.lra_outcomes.specs.Fits.{JumpsWith, TreeFits}
+use Rattle.lra_iter.specs.Lives.{PointsHave}
+use Rattle.lra_iter.specs.Numbers.{IsNumbered}
+
+abbrev pub LiveAlike : Type 0
+LiveAlike = (n : ℕ) (g : Node) (k : ℕ) → live_after (opened n g) k ≡ live_after g k
+
+abbrev pub JumpsAlike : Type 0
+JumpsAlike = (n : ℕ) (g : Node) (k : ℕ) (j : Exit) (m : ℕ) → JumpsWith (opened n g) k j m ↔ JumpsWith g k j m
+
+-- begun with k variables
+abbrev pub FitsOpened : Type 0
+FitsOpened = (n : ℕ) (g : Node) (k : ℕ) → k ≤ most_live → TreeFits g k → TreeFits (opened n g) k
+
+abbrev pub NumberedOpened : Type 0
+NumberedOpened = (T : List Site) (n : ℕ) (g : Node) → IsNumbered T g → IsNumbered T (opened n g)
+
+abbrev pub PointsOpened : Type 0
+PointsOpened = (T : List Site) (n : ℕ) (g : Node) (k : ℕ) → TreeFits g k → PointsHave T g k →
+    PointsHave T (opened n g) k
+
+abbrev pub AsksAlike : Type 0
+AsksAlike = (asks : Op → Bool) (fresh : Option NumberType) (n : ℕ) (g : Node) →
+    asking_in asks fresh (opened n g) ≡ asking_in asks fresh g

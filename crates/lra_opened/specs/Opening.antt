@@ -1,0 +1,53 @@
+-- What a tree becomes that is being opened, by the places that are open in it.
+use Rattle.std.specs.Prelude.{ℕ, List, [], ◌∷◌, map, reverse}
+use Rattle.lra_program.specs.ProgramViews.{cond_view, expr_view}
+use Rattle.lra_operations.specs.declared.asides.Aside.TheVariants.{Entering}
+use Rattle.lra_operations.specs.declared.graph.Arm.{Arm}
+use Rattle.lra_operations.specs.declared.graph.Node.{Node}
+use Rattle.lra_operations.specs.Graph as graph
+use Rattle.lra_operations.specs.GraphViews.{arm_view, arms_before, arms_of, exit_view, node_view, row}
+use Rattle.lra_flow.specs.Opened.{entered, opened, opened_arms}
+use Rattle.lra_opened.specs.declared.places.Row as of_row
+use Rattle.lra_opened.specs.declared.places.Selection as of_select
+use Rattle.lra_opened.specs.declared.places.Next as next
+use Rattle.lra_opened.specs.declared.places.Next.TheVariants.{Opens, Gives, Selects}
+use Rattle.lra_opened.specs.declared.places.Place as place
+use Rattle.lra_opened.specs.declared.places.Place.TheVariants.{Row, Last, First, Second, Body, Catch, Arm as arm_place}
+
+-- the trees that are left in a row, the first of them last, and the row's last tree
+abbrev pub row_of_left : ℕ → List Node → Node → graph.Node
+row_of_left n left last = opened n (row (map node_view (reverse left)) (node_view last))
+
+abbrev pub arms_of_left : ℕ → List Arm → graph.Arms
+arms_of_left n left = opened_arms n (arms_of (map arm_view (reverse left)))
+
+-- a row, and a `switch`, of which something is opened and the rest is left
+abbrev pub row_whole : ℕ → of_row.Row → graph.Node
+row_whole n r = row (map node_view r.done.items) (row_of_left n r.left.items r.last.value)
+
+abbrev pub select_around : of_select.Selection → graph.Arms → graph.Node
+select_around s arms = graph.select s.point s.base (expr_view s.value) (arms_before (map arm_view s.done.items) arms)
+
+abbrev pub selection_whole : ℕ → of_select.Selection → graph.Node
+selection_whole n s = select_around s (arms_of_left n s.left.items)
+
+-- with this tree, which is opened, in the place
+abbrev pub around : ℕ → place.Place → graph.Node → graph.Node
+around n (Row r) g = row (map node_view r.done.items) (graph.seq g (row_of_left n r.left.items r.last.value))
+around n (Last done) g = row (map node_view done.items) g
+around n (First q base c b) g = graph.choose q base (cond_view c) g (opened n (node_view b.value))
+around n (Second q base c a) g = graph.choose q base (cond_view c) (node_view a.value) g
+around n (Body q base c) g = entered q (graph.iterate q base (cond_view c) (graph.seq g (graph.aside q Entering)))
+around n (Catch q k) g = graph.catch q (exit_view k) g
+around n (arm_place s) g = select_around s (graph.arm g (arms_of_left n s.left.items))
+
+-- of places in each other the outermost is the first
+abbrev pub all_around : ℕ → List place.Place → graph.Node → graph.Node
+all_around n [] g = g
+all_around n (p ∷ ps) g = around n p (all_around n ps g)
+
+-- what the next thing becomes
+abbrev pub standing : ℕ → next.Next → graph.Node
+standing n (Opens g) = opened n (node_view g)
+standing n (Gives g) = node_view g
+standing n (Selects s) = selection_whole n s
