@@ -12,3 +12,4 @@ mod SourceRunExamples
 mod WellFormedSourceExamples
 pub mod SiteExamples
 mod RefuseExamples
+mod ThreadExamples

@@ -6,3 +6,5 @@ pub mod LiveNames
 pub mod ShownNames
 pub mod LabelTable
 pub mod Refuse
+pub mod Threads
+pub mod RefuseThreads
