@@ -4,4 +4,4 @@
 
 mod listing;
 
-pub use listing::{Found, Outline, list, list_points, names_of_globals, number_of};
+pub use listing::{Found, Outline, list, list_points, list_verdicts, names_of_globals, number_of};

@@ -403,7 +403,7 @@ pub struct Found<'a> {
 }
 
 /// All verdicts, as a report lists them.
-fn list_verdicts(
+pub fn list_verdicts(
     alloc: Global,
     labels: &Labels,
     sites: &[Site],

@@ -21,6 +21,6 @@ pub use names::names_at;
 pub use part::Part;
 pub use path::{CallPlace, path_text};
 pub use refusal::refusal_text;
-pub use report::{Point, PointReport, Report, Verdict};
+pub use report::{Point, PointReport, Report, Verdict, count_proved, count_unknown};
 pub use verdict_kinds::{VERDICT_KINDS, VerdictKind};
-pub use writing::{push_counts, push_flag, text};
+pub use writing::{push_counts, push_flag, push_points, push_verdicts, text};

@@ -108,18 +108,32 @@ impl Drop for Report {
     }
 }
 
+/// How many of the verdicts count, and hold.
+pub fn count_proved(verdicts: &[Verdict]) -> usize
+    ensures { result ≡ count_by (λ v. is_proved (verdict_of v)) verdicts.now }
+{
+    verdicts.iter().filter(|v| v.is_proved()).count()
+}
+
+/// How many of the verdicts count, and are unknown.
+pub fn count_unknown(verdicts: &[Verdict]) -> usize
+    ensures { result ≡ count_by (λ v. is_unknown (verdict_of v)) verdicts.now }
+{
+    verdicts.iter().filter(|v| v.is_unknown()).count()
+}
+
 impl Report {
     /// How many verdicts that count hold.
     pub fn proved_count(&self) -> usize
         ensures { result ≡ count_by (λ v. is_proved (verdict_of v)) self.now.verdicts.items }
     {
-        self.verdicts.iter().filter(|v| v.is_proved()).count()
+        count_proved(&self.verdicts)
     }
 
     /// How many that count are unknown.
     pub fn unknown_count(&self) -> usize
         ensures { result ≡ count_by (λ v. is_unknown (verdict_of v)) self.now.verdicts.items }
     {
-        self.verdicts.iter().filter(|v| v.is_unknown()).count()
+        count_unknown(&self.verdicts)
     }
 }

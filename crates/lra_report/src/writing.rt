@@ -8,7 +8,7 @@ ghost use Rattle.lra_report.specs.ReportText as written;
 ghost use Rattle.lra_report.specs.View.{point_report_of, verdict_of, report_of};
 
 use crate::part::Part;
-use crate::report::{PointReport, Report, Verdict};
+use crate::report::{PointReport, Report, Verdict, count_proved, count_unknown};
 use lra_base::Place;
 use lra_options::{FLAG_OPTIONS, FlagOption, NUMBER_OPTIONS, NumberOption, Options};
 use lra_show::{Names, push_generators, push_rows};
@@ -115,7 +115,7 @@ fn push_verdict(text: &mut String, verdict: &Verdict) -> Result<(), AllocError>
 }
 
 /// Appends the lines of the points.
-pub(crate) fn push_points(
+pub fn push_points(
     text: &mut String,
     alloc: Global,
     points: &[PointReport],
@@ -130,7 +130,7 @@ pub(crate) fn push_points(
 }
 
 /// Appends the lines of the verdicts.
-fn push_verdicts(text: &mut String, verdicts: &[Verdict]) -> Result<(), AllocError>
+pub fn push_verdicts(text: &mut String, verdicts: &[Verdict]) -> Result<(), AllocError>
     ensures { OnOk result (string_bytes text.new ≡ string_bytes text.old ++
         flat_map written.verdict_text (map verdict_of verdicts.now)) }
 {
@@ -218,12 +218,12 @@ pub fn push_flag(text: &mut String, flagged: Option<u32>) -> Result<(), AllocErr
 }
 
 /// Appends the last line, which counts the verdicts.
-pub fn push_counts(text: &mut String, report: &Report) -> Result<(), AllocError>
+pub fn push_counts(text: &mut String, verdicts: &[Verdict]) -> Result<(), AllocError>
     ensures { OnOk result (string_bytes text.new ≡ string_bytes text.old ++
-        written.counts_line (report_of report.now).verdicts) }
+        written.counts_line (map verdict_of verdicts.now)) }
 {
-    let proved = report.proved_count();
-    let unknown = report.unknown_count();
+    let proved = count_proved(verdicts);
+    let unknown = count_unknown(verdicts);
     writeln!(text, "verdicts proved {proved} unknown {unknown}")
 }
 
@@ -236,6 +236,6 @@ pub fn text(alloc: Global, report: &Report) -> Result<String, AllocError>
     push_flag(&mut text, report.flagged)?;
     push_points(&mut text, alloc, report.points.as_slice())?;
     push_verdicts(&mut text, report.verdicts.as_slice())?;
-    push_counts(&mut text, report)?;
+    push_counts(&mut text, report.verdicts.as_slice())?;
     Ok(text)
 }

@@ -1,5 +1,6 @@
 -- Such sources have no fault of names, and no call.
-use Rattle.std.proofs.Common.{◌≡◌, ℕ, List, [], ◌∷◌, ◌++◌, refl, sym, ap, ◌∙◌, map}
+use Rattle.std.proofs.Common.{◌≡◌, ℕ, List, [], ◌∷◌, ◌++◌, refl, sym, ap, ◌∙◌, map, length, arith}
+use Rattle.std.proofs.lemmas.List.{length-append}
 use Rattle.lra_base.specs.declared.refusals.Place.{Place}
 use Rattle.lra_tree.specs.declared.trees.Identifier.{Identifier}
 use Rattle.lra_tree.specs.Trees.{ItemsTree}
@@ -58,9 +59,8 @@ no_calls : (source : List ℕ) (ls : List Line) → calls_in (functions_of (file
 no_calls source ls = ap (λ (cs : List Identifier). map (λ (c : Identifier). ((main_tree ls).name.word, c)) cs ++ [])
     (lines_calls ls _ _ (main_tree ls).end)
 
-none_first : (before after : List (List ℕ × Identifier)) (c : List ℕ × Identifier) → [] ≡ before ++ c ∷ after → ⊥
-none_first [] after c e = cc
-none_first (b ∷ before) after c e = cc
-
 pub not_recursive : (source : List ℕ) (ls : List Line) → NotRecursive (file_tree source ls)
-not_recursive source ls at r = none_first r.0 r.1 r.2 (sym (no_calls source ls) ∙ r.3)
+not_recursive source ls at r =
+    let none = ap length (sym (no_calls source ls) ∙ r.3) in
+    let more = length-append r.0 (r.2 ∷ r.1) in
+    omega (arith, none, more)

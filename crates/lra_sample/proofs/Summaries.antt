@@ -3,7 +3,8 @@ use Rattle.std.proofs.Common.{◌≡◌, ℕ, List, [], ◌∷◌, ◌++◌, len
 use Rattle.std.proofs.lemmas.List.{length-map}
 use Rattle.lra_report.specs.Report.{Report}
 use Rattle.lra_report.specs.ReportText.{flag_text, counts_line}
-use Rattle.lra_report.specs.View.{point_report_of}
+use Rattle.lra_report.specs.declared.report.Verdict.{Verdict}
+use Rattle.lra_report.specs.View.{point_report_of, verdict_of}
 use Rattle.lra_report.specs.declared.report.PointReport.{PointReport}
 use Rattle.lra_sample.specs.Sample.{sample_source}
 use Rattle.lra_sample.specs.Summary.{sizes_text, summary_text}
@@ -25,3 +26,8 @@ summary_lines seed size bytes count points report source first second third four
     counts ∙ ap (λ t. t ++ counts_line report.verdicts) (flag ∙ ap (λ t. t ++ flag_text report.flagged)
     (sizes ∙ ap (λ t. t ++ sizes_text seed size bytes count) none ∙ ap (λ n. sizes_text seed size n count) (long ∙ ap length made) ∙ ap (sizes_text seed size (length (sample_source seed size)))
     (counted ∙ sym (ap length listed ∙ length-map points point_report_of))))
+
+-- the verdicts that are counted are these
+pub counted_verdicts : (old new : List ℕ) (vs ws : List Verdict) → new ≡ old ++ counts_line (map verdict_of ws) → ws ≡ vs
+    → new ≡ old ++ counts_line (map verdict_of vs)
+counted_verdicts old new vs ws is same = is ∙ ap (λ (xs : List Verdict). old ++ counts_line (map verdict_of xs)) same

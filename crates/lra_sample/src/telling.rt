@@ -39,6 +39,6 @@ pub fn summary(
     let points = report.points.len();
     push_sizes(&mut text, seed, size, bytes, points)?;
     push_flag(&mut text, report.flagged)?;
-    push_counts(&mut text, report)?;
+    push_counts(&mut text, &report.verdicts)?;
     Ok(text)
 }
