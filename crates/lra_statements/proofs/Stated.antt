@@ -1,5 +1,5 @@
 -- Readers of statements as the code takes them.
-use Rattle.std.proofs.Common.{◌≡◌, ℕ, zero, suc, ◌-◌, ◌<◌, Bool, true, false, cond, List, [], ◌∷◌, ◌++◌, length, map, Ok, Err, refl, sym, ap, subst, ◌∙◌}
+use Rattle.std.proofs.Common.{◌≡◌, ℕ, zero, suc, ◌-◌, ◌<◌, true, false, List, [], ◌∷◌, ◌++◌, length, map, Ok, Err, refl, sym, ap, subst, ◌∙◌}
 use Rattle.std.proofs.Common.{arith, rules}
 use Rattle.std.proofs.lemmas.List.{map_push}
 use Rattle.lra_base.specs.declared.refusals.Place.{Place}
@@ -26,7 +26,7 @@ use Rattle.lra_readers.specs.Tests.{first, is_mark}
 use Rattle.lra_readers.specs.Reading.{Text, Read, Parse, stop, ◌>>=◌, map_read, expect, expect_at, list_step, GivesErr}
 use Rattle.lra_readers.specs.Statements.{declaration_at, ItemTree, declared, stated, put, items_from, begins_type, begins_item, stated_of, body_of, block_from, too_deep, levels, branch_at, block_at, simple_at}
 use Rattle.lra_readers.specs.Statements.{stated_at, item_at, items_at}
-use Rattle.lra_phrases.proofs.Turning.{Left, turn_on, turn_err, turn_off}
+use Rattle.lra_phrases.proofs.Turning.{Left, on_side, turn_on, turn_err, turn_off}
 
 pub branch_zero : (d : ℕ) (T : Text) → d ≡ 0 → branch_at d T ≡ too_deep T
 unfolding levels
@@ -75,10 +75,6 @@ thrice : {A B C D : Type 0} (r : Read A) (f : A → B) (g : B → C) (h : C → 
     (r >>= (λ x. Ok (h (g (f x.0)), x.1)))
 thrice (Ok x) f g h = refl
 thrice (Err e) f g h = refl
-
-on_side : {A : Type 0} (b : Bool) (x y : A) → true ≡ b → cond b x y ≡ x
-on_side true x y e = refl
-on_side false x y e = absurd cc
 
 pub item_declared : (d : ℕ) (T : Text) → true ≡ begins_type (first T) → map_read put (item_at d) T ≡ map_read (λ (x : DeclarationTree) (t : ItemsTree). declaration x t) (declaration_at d) T
 item_declared d T e =
