@@ -17,13 +17,13 @@ use Rattle.lra_program.specs.Accesses.{op_accesses, op_accesses_any, OpStrays}
 use Rattle.lra_program.proofs.TypeLaws.{overflowing_compute}
 use Rattle.lra_program.proofs.AccessLaws.{straying_access}
 use Rattle.lra_program.specs.Sites.{Site}
-use Rattle.lra_operations.specs.Graph.{returned, Node, point, act, seq, choose, catch, Arms, no_arms, entry, arm}
+use Rattle.lra_operations.specs.Graph.{Exit, Node, seq, choose, iterate, catch, select, Arms, no_arms, entry, arm}
 use Rattle.lra_base.specs.declared.case_labels.CaseLabel.{CaseLabel}
 use Rattle.lra_base.specs.CaseLabels.{are_alike}
 use Rattle.lra_operations.proofs.ArmRows.{arms_row, row_behind}
 use Rattle.lra_operations.specs.Asked.{Asked, asking_of, asking_in, asking_in_arms, fresh_behind, FreshMeets, AskedMeets}
-use Rattle.lra_operations.specs.Inlined.{Spot, Declares, Gives, Calls, as_fresh, as_given, as_value, as_result, is_call, loop_node, switch_node, callee_node}
-use Rattle.lra_agreement.proofs.Shapes.{given, tail_node}
+use Rattle.lra_operations.specs.Inlined.{Spot, Declares, Gives, Calls, as_fresh, as_given, as_value, as_result, is_call, loop_node, switch_node}
+use Rattle.lra_agreement.proofs.Shapes.{given}
 
 -- a question about operations, and of which it is asked: it holds of those alone
 pub record Question : Type 1 where
@@ -109,13 +109,6 @@ module _ (Q : Question) where
     pub asks_false : AsksAs h (choose n base c g h)
     asks_false fresh q s x = asks_right (tested ++ all_in None g) (all_in None h) q s (x None)
 
-    -- a loop's body, and its step
-    pub asks_body : AsksAs g (loop_node n base c g h)
-    asks_body fresh q s x = asks_right tested (all_in None g ++ all_in None h) q s (asks_left (all_in None g) (all_in None h) q s (x None))
-
-    pub asks_step : AsksAs h (loop_node n base c g h)
-    asks_step fresh q s x = asks_right tested (all_in None g ++ all_in None h) q s (asks_right (all_in None g) (all_in None h) q s (x None))
-
     -- and the condition
     pub asks_condition : (s : State) → Q.holds (test base c true) s → Asks (all_in None (choose n base c g h)) n s
     asks_condition s over = asks_left (tested ++ all_in None g) (all_in None h) n s
@@ -123,6 +116,12 @@ module _ (Q : Question) where
 
     pub asks_loop : (fresh : Option NumberType) (s : State) → Q.holds (test base c true) s → Asks (all_in fresh (loop_node n base c g h)) n s
     asks_loop fresh s over = asks_left tested (all_in None g ++ all_in None h) n s (asks_own n (test base c true) s over)
+
+  pub asks_round : (n base : ℕ) (c : Cond) (g : Node) → AsksAs g (iterate n base c g)
+  asks_round n base c g fresh q s x = asks_right (own n None (test base c true)) (all_in None g) q s (x None)
+
+  pub asks_caught : (n : ℕ) (j : Exit) (g : Node) → AsksAs g (catch n j g)
+  asks_caught n j g fresh q s x = x None
 
   -- the arms of a `switch` ask what their row does
   asking_row : (fresh : Option NumberType) (arms : Arms) → all_in fresh (arms_row arms) ≡ all_in_arms fresh arms
@@ -145,30 +144,12 @@ module _ (Q : Question) where
   asks_behind l (arm a arms) fresh q s x = asks_right (all_in fresh a) (all_in_arms (fresh_behind fresh a) arms) q s
       (asks_behind l arms (fresh_behind fresh a) q s x)
 
-  pub asks_selected : (n base : ℕ) (e : Expr) (arms : Arms) (l : CaseLabel) → AsksAs (row_behind l arms) (switch_node n base e arms)
+  pub asks_selected : (n base : ℕ) (e : Expr) (arms : Arms) (l : CaseLabel) → AsksAs (row_behind l arms) (select n base e arms)
   asks_selected n base e arms l fresh q s x = asks_right (own n None (give base nobody e)) (all_in_arms None arms) q s (asks_behind l arms None q s x)
 
   -- and its own value
   pub asks_value : (n base : ℕ) (e : Expr) (arms : Arms) (s : State) → Q.holds (give base nobody e) s → Asks (all_in None (switch_node n base e arms)) n s
   asks_value n base e arms s over = asks_left (own n None (give base nobody e)) (all_in_arms None arms) n s (asks_own n (give base nobody e) s over)
-
-  -- a called function's body, and its end; the operation gives the arguments
-  module _ (spot : Spot) (r : ℕ) (x : Receiver) (op : Op) (params : ℕ) (g : Node) where
-    abbrev call_tree : Node
-    call_tree = callee_node spot.next r spot.live x op params g
-
-    abbrev tail : Node
-    tail = tail_node r spot.live x params
-
-    abbrev behind_op : Node
-    behind_op = catch spot.next returned (seq g tail)
-
-    pub asks_callee : AsksAs g call_tree
-    asks_callee fresh q s y = asks_second (act spot.next op) behind_op fresh q s (λ before. asks_first g tail None q s y)
-
-    pub asks_callee_end : AsksAs (point r) call_tree
-    asks_callee_end fresh q s y = asks_second (act spot.next op) behind_op fresh q s
-        (λ before. asks_second g tail None q s (λ again. asks_left [] _ q s (y again)))
 
   module _ {P : Program} {T : List Site} where
     -- what a call's operation does in the state m that the one on top becomes by a new variable, where one is made

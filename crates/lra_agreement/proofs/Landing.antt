@@ -1,13 +1,30 @@
 -- Where a jump leads on a list of items, and what a step must have done.
 use Rattle.std.proofs.Common.{◌≡◌, ℕ, List, ◌∷◌, Option, Some, None, Bool, true, false, ◌⊎◌, inl, inr, refl, sym, ap}
+use Rattle.std.specs.Prelude.{⊤, []}
 use Rattle.std.proofs.lemmas.Option.{same_Some, none-some}
 use Rattle.lra_program.specs.Value.{Drawn}
-use Rattle.lra_program.specs.Step.{State, tested, Here, Back, Item, turn, Config, Outside, to_outside, Turn, to_turn, Called, to_mark, go, go_by, go_on}
+use Rattle.lra_program.specs.Step.{State, tested, Here, Back, Item, run, declare, declare_array, all, end_of, turn, cases, end_switch, cut, mark, leave_call}
+use Rattle.lra_program.specs.Step.{Config, Outside, to_outside, Turn, to_turn, Called, to_mark, go, go_by, go_on}
 use Rattle.lra_operations.specs.Graph.{Exit, broken, continued, returned}
 use Rattle.lra_operations.specs.Inlined.{Frame}
 
 abbrev pub config : List Item → Here → State → Config
 config k h s = record { items = k; here = h; state = s }
+
+-- no function's end is on top
+abbrev pub IsBare : List Item → Type 0
+IsBare [] = ⊤
+IsBare (run a ∷ k) = ⊤
+IsBare (declare d ∷ k) = ⊤
+IsBare (declare_array at a ∷ k) = ⊤
+IsBare (all a ∷ k) = ⊤
+IsBare (end_of at n ∷ k) = ⊤
+IsBare (turn step again n ∷ k) = ⊤
+IsBare (cases cs ∷ k) = ⊤
+IsBare (end_switch n ∷ k) = ⊤
+IsBare (cut n ∷ k) = ⊤
+IsBare (mark b ∷ k) = ⊥
+IsBare (leave_call ∷ k) = ⊤
 
 abbrev pub land_broken : Option Outside → Here → State → Option Config
 land_broken None h s = None

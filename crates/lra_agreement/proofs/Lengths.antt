@@ -6,7 +6,6 @@ use Rattle.lra_base.specs.declared.case_labels.CaseLabel.{CaseLabel}
 use Rattle.lra_base.specs.CaseLabels.{are_alike}
 use Rattle.lra_program.specs.Program.{Expr, Element, Cond, Call, Rvalue, Stmt, Cases, BlockItems, Function, Program}
 use Rattle.lra_base.specs.declared.number_types.NumberType.{NumberType}
-use Rattle.lra_base.specs.declared.refusals.Place.{Place}
 use Rattle.lra_program.specs.declared.arrays.Array.{Array}
 use Rattle.lra_program.specs.Arrays.{place_among}
 use Rattle.lra_program.specs.declared.receivers.Cell.{Cell}
@@ -16,9 +15,10 @@ use Rattle.lra_program.specs.declared.receivers.Receiver.{Receiver}
 use Rattle.lra_program.specs.Receivers.{waiting_in, accepts}
 use Rattle.lra_program.specs.Value.{◌>>=◌, number, draw, draws_of, Scene, Argument, value_of, values_of, truth_of, Drawn}
 use Rattle.lra_program.proofs.TypeLaws.{bind_some}
+use Rattle.lra_program.proofs.StepLaws.{is_kept, store_waiting}
 use Rattle.lra_program.proofs.GivenArguments.{given_width}
 use Rattle.lra_program.specs.Step.{State, scene_at, Op, append, fill, give, give_element, give_any, push, push_for, keep, test, run_op, run_any, drawn_for}
-use Rattle.lra_program.specs.Step.{put_waiting, put_in, put, receive, pushed, kept_if, filled, aim, tested, Back}
+use Rattle.lra_program.specs.Step.{put_in, put, receive, pushed, filled, aim, tested, Back}
 use Rattle.lra_program.specs.declared.program.GlobalVariable.{GlobalVariable}
 use Rattle.lra_program.specs.Run.{Point, begun}
 use Rattle.lra_program.specs.Trails.{Trail}
@@ -39,17 +39,6 @@ use Rattle.lra_agreement.proofs.Shapes.{loop_inv}
 pub begun_length : (P : Program) (draws : List ℤ) → length (begun P draws).store ≡ length P.globals
 begun_length P draws = length-map P.globals (λ (x : GlobalVariable). x.value)
 
-length_kept_if : (b d : Bool) (s t : State) → kept_if b d s ≡ Some t → t ≡ s
-length_kept_if true true s t e = sym (same_Some s t e)
-length_kept_if false false s t e = sym (same_Some s t e)
-length_kept_if true false s t e = absurd (none-some t e)
-length_kept_if false true s t e = absurd (none-some t e)
-
--- what an element gets leaves the store as it is
-store_waiting : (p : Place) (z : ℤ) (ks : List ℕ) (s : State) → (put_waiting p z ks s).store ≡ s.store
-store_waiting p z [] s = refl
-store_waiting p z (k ∷ ks) s = refl
-
 length_put_in : (c : Cell) (z : ℤ) (s : State) → length (put_in c z s).store ≡ length s.store
 length_put_in (Variable k) z s = length-set s.store k z
 length_put_in (Waiting p) z s = ap length (store_waiting p z s.waiting s)
@@ -62,7 +51,7 @@ pub length_given : (x : Receiver) (s : State) (v : Drawn ℤ) (t : State) → re
 length_given x s None t e = absurd (none-some t e)
 length_given x s (Some r) t e =
     let there : State = record s { draws = r.1 } in
-    ap (λ (u : State). length u.store) (length_kept_if true (accepts x r.0) (put x.target r.0 there) t e) ∙ length_put x.target r.0 there
+    ap (λ (u : State). length u.store) (is_kept true (accepts x r.0) (put x.target r.0 there) t e) ∙ length_put x.target r.0 there
 
 pub length_any : (x : Receiver) (s t : State) → run_any x s ≡ Some t → length t.store ≡ length s.store
 length_any x s t e = by x.target e
@@ -73,7 +62,7 @@ length_any x s t e = by x.target e
 
 store_tested : (b : Bool) (s : State) (v : Drawn Bool) (t : State) → tested b s v ≡ Some t → t.store ≡ s.store
 store_tested b s None t e = absurd (none-some t e)
-store_tested b s (Some r) t e = ap (λ (u : State). u.store) (length_kept_if b r.0 _ t e)
+store_tested b s (Some r) t e = ap (λ (u : State). u.store) (is_kept b r.0 _ t e)
 
 pub length_test : (base : ℕ) (c : Cond) (b : Bool) (s t : State) → run_op (test base c b) s ≡ Some t → length t.store ≡ length s.store
 length_test base c b s t e = ap length (store_tested b s (truth_of c (scene_at base s) s.draws) t e)

@@ -1,11 +1,12 @@
 -- What runs of trees are made of, and how long stores are.
 pub mod Shapes
-mod Selecting
+pub mod Selecting
 pub mod Lengths
 -- Runs of programs against runs of trees, from programs to trees and back.
 pub mod Landing
 pub mod Asking
 pub mod Split
+pub mod Stops
 pub mod Does
 -- Whole programs.
 pub mod Reached

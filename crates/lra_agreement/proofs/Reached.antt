@@ -1,4 +1,5 @@
--- What a run of a whole program comes to, its tree comes to, on the same trail.
+-- What is sought where a run of a whole program stands is found in its tree; so what the run comes to, its tree comes to,
+-- on the same trail.
 use Rattle.std.proofs.Common.{◌≡◌, ℕ, zero, suc, ℤ, List, [], ◌∷◌, length, Some, false, refl, arith}
 use Rattle.std.proofs.lemmas.Option.{none-some}
 use Rattle.lra_program.specs.Program.{Program}
@@ -13,39 +14,48 @@ use Rattle.lra_operations.specs.Agree.{IsGraph}
 use Rattle.lra_agreement.proofs.Lengths.{begun_length, length_all}
 use Rattle.lra_agreement.proofs.Landing.{config, go_some}
 use Rattle.lra_agreement.proofs.Asking.{Question}
-use Rattle.lra_agreement.proofs.Split.{trail, Hit, Splits, hits, ended, jumped, all_below, hit_seq, hit_then, hit_there, enters, plain}
+use Rattle.lra_agreement.proofs.Split.{trail, Splits, hits, ended, jumped, all_below, enters, plain, IsSought}
+use Rattle.lra_agreement.proofs.Stops.{Hit, stops}
 
-module _ (may : State → State → Type 0) (keeps : KeepsWidth may) (Q : Question) where
-  module _ (P : Program) (T : List Site) (c : Config) (zs : List (Met Point)) (p : ℕ) (on : label_on c.items ≡ Some p) (body : Node) (last live : ℕ)
-      (d : InlAll P T (main_spot P) P.main.body body live last) (has : Has T (move (main_spot P) live last) P.main.end) where
-    -- main's end is there, or nothing follows it
-    at_end : (m : Trail Point) (n : ℕ) → length m.state.store ≡ live → Walks may P n (config (end_of P.main.end (length P.globals) ∷ []) (main_frame P).here m.state) m.met c zs
-        → Hit may Q P T c zs p (point last) m
-    at_end m zero l t =
-        hit_there may Q P T c zs p (move (main_spot P) live last) P.main.end false (end_of P.main.end (length P.globals) ∷ []) m (point last) on has l refl
-        (refl, refl) (λ b w z. absurd z) (λ over fresh. absurd over) t
-    at_end m (suc n) l t =
-        let x = enters may keeps Q P T c zs p on (end_of P.main.end (length P.globals) ∷ []) (move (main_spot P) live last) P.main.end false n m has l refl t in
-        let y = go_some [] (main_frame P).here (run_op (keep (length P.globals)) x.past.state) x.goal x.step in
-        let z = plain may keeps Q P T c zs p on (config [] (main_frame P).here y.0) x.past.met n refl (rw y.2 x.rest) in
-        absurd (none-some z.1 z.3)
+module _ (may : State → State → Type 0) (keeps : KeepsWidth may) (P : Program) (T : List Site) (c : Config) (zs : List (Met Point)) (p : ℕ)
+    (on : label_on c.items ≡ Some p) (H : Node → Trail Point → Type 0) (F : IsSought may P T c zs H) (body : Node) (last live : ℕ)
+    (d : InlAll P T (main_spot P) P.main.body body live last) (has : Has T (move (main_spot P) live last) P.main.end) where
+  -- main's end is there, or nothing follows it
+  at_end : (m : Trail Point) (n : ℕ) → length m.state.store ≡ live
+      → Walks may P n (config (end_of P.main.end (length P.globals) ∷ []) (main_frame P).here m.state) m.met c zs
+      → H (point last) m
+  at_end m zero l t = F.main_end (move (main_spot P) live last) (length P.globals) P.main.end has m l t
+  at_end m (suc n) l t =
+      let x = enters may keeps P T c zs p on H F (end_of P.main.end (length P.globals) ∷ []) (move (main_spot P) live last) P.main.end false n m has l refl t in
+      let y = go_some [] (main_frame P).here (run_op (keep (length P.globals)) x.past.state) x.goal x.step in
+      let z = plain may keeps P T c zs p on H F (config [] (main_frame P).here y.0) x.past.met n refl (rw y.2 x.rest) in
+      absurd (none-some z.1 z.3)
 
-    whole : (a : Trail Point) (n : ℕ) → length a.state.store ≡ length P.globals
-        → Splits may keeps Q P T c zs p on (main_frame P).here (end_of P.main.end (length P.globals) ∷ []) n body a
-        → Hit may Q P T c zs p (seq body (point last)) a
-    whole a n l (hits x) = hit_seq may Q P T c zs p body (point last) a x
-    whole a n l (ended j m i e t) = hit_then may Q P T c zs p body (point last) a m e (at_end m j ((length_all (point_at T) may keeps d).ends a m _ l e) t)
-    whole a n l (jumped j broken m e i x b t) = absurd (none-some e b)
-    whole a n l (jumped j continued m e i x b t) = absurd (none-some e b)
-    whole a n l (jumped j returned m e i x b t) = absurd (none-some e b)
+  whole : (a : Trail Point) (n : ℕ) → length a.state.store ≡ length P.globals
+      → Splits may keeps P T c zs p on H F (main_frame P).here (end_of P.main.end (length P.globals) ∷ []) n body a → H (seq body (point last)) a
+  whole a n l (hits x) = F.closed.first body (point last) a x
+  whole a n l (ended j m i e t) = F.closed.second body (point last) a m e (at_end m j ((length_all (point_at T) may keeps d).ends a m _ l e) t)
+  whole a n l (jumped j broken m e i x b t) = absurd (none-some e b)
+  whole a n l (jumped j continued m e i x b t) = absurd (none-some e b)
+  whole a n l (jumped j returned m e i x b t) = absurd (none-some e b)
 
-  -- the tree comes to each point at which a run stands, and fails where the run fails
-  pub reached : (P : Program) (g : Node) → IsGraph P g → (c : Config) (zs : List (Met Point)) (p : Point) (draws : List ℤ) (n : ℕ) → Walks may P n (start P draws) [] c zs → IsOn c p
-      → Hit may Q P (sites_of P) c zs p.label g (trail (begun P draws) [])
-  reached P g is c zs p draws n w on =
-      let cut = (all_below may keeps Q P (sites_of P) c zs p.label on.label (suc n)).every (main_spot P) P.main.body is.body is.live is.last is.inlined
+module _ (may : State → State → Type 0) (keeps : KeepsWidth may) where
+  -- what is sought is found
+  pub found : (P : Program) (g : Node) → IsGraph P g → (c : Config) (zs : List (Met Point)) (p : ℕ) (draws : List ℤ) (n : ℕ)
+      → Walks may P n (start P draws) [] c zs → label_on c.items ≡ Some p
+      → (H : Node → Trail Point → Type 0) → IsSought may P (sites_of P) c zs H → H g (trail (begun P draws) [])
+  found P g is c zs p draws n w on H F =
+      let cut = (all_below may keeps P (sites_of P) c zs p on H F (suc n)).every (main_spot P) P.main.body is.body is.live is.last is.inlined
       (end_of P.main.end (length P.globals) ∷ []) (trail (begun P draws) []) n
       (record { breaks = λ m e. absurd (none-some m e); continues = λ m e. absurd (none-some m e); backs = refl }) (begun_length P draws)
       (omega arith) w in
-      rw is.parts (whole P (sites_of P) c zs p.label on.label is.body is.last is.live is.inlined is.ends (trail (begun P draws) []) n
+      rw is.parts (whole may keeps P (sites_of P) c zs p on H F is.body is.last is.live is.inlined is.ends (trail (begun P draws) []) n
       (begun_length P draws) cut)
+
+  -- the tree comes to each point at which a run stands, and fails where the run fails
+  module _ (Q : Question) where
+    pub reached : (P : Program) (g : Node) → IsGraph P g → (c : Config) (zs : List (Met Point)) (p : Point) (draws : List ℤ) (n : ℕ)
+        → Walks may P n (start P draws) [] c zs → IsOn c p
+        → Hit may Q P (sites_of P) c zs p.label g (trail (begun P draws) [])
+    reached P g is c zs p draws n w on = found P g is c zs p.label draws n w on.label (Hit may Q P (sites_of P) c zs p.label)
+        (stops may Q P (sites_of P) c zs p.label on.label)

@@ -1,5 +1,6 @@
--- A run that comes to a point, cut at the statement on top: the point is inside, or the statement ends or jumps before.
-use Rattle.std.proofs.Common.{◌≡◌, ◌≢◌, ℕ, ℤ, zero, suc, ◌+◌, ◌<◌, ◌≤◌, List, ◌∷◌, length, Option, Some, None, Bool, true, false, ◌⊎◌, inl, inr, refl}
+-- A run that comes to a point, cut at the statement on top: what is sought there is inside, or the statement ends or
+-- jumps before.
+use Rattle.std.proofs.Common.{◌≡◌, ℕ, ℤ, zero, suc, ◌+◌, ◌<◌, ◌≤◌, List, [], ◌∷◌, length, Option, Some, None, Bool, true, false, ◌⊎◌, inl, inr, refl}
 use Rattle.std.proofs.Common.{sym, ap, ◌∙◌, subst, slice_get, arith}
 use Rattle.std.proofs.lemmas.Option.{same_Some, none-some}
 use Rattle.std.specs.Prelude.{cond}
@@ -11,7 +12,6 @@ use Rattle.lra_program.specs.Program.{Expr, switch, Cases, no_cases, labelled, s
 use Rattle.lra_program.specs.Step.{cases as cases_item, end_switch, behind_label, chosen, do_switch}
 use Rattle.lra_program.specs.Value.{Drawn, value_of}
 use Rattle.lra_operations.proofs.ArmRows.{arms_row, row_behind, behind_of_row}
-use Rattle.lra_agreement.proofs.Selecting.{entries_are}
 use Rattle.lra_program.specs.Program.{no_more, declaration, array, statement, Function, Program}
 use Rattle.lra_program.specs.Value.{index_of, Argument, truth_of}
 use Rattle.lra_program.specs.declared.arrays.Array.{Array}
@@ -22,11 +22,10 @@ use Rattle.lra_program.specs.declared.receivers.Receiver.{Receiver}
 use Rattle.lra_program.specs.Receivers.{variable_at, waiting_in, nobody}
 use Rattle.lra_program.specs.Step.{scene_at, to_mark, behind_main, receiver_of, go, enter_by, do_rvalue, do_leave, do_break, do_continue, do_declare, next}
 use Rattle.lra_program.specs.Step.{next_at}
-use Rattle.lra_program.specs.Run.{label_on, Point, IsFailing}
+use Rattle.lra_program.specs.Run.{label_on, Point}
 use Rattle.lra_program.specs.Trails.{Met, passes, Trail, met_on, Becomes, Walks}
-use Rattle.lra_program.specs.Asks.{TopAsks}
-use Rattle.lra_operations.specs.Graph.{Exit, broken, continued, returned, Node, point, act, check, seq, choose, leave, Arms, no_arms}
-use Rattle.lra_operations.specs.Trails.{Stop, by_jump, to_point, to_failure, Outcome, to_end, stopped, Goes, ArmsGo, Finds, Tests, Performs, Passes}
+use Rattle.lra_operations.specs.Graph.{Exit, broken, continued, returned, Node, point, act, check, seq, choose, catch, iterate, leave, select, Arms, no_arms}
+use Rattle.lra_operations.specs.Trails.{by_jump, Outcome, to_end, stopped, Goes, ArmsGo, Finds, Tests, Performs, Passes}
 use Rattle.lra_operations.specs.TrailsAgree.{KeepsWidth, point_at, point_or_none}
 use Rattle.lra_program.specs.Sites.{Site}
 use Rattle.lra_operations.specs.Inlined.{Frame, Spot, move, at_point, within, into_callee, Has, HasSite, callee, Inl, InlAll, Declares, Loops, Gives, Calls}
@@ -34,14 +33,14 @@ use Rattle.lra_operations.specs.Inlined.{as_nothing, as_block, as_absent, as_ass
 use Rattle.lra_operations.specs.Inlined.{as_return_value, as_return_call, as_end, as_end_value, as_end_call, as_assert, as_assume, as_switch, as_no_cases}
 use Rattle.lra_operations.specs.Inlined.{as_labelled, as_stated, InlCases, among_cases, switch_node, as_none, as_declaration, as_statement, as_fresh, as_given}
 use Rattle.lra_operations.specs.Inlined.{is_loop, as_value, as_result, is_call, as_array, as_write, as_write_call, loop_node, callee_node, return_node}
-use Rattle.lra_agreement.proofs.Shapes.{inner, given, width, call_ends, Round, EndsBodyRound, loop_join, loop_at, loop_done, loop_broken, loop_left, EndsLoop}
+use Rattle.lra_agreement.proofs.Shapes.{inner, given, width, call_ends, Round, EndsBodyRound, loop_join, loop_done, loop_broken, loop_left, EndsLoop}
 use Rattle.lra_agreement.proofs.Shapes.{loop_first, jump_join}
 use Rattle.lra_agreement.proofs.Lengths.{Adds, AddsEach, adds_given, Length, length_declarator, length_array, length_one, length_all, length_test, length_push}
 use Rattle.lra_agreement.proofs.Lengths.{length_push_for, length_append, tests_length, mid_length, round_length}
-use Rattle.lra_agreement.proofs.Asking.{Question, Asks, AsksAs, all_in, asks_front, asks_own, asks_calls, asks_given, asks_declared, asks_first, asks_second}
-use Rattle.lra_agreement.proofs.Asking.{asks_true, asks_false, asks_body, asks_condition, asks_loop, asks_selected, asks_value, asks_step, asks_callee}
-use Rattle.lra_agreement.proofs.Asking.{asks_callee_end}
-use Rattle.lra_agreement.proofs.Landing.{config, land, land_skip, Matches, matches_skip, outside_some, turn_some, mark_some, mark_none, go_some, go_on_some, go_by_some, lands_broken, lands_continued, lands_returned}
+use Rattle.lra_agreement.proofs.Selecting.{entries_are}
+use Rattle.lra_agreement.proofs.Shapes.{tail_node}
+use Rattle.lra_agreement.proofs.Landing.{IsBare, config, land, land_skip, Matches, matches_skip, outside_some, turn_some, mark_some, mark_none, go_some}
+use Rattle.lra_agreement.proofs.Landing.{go_on_some, go_by_some, lands_broken, lands_continued, lands_returned}
 
 returned_broken : by_jump returned ≡ by_jump broken → ⊥
 returned_broken e = cc
@@ -55,93 +54,66 @@ broken_continued e = cc
 abbrev pub trail : State → List (Met Point) → Trail Point
 trail s xs = record { state = s; met = xs }
 
-module _ (may : State → State → Type 0) (Q : Question) (P : Program) (T : List Site) where
-  -- what the tree has to show where the program stands at the point of this number
-  abbrev pub Shows : (c : Config) (zs : List (Met Point)) (p number : ℕ) → Stop → Trail Point → Type 0
-  Shows c zs p number (by_jump j) b = ⊥
-  Shows c zs p number (to_point q) b = (q ≡ number) × (b ≡ trail c.state zs)
-  Shows c zs p number (to_failure q) b = (q ≡ number) × may c.state b.state × IsFailing c.items c.here b.state × (b.met ≡ passes (record { path = c.here.path; label = p }) c.state ∷ zs)
-
-  -- the tree comes to a point of the configuration's path, with this label, and its state and trail; it fails there,
-  -- where the configuration does, and asks there what stops by a number
-  pub record Hit (c : Config) (zs : List (Met Point)) (p : ℕ) (g : Node) (a : Trail Point) : Type 0 where
-    pub number : ℕ
-    pub asserts : Bool
-    pub site : slice_get T number ≡ Some (record { path = c.here.path; label = p; live = length c.state.store; asserts = asserts })
-    pub leads : (z : Stop) (b : Trail Point) → Shows c zs p number z b → Goes (point_at T) may g a (stopped z) b
-    pub asks : (fresh : Option NumberType) → TopAsks Q.holds P c.items c.here c.state → Asks Q (all_in Q fresh g) number c.state
-
-  no_jump : (c : Config) (zs : List (Met Point)) (p number : ℕ) (z : Stop) (b : Trail Point) → Shows c zs p number z b → (j : Exit) → z ≢ by_jump j
-  no_jump c zs p number (by_jump k) b x j e = x
-  no_jump c zs p number (to_point q) b x j e = cc
-  no_jump c zs p number (to_failure q) b x j e = cc
-
-  -- what is so of all that comes to a point is so of the whole
-  pub hit_as : (c : Config) (zs : List (Met Point)) (p : ℕ) (g h : Node) (a b : Trail Point)
-      → ((z : Stop) (d : Trail Point) → ((j : Exit) → z ≢ by_jump j) → Goes (point_at T) may g a (stopped z) d → Goes (point_at T) may h b (stopped z) d) →
-      AsksAs Q g h → Hit c zs p g a → Hit c zs p h b
-  hit_as c zs p g h a b f asked x = record {
-    number = x.number;
-    asserts = x.asserts;
-    site = x.site;
-    leads = λ z d shows. f z d (no_jump c zs p x.number z d shows) (x.leads z d shows);
-    asks = λ fresh over. asked fresh x.number c.state (λ before. x.asks before over);
-  }
-
-  pub named : (spot : Spot) (at : ℕ) (asserts : Bool) → HasSite T spot at asserts → point_at T spot.next ≡ record { path = spot.frame.here.path; label = at }
-  named spot at asserts has = ap point_or_none has
-
-  pub hit_there : (c : Config) (zs : List (Met Point)) (p : ℕ) (spot : Spot) (at : ℕ) (asserts : Bool) (is : List Item) (a : Trail Point) (g : Node) → label_on c.items ≡ Some p
-      → HasSite T spot at asserts → length a.state.store ≡ spot.live → label_on is ≡ Some at → Goes (point_at T) may g a (stopped (to_point spot.next)) a
-      → ((b : Trail Point) → Passes (point_at T) may spot.next a b → IsFailing is spot.frame.here b.state → Goes (point_at T) may g a (stopped (to_failure spot.next)) b)
-      → (TopAsks Q.holds P is spot.frame.here a.state → (fresh : Option NumberType) → Asks Q (all_in Q fresh g) spot.next a.state)
-      → (config is spot.frame.here a.state ≡ c) × (a.met ≡ zs) → Hit c zs p g a
-  hit_there c zs p spot at asserts is a g on has l lab x y asked (e, f) = subst (λ ys. Hit c ys p g a) f
-      (subst (λ (d : Config). label_on d.items ≡ Some p → Hit d a.met p g a) e (λ o. record {
-        number = spot.next;
-        asserts = asserts;
-        site = rw (l, ← same_Some _ _ (sym lab ∙ o)) has;
-        leads = shown (same_Some _ _ (sym lab ∙ o));
-        asks = λ fresh over. asked over fresh;
-      }) on)
-    where
-      shown : at ≡ p → (z : Stop) (b : Trail Point) → Shows (config is spot.frame.here a.state) a.met p spot.next z b → Goes (point_at T) may g a (stopped z) b
-      shown o (by_jump j) b v = absurd v
-      shown o (to_point q) b (i, j) = rw (i, j) x
-      shown o (to_failure q) b (i, m, v, j) =
-          let same : passes (record { path = spot.frame.here.path; label = p }) a.state ≡ passes (point_at T spot.next) a.state =
-          ap (λ l. let r : Point = record { path = spot.frame.here.path; label = l } in passes r a.state) (sym o) ∙ ap (λ r. passes r a.state) (sym (named spot at asserts has)) in
-          rw i (y b (m, j ∙ ap (λ w. w ∷ a.met) same) v)
-
-  pub hit_seq : (c : Config) (zs : List (Met Point)) (p : ℕ) (g h : Node) (a : Trail Point) → Hit c zs p g a → Hit c zs p (seq g h) a
-  hit_seq c zs p g h a x = hit_as c zs p g (seq g h) a a (λ z d n y. inl y) (asks_first Q g h) x
-
-  pub hit_then : (c : Config) (zs : List (Met Point)) (p : ℕ) (g h : Node) (a m : Trail Point) → Goes (point_at T) may g a to_end m → Hit c zs p h m → Hit c zs p (seq g h) a
-  hit_then c zs p g h a m e x = hit_as c zs p h (seq g h) m a (λ z d n y. inr (m, e, y)) (asks_second Q g h) x
+pub named : (T : List Site) (spot : Spot) (at : ℕ) (asserts : Bool) → HasSite T spot at asserts
+    → point_at T spot.next ≡ record { path = spot.frame.here.path; label = at }
+named T spot at asserts has = ap point_or_none has
 
 pub not_there : (c d : Config) (p : ℕ) → label_on c.items ≡ Some p → label_on d.items ≡ None → d ≡ c → ⊥
 not_there c d p on lab e = none-some p (sym lab ∙ (ap (λ (x : Config). label_on x.items) e ∙ on))
 
-module _ (may : State → State → Type 0) (keeps : KeepsWidth may) (Q : Question) (P : Program) (T : List Site) (c : Config) (zs : List (Met Point)) (p : ℕ)
-    (on : label_on c.items ≡ Some p) where
+pub receiver_is : (P : Program) (f : Frame) (k : List Item) (b : Back) → f.back ≡ Some b → Matches f k → receiver_of P (to_mark k) ≡ b.receiver
+receiver_is P f k b i mm = let marked = mark_some (to_mark k) b (mm.backs ∙ i) in rw marked.1 refl
+
+pub no_mark : (f : Frame) (k : List Item) → f.back ≡ None → Matches f k → to_mark k ≡ None
+no_mark f k i mm = mark_none (to_mark k) (mm.backs ∙ i)
+
+-- What is sought of a tree that is run from a trail: that of what a run may be stopped for there, or what it may do.
+module _ (may : State → State → Type 0) (T : List Site) (H : Node → Trail Point → Type 0) where
+  -- what is so of a part of a tree is so of the tree
+  pub record IsClosed : Type 0 where
+    pub first : (g h : Node) (a : Trail Point) → H g a → H (seq g h) a
+    pub second : (g h : Node) (a m : Trail Point) → Goes (point_at T) may g a to_end m → H h m → H (seq g h) a
+    pub on_true : (q base : ℕ) (b : Cond) (g h : Node) (a m : Trail Point) → Performs (test base b true) a m → H g m → H (choose q base b g h) a
+    pub on_false : (q base : ℕ) (b : Cond) (g h : Node) (a m : Trail Point) → Performs (test base b false) a m → H h m → H (choose q base b g h) a
+    pub caught : (q : ℕ) (j : Exit) (g : Node) (a : Trail Point) → H g a → H (catch q j g) a
+    pub in_round : (q base : ℕ) (b : Cond) (g : Node) (a m : Trail Point) → Tests (point_at T) may q base b true a m → H g m → H (iterate q base b g) a
+    -- a round more, at the front
+    pub in_loop : (q base : ℕ) (b : Cond) (g h : Node) (a m : Trail Point) → Round (point_at T) may q base b g h a m → H (loop_node q base b g h) m
+        → H (loop_node q base b g h) a
+    pub selected : (q base : ℕ) (e : Expr) (arms : Arms) (l : CaseLabel) (a m : Trail Point) → Finds base e arms a l m → H (row_behind l arms) m
+        → H (select q base e arms) a
+
+module _ (may : State → State → Type 0) (P : Program) (T : List Site) (c : Config) (zs : List (Met Point)) (H : Node → Trail Point → Type 0) where
+  -- the run has come there
+  abbrev pub IsThere : List Item → Spot → Trail Point → Type 0
+  IsThere is spot a = (config is spot.frame.here a.state ≡ c) × (a.met ≡ zs)
+
+  -- it is so of the parts, and where the run is there: of the tree of what is on top
+  pub record IsSought : Type 0 where
+    pub closed : IsClosed may T H
+    pub one : (spot : Spot) (s : Stmt) (g : Node) (q : ℕ) → Inl P T spot s g q → (k : List Item) (a : Trail Point) → Matches spot.frame k
+        → length a.state.store ≡ spot.live → IsThere (run s ∷ k) spot a → H g a
+    pub loops : (spot : Spot) (r : ℕ) (s : Stmt) (g : Node) (q : ℕ) → Loops P T spot r s g q → (k : List Item) (a : Trail Point)
+        → length a.state.store ≡ spot.live → IsThere (run s ∷ k) spot a → H g a
+    pub declared : (spot : Spot) (d : Declarator) (g : Node) (q : ℕ) → Has T spot d.label → Declares P T spot (suc spot.next) d.number_type d.rvalue g q
+        → (k : List Item) (a : Trail Point) → length a.state.store ≡ spot.live → IsThere (declare d ∷ k) spot a → H (seq (point spot.next) g) a
+    pub filled : (spot : Spot) (at : ℕ) (z : Array) → Has T spot at → (k : List Item) (a : Trail Point) → length a.state.store ≡ spot.live
+        → IsThere (declare_array at z ∷ k) spot a → H (seq (point spot.next) (act spot.next (fill z))) a
+    pub block_end : (spot : Spot) (n at : ℕ) → Has T spot at → (k : List Item) (a : Trail Point) → IsBare k → length a.state.store ≡ spot.live
+        → IsThere (end_of at n ∷ k) spot a → H (seq (point spot.next) (act spot.next (keep n))) a
+    pub call_end : (spot : Spot) (n : ℕ) (h : Here) (x : Receiver) (end params : ℕ) → Has T spot end → (k : List Item) (a : Trail Point)
+        → length a.state.store ≡ spot.live
+        → IsThere (end_of end (n + params) ∷ mark (record { receiver = x; here = h; length = n }) ∷ k) spot a → H (tail_node spot.next n x params) a
+    pub main_end : (spot : Spot) (n at : ℕ) → Has T spot at → (a : Trail Point) → length a.state.store ≡ spot.live → IsThere (end_of at n ∷ []) spot a
+        → H (point spot.next) a
+
+module _ (may : State → State → Type 0) (keeps : KeepsWidth may) (P : Program) (T : List Site) (c : Config) (zs : List (Met Point)) (p : ℕ)
+    (on : label_on c.items ≡ Some p) (H : Node → Trail Point → Type 0) (F : IsSought may P T c zs H) where
   abbrev G : Node → Trail Point → Outcome → Trail Point → Type 0
   G = Goes (point_at T) may
 
   abbrev W : ℕ → Config → List (Met Point) → Type 0
   W n d xs = Walks may P n d xs c zs
-
-  abbrev H : Node → Trail Point → Type 0
-  H g a = Hit may Q P T c zs p g a
-
-  hit_of : (g h : Node) (a b : Trail Point) → ((z : Stop) (d : Trail Point) → ((j : Exit) → z ≢ by_jump j) → G g a (stopped z) d → G h b (stopped z) d) →
-      AsksAs Q g h → H g a → H h b
-  hit_of g h a b f asked x = hit_as may Q P T c zs p g h a b f asked x
-
-  here : (spot : Spot) (at : ℕ) (asserts : Bool) (is : List Item) (a : Trail Point) (g : Node) → HasSite T spot at asserts → length a.state.store ≡ spot.live → label_on is ≡ Some at
-      → G g a (stopped (to_point spot.next)) a → ((b : Trail Point) → Passes (point_at T) may spot.next a b → IsFailing is spot.frame.here b.state → G g a (stopped (to_failure spot.next)) b)
-      → (TopAsks Q.holds P is spot.frame.here a.state → (fresh : Option NumberType) → Asks Q (all_in Q fresh g) spot.next a.state)
-      → W zero (config is spot.frame.here a.state) a.met → H g a
-  here spot at asserts is a g has l lab x y asked e = hit_there may Q P T c zs p spot at asserts is a g on has l lab x y asked e
 
   len_one : {spot : Spot} {s : Stmt} {g : Node} {q : ℕ} → Inl P T spot s g q → Length (point_at T) may keeps spot.frame spot.live spot.live g
   len_one d = length_one (point_at T) may keeps d
@@ -151,9 +123,10 @@ module _ (may : State → State → Type 0) (keeps : KeepsWidth may) (Q : Questi
 
   -- what n steps to c make of the tree that stands for the items above k
   pub data Splits (h : Here) (k : List Item) (n : ℕ) (g : Node) (a : Trail Point) : Type 0 where
-    hits : Hit may Q P T c zs p g a → Splits h k n g a
+    hits : H g a → Splits h k n g a
     ended : (j : ℕ) (m : Trail Point) → j < n → Goes (point_at T) may g a to_end m → Walks may P j (config k h m.state) m.met c zs → Splits h k n g a
-    jumped : (j : ℕ) (kind : Exit) (m : Trail Point) (d : Config) → j < n → Goes (point_at T) may g a (stopped (by_jump kind)) m → land kind h k m.state ≡ Some d → Walks may P j d m.met c zs
+    jumped : (j : ℕ) (kind : Exit) (m : Trail Point) (d : Config) → j < n → Goes (point_at T) may g a (stopped (by_jump kind)) m
+        → land kind h k m.state ≡ Some d → Walks may P j d m.met c zs
         → Splits h k n g a
 
   splits_more : (h : Here) (k : List Item) (n n' : ℕ) (g : Node) (a : Trail Point) → n ≤ n' → Splits h k n g a → Splits h k n' g a
@@ -162,14 +135,15 @@ module _ (may : State → State → Type 0) (keeps : KeepsWidth may) (Q : Questi
   splits_more h k n n' g a l (jumped j kind m d i e b r) = jumped j kind m d (omega arith) e b r
 
   -- one tree after another; the items of the second stand above k
-  splits_seq : (h : Here) (k k' : List Item) (n : ℕ) (f g : Node) (a : Trail Point) → ((j : Exit) (m : State) → land j h k' m ≡ land j h k m) → Splits h k' n f a
+  splits_seq : (h : Here) (k k' : List Item) (n : ℕ) (f g : Node) (a : Trail Point) → ((j : Exit) (m : State) → land j h k' m ≡ land j h k m)
+      → Splits h k' n f a
       → ((j : ℕ) (m : Trail Point) → j < n → G f a to_end m → W j (config k' h m.state) m.met → Splits h k j g m) → Splits h k n (seq f g) a
-  splits_seq h k k' n f g a skip (hits x) then = hits (hit_seq may Q P T c zs p f g a x)
+  splits_seq h k k' n f g a skip (hits x) then = hits (F.closed.first f g a x)
   splits_seq h k k' n f g a skip (jumped j kind m d i e l r) then = jumped j kind m d i (inl e) (sym (skip kind m.state) ∙ l) r
   splits_seq h k k' n f g a skip (ended j m i e r) then = after (then j m i e r)
     where
       after : Splits h k j g m → Splits h k n (seq f g) a
-      after (hits x) = hits (hit_then may Q P T c zs p f g a m e x)
+      after (hits x) = hits (F.closed.second f g a m e x)
       after (ended j' m' i' e' r') = ended j' m' (omega arith) (m, e, e') r'
       after (jumped j' kind m' d i' e' l r') = jumped j' kind m' d (omega arith) (inr (m, e, e')) l r'
 
@@ -182,12 +156,13 @@ module _ (may : State → State → Type 0) (keeps : KeepsWidth may) (Q : Questi
     pub step : next_at P is spot.frame.here past.state ≡ Some goal
     pub rest : Walks may P j goal past.met c zs
 
-  pub enters : (is : List Item) (spot : Spot) (at : ℕ) (asserts : Bool) (j : ℕ) (a : Trail Point) → HasSite T spot at asserts → length a.state.store ≡ spot.live → label_on is ≡ Some at
+  pub enters : (is : List Item) (spot : Spot) (at : ℕ) (asserts : Bool) (j : ℕ) (a : Trail Point) → HasSite T spot at asserts
+      → length a.state.store ≡ spot.live → label_on is ≡ Some at
       → W (suc j) (config is spot.frame.here a.state) a.met → Enters is spot j a
   enters is spot at asserts j a has l lab (s, e, b, x, r) =
       let m : may a.state s = subst (λ o. Becomes may o a.state s) lab b in
       let same : met_on (label_on is) spot.frame.here.path a.state a.met ≡ passes (point_at T spot.next) a.state ∷ a.met =
-      ap (λ o. met_on o spot.frame.here.path a.state a.met) lab ∙ ap (λ r. passes r a.state ∷ a.met) (sym (named may Q P T spot at asserts has)) in
+      ap (λ o. met_on o spot.frame.here.path a.state a.met) lab ∙ ap (λ r. passes r a.state ∷ a.met) (sym (named T spot at asserts has)) in
       record {
         past = trail s (passes (point_at T spot.next) a.state ∷ a.met);
         goal = e;
@@ -198,35 +173,45 @@ module _ (may : State → State → Type 0) (keeps : KeepsWidth may) (Q : Questi
       }
 
   -- from an item without
-  pub plain : (d : Config) (xs : List (Met Point)) (n : ℕ) → label_on d.items ≡ None → W n d xs → (j : ℕ) × (e : Config) × (n ≡ suc j) × (next P d ≡ Some e) × W j e xs
+  pub plain : (d : Config) (xs : List (Met Point)) (n : ℕ) → label_on d.items ≡ None → W n d xs
+      → (j : ℕ) × (e : Config) × (n ≡ suc j) × (next P d ≡ Some e) × W j e xs
   plain d xs zero lab r = absurd (not_there c d p on lab r.0)
-  plain d xs (suc j) lab (s, e, b, x, r) =
-      (j, e, refl, subst (λ t. next_at P d.items d.here t ≡ Some e) (subst (λ o. Becomes may o d.state s) lab b) x, subst (λ o. W j e (met_on o d.here.path d.state xs)) lab r)
+  plain d xs (suc j) lab (s, e, b, x, r) = (
+    j,
+    e,
+    refl,
+    subst (λ t. next_at P d.items d.here t ≡ Some e) (subst (λ o. Becomes may o d.state s) lab b) x,
+    subst
+        (λ o. W j e (met_on o d.here.path d.state xs)) lab r,
+  )
 
   past : (d e : Config) (xs : List (Met Point)) (n : ℕ) → label_on d.items ≡ None → next P d ≡ Some e → W n d xs → (j : ℕ) × (n ≡ suc j) × W j e xs
   past d e xs n lab x r = let y = plain d xs n lab r in (y.0, y.2, rw (same_Some e y.1 (sym x ∙ y.3)) y.4)
 
-  -- an item with a point of its own, which fails where the tree behind the point does, and stops by a number where that asks
-  splits_point : (spot : Spot) (at : ℕ) (asserts : Bool) (i : Item) (g : Node) (k : List Item) (a : Trail Point) (count : ℕ) → HasSite T spot at asserts → length a.state.store ≡ spot.live →
+  -- an item with a point of its own
+  splits_point : (spot : Spot) (at : ℕ) (asserts : Bool) (i : Item) (g : Node) (k : List Item) (a : Trail Point) (count : ℕ) → HasSite T spot at asserts
+      → length a.state.store ≡ spot.live →
       label_on (i ∷ k) ≡ Some at
-      → ((b : Trail Point) → IsFailing (i ∷ k) spot.frame.here b.state → G g b (stopped (to_failure spot.next)) b)
-      → (TopAsks Q.holds P (i ∷ k) spot.frame.here a.state → Asks Q (all_in Q None g) spot.next a.state)
+      → (IsThere may P T c zs H (i ∷ k) spot a → H (seq (point spot.next) g) a)
       → W count (config (i ∷ k) spot.frame.here a.state) a.met
-      → ((j : ℕ) (b : Trail Point) (e : Config) → suc j ≡ count → length b.state.store ≡ spot.live → next_at P (i ∷ k) spot.frame.here b.state ≡ Some e → W j e b.met
+      → ((j : ℕ) (b : Trail Point) (e : Config) → suc j ≡ count → length b.state.store ≡ spot.live → next_at P (i ∷ k) spot.frame.here b.state ≡ Some e
+      → W j e b.met
       → Splits spot.frame.here k count g b)
       → Splits spot.frame.here k count (seq (point spot.next) g) a
-  splits_point spot at asserts i g k a zero has l lab fails asked r inner =
-      hits (here spot at asserts (i ∷ k) a (seq (point spot.next) g) has l lab (inl (refl, refl)) (λ b m v. inr (b, m, fails b v)) (λ over fresh. asked over) r)
-  splits_point spot at asserts i g k a (suc j) has l lab fails asked r inner =
+  splits_point spot at asserts i g k a zero has l lab top r inner =
+      hits (top r)
+  splits_point spot at asserts i g k a (suc j) has l lab top r inner =
       let x = enters (i ∷ k) spot at asserts j a has l lab r in
       after x.past x.passed (inner j x.past x.goal refl x.long x.step x.rest)
     where
-      after : (b : Trail Point) → Passes (point_at T) may spot.next a b → Splits spot.frame.here k (suc j) g b → Splits spot.frame.here k (suc j) (seq (point spot.next) g) a
-      after b m (hits y) = hits (hit_then may Q P T c zs p (point spot.next) g a b m y)
+      after : (b : Trail Point) → Passes (point_at T) may spot.next a b → Splits spot.frame.here k (suc j) g b
+          → Splits spot.frame.here k (suc j) (seq (point spot.next) g) a
+      after b m (hits y) = hits (F.closed.second (point spot.next) g a b m y)
       after b m (ended j' m' i y z) = ended j' m' i (b, m, y) z
       after b m (jumped j' kind m' d i y l z) = jumped j' kind m' d i (inr (b, m, y)) l z
 
-  splits_act : (q : ℕ) (op : Op) (h : Here) (k : List Item) (a : Trail Point) (j : ℕ) (e : Config) → go k h (run_op op a.state) ≡ Some e → W j e a.met → Splits h k (suc j) (act q op) a
+  splits_act : (q : ℕ) (op : Op) (h : Here) (k : List Item) (a : Trail Point) (j : ℕ) (e : Config) → go k h (run_op op a.state) ≡ Some e → W j e a.met
+      → Splits h k (suc j) (act q op) a
   splits_act q op h k a j e x r = let y = go_some k h (run_op op a.state) e x in ended j (trail y.0 a.met) (omega arith) (y.1, refl) (rw y.2 r)
 
   pub record Tail (r : ℕ) (h : Here) (n : ℕ) (x : Receiver) (params : ℕ) (k : List Item) (count : ℕ) (a : Trail Point) : Type 0 where
@@ -247,16 +232,19 @@ module _ (may : State → State → Type 0) (keeps : KeepsWidth may) (Q : Questi
 
   -- runs of fewer steps are cut so
   pub record Below (fuel : ℕ) : Type 0 where
-    pub one : (spot : Spot) (s : Stmt) (g : Node) (q : ℕ) → Inl P T spot s g q → (k : List Item) (a : Trail Point) (count : ℕ) → Matches spot.frame k → length a.state.store ≡ spot.live → count < fuel
+    pub one : (spot : Spot) (s : Stmt) (g : Node) (q : ℕ) → Inl P T spot s g q → (k : List Item) (a : Trail Point) (count : ℕ) → Matches spot.frame k
+        → IsBare k → length a.state.store ≡ spot.live → count < fuel
         → Walks may P count (config (run s ∷ k) spot.frame.here a.state) a.met c zs → Splits spot.frame.here k count g a
-    pub every : (spot : Spot) (s : BlockItems) (g : Node) (n q : ℕ) → InlAll P T spot s g n q → (k : List Item) (a : Trail Point) (count : ℕ) → Matches spot.frame k →
+    pub every : (spot : Spot) (s : BlockItems) (g : Node) (n q : ℕ) → InlAll P T spot s g n q → (k : List Item) (a : Trail Point) (count : ℕ)
+        → Matches spot.frame k →
         length a.state.store ≡ spot.live → count < fuel
         → Walks may P count (config (all s ∷ k) spot.frame.here a.state) a.met c zs → Splits spot.frame.here k count g a
     pub among : (spot : Spot) (cs : Cases) (arms : Arms) (q : ℕ) → InlCases P T spot cs arms q → (k : List Item) (a : Trail Point) (count : ℕ)
         → Matches spot.frame k →
         length a.state.store ≡ spot.live → count < fuel
         → Walks may P count (config (cases_item cs ∷ k) spot.frame.here a.state) a.met c zs → Splits spot.frame.here k count (arms_row arms) a
-    pub loops : (spot : Spot) (r : ℕ) (s : Stmt) (g : Node) (q : ℕ) → Loops P T spot r s g q → (k : List Item) (a : Trail Point) (count : ℕ) → Matches spot.frame k →
+    pub loops : (spot : Spot) (r : ℕ) (s : Stmt) (g : Node) (q : ℕ) → Loops P T spot r s g q → (k : List Item) (a : Trail Point) (count : ℕ)
+        → Matches spot.frame k →
         length a.state.store ≡ spot.live → count < fuel
         → Walks may P count (config (run s ∷ k) spot.frame.here a.state) a.met c zs → Splits spot.frame.here k count g a
 
@@ -265,10 +253,8 @@ module _ (may : State → State → Type 0) (keeps : KeepsWidth may) (Q : Questi
     call_tail : (spot : Spot) (n : ℕ) (h : Here) (x : Receiver) (end params : ℕ) (k : List Item) (count : ℕ) (a : Trail Point) → Has T spot end → length
         a.state.store ≡ spot.live
         → W count (config (end_of end (n + params) ∷ mark (record { receiver = x; here = h; length = n }) ∷ k) spot.frame.here a.state) a.met
-        → H (point spot.next) a ⊎ Tail spot.next h n x params k count a
-    call_tail spot n h x end params k zero a has l e = inl (here spot end false
-        (end_of end (n + params) ∷ mark (record { receiver = x; here = h; length = n }) ∷ k) a (point spot.next)
-        has l refl (refl, refl) (λ b m v. absurd v) (λ over fresh. absurd over) e)
+        → H (tail_node spot.next n x params) a ⊎ Tail spot.next h n x params k count a
+    call_tail spot n h x end params k zero a has l e = inl (F.call_end spot n h x end params has k a l e)
     call_tail spot n h x end params k (suc i) a has l r =
         let y = enters (end_of end (n + params) ∷ mark (record { receiver = x; here = h; length = n }) ∷ k) spot end false i a has l refl r in
         let cutting = go_some (mark (record { receiver = x; here = h; length = n }) ∷ k) spot.frame.here (run_op (keep (n + params)) y.past.state) y.goal
@@ -276,7 +262,8 @@ module _ (may : State → State → Type 0) (keeps : KeepsWidth may) (Q : Questi
         marked y.past y.passed cutting.0 cutting.1 (rw cutting.2 y.rest)
       where
         marked : (b : Trail Point) → Passes (point_at T) may spot.next a b → (short : State) → run_op (keep (n + params)) b.state ≡ Some short
-            → W i (config (mark (record { receiver = x; here = h; length = n }) ∷ k) spot.frame.here short) b.met → H (point spot.next) a ⊎ Tail spot.next h n
+            → W i (config (mark (record { receiver = x; here = h; length = n }) ∷ k) spot.frame.here short) b.met
+            → H (tail_node spot.next n x params) a ⊎ Tail spot.next h n
             x params k (suc i) a
         marked b m short o rest =
             let v = plain (config (mark (record { receiver = x; here = h; length = n }) ∷ k) spot.frame.here short) b.met i refl rest in
@@ -316,12 +303,19 @@ module _ (may : State → State → Type 0) (keeps : KeepsWidth may) (Q : Questi
         (run_op (gives (given fn b)) a.state) e y' in
         inside (trail entering.0 a.met) (entering.1, refl) (rw entering.2 rest)
       where
+        body : Node
+        body = seq g (tail_node r' spot.live (inner fn x) (width fn))
+
+        in_body : (u : Trail Point) → Performs (gives (given fn b)) a u → H body u → H (tree_of_call spot r' x gives b fn g) a
+        in_body u o z = F.closed.second (act spot.next (gives (given fn b))) (catch spot.next returned body) a u o
+            (F.closed.caught spot.next returned body u z)
+
         ended_inside : (u : Trail Point) → Performs (gives (given fn b)) a u → (i : ℕ) (m : Trail Point) → i < j → G g u to_end m
-            → H (point r') m ⊎ Tail r' spot.frame.here spot.live (inner fn x) (width fn) k i m → Splits spot.frame.here k (suc j)
+            → H (tail_node r' spot.live (inner fn x) (width fn)) m ⊎ Tail r' spot.frame.here spot.live (inner fn x) (width fn) k i m
+            → Splits spot.frame.here k (suc j)
             (tree_of_call spot r' x gives b fn g) a
         ended_inside u o i m z v (inl h) = hits
-            (hit_of (point r') (tree_of_call spot r' x gives b fn g) m a (λ s d n w. inr (u, o, (n returned, inr (m, v, inl w))))
-            (asks_callee_end Q spot r' (inner fn x) (gives (given fn b)) (width fn) g) h)
+            (in_body u o (F.closed.second g (tail_node r' spot.live (inner fn x) (width fn)) u m v h))
         ended_inside u o i m z v (inr t) = let few = t.fewer in ended t.left t.final (omega arith)
             (call_ends (point_at T) may spot r' (inner fn x) (gives (given fn b)) (width fn) g a u t.final o
             (record { before = m; past = t.over; cut = t.cut; set = t.set; body = v; passed = t.passed; cuts = t.cuts; sets = t.sets; back = t.backs })) t.rest
@@ -332,8 +326,7 @@ module _ (may : State → State → Type 0) (keeps : KeepsWidth may) (Q : Questi
         after : (u : Trail Point) → Performs (gives (given fn b)) a u → Splits (callee spot.frame spot.live (inner fn x) b).here
             (call_items fn spot.live (inner fn x) spot.frame.here k) j g u
             → Splits spot.frame.here k (suc j) (tree_of_call spot r' x gives b fn g) a
-        after u o (hits h) = hits (hit_of g (tree_of_call spot r' x gives b fn g) u a (λ s d n w. inr (u, o, (n returned, inl w)))
-            (asks_callee Q spot r' (inner fn x) (gives (given fn b)) (width fn) g) h)
+        after u o (hits h) = hits (in_body u o (F.closed.first g (tail_node r' spot.live (inner fn x) (width fn)) u h))
         after u o (jumped i' broken m d' z v l' t) = absurd (none-some d' l')
         after u o (jumped i' continued m d' z v l' t) = absurd (none-some d' l')
         after u o (jumped i' returned m d' z v l' t) = ended i' m (omega arith) (u, o, inr (inl v)) (rw (same_Some (config k spot.frame.here m.state) d' l') t)
@@ -362,35 +355,46 @@ module _ (may : State → State → Type 0) (keeps : KeepsWidth may) (Q : Questi
     splits_gives : (spot : Spot) (r : ℕ) (x : Receiver) (v : Rvalue) (g : Node) (q : ℕ) (k : List Item) (a : Trail Point) (j : ℕ) (e : Config) → Gives P T spot
         r x v g q
         → length a.state.store ≡ spot.live → j < fuel → do_rvalue P x v k spot.frame.here a.state ≡ Some e → W j e a.met → Splits spot.frame.here k (suc j) g a
-    splits_gives _ _ _ _ _ _ k a j e (as_value {s = spot} {x = x} {e = v}) l less y rest = splits_act spot.next (give spot.frame.here.base x v) spot.frame.here k a j e y rest
+    splits_gives _ _ _ _ _ _ k a j e (as_value {s = spot} {x = x} {e = v}) l less y rest =
+        splits_act spot.next (give spot.frame.here.base x v) spot.frame.here k a j e y rest
     splits_gives _ _ _ _ _ _ k a j e (as_result {s = spot} {r = r} {x = x} {c = b} {g = g} {q = q'} d) l less y rest =
         splits_calls spot r x (push spot.frame.here.base) b g q' k a j e d (λ es s t o. length_push spot.frame.here.base es s t o) l less y rest
 
     splits_loop : (spot : Spot) (r at : ℕ) (b : Cond) (s step : Stmt) (g h : Node) (r' q' : ℕ) → Has T spot at
-        → Inl P T (within spot None r) step h r' → Inl P T (within spot (Some spot.live) r') s g q' → (k : List Item) (a : Trail Point) (count : ℕ) → Matches spot.frame k
+        → Inl P T (within spot None r) step h r' → Inl P T (within spot (Some spot.live) r') s g q' → (k : List Item) (a : Trail Point) (count : ℕ)
+        → Matches spot.frame k
         → length a.state.store ≡ spot.live → count < suc fuel
-        → W count (config (run (loop at b s step) ∷ k) spot.frame.here a.state) a.met → Splits spot.frame.here k count (loop_node spot.next spot.frame.here.base b g h) a
-    splits_loop spot r at b s step g h r' q' has d e k a zero m l less t =
-        hits (here spot at false (run (loop at b s step) ∷ k) a (loop_node spot.next spot.frame.here.base b g h) has l refl
-        (loop_join (point_at T) may spot.next spot.frame.here.base b g h a 0 a _ a refl (loop_at refl))
-        (λ b m v. absurd v)
-        (λ over fresh. asks_loop Q spot.next spot.frame.here.base b g h fresh a.state over) t)
-    splits_loop spot r at b s step g h r' q' has d e k a (suc j) m l less t =
+        → (IsThere may P T c zs H (run (loop at b s step) ∷ k) spot a → H (loop_node spot.next spot.frame.here.base b g h) a)
+        → W count (config (run (loop at b s step) ∷ k) spot.frame.here a.state) a.met
+        → Splits spot.frame.here k count (loop_node spot.next spot.frame.here.base b g h) a
+    splits_loop spot r at b s step g h r' q' has d e k a zero m l less top t =
+        hits (top t)
+    splits_loop spot r at b s step g h r' q' has d e k a (suc j) m l less top t =
         let x = enters (run (loop at b s step) ∷ k) spot at false j a has l refl t in
         elim (go_by_some (run s ∷ turn step (loop at b s step) (length x.past.state.store) ∷ k) k spot.frame.here x.past.state
         (truth_of b (scene_at spot.frame.here.base x.past.state) x.past.state.draws) x.goal x.step) [
           | inl z ↦ round (trail z.0 x.past.met) (x.past, x.passed, (z.1, refl))
               (subst (λ w. W j (config (run s ∷ turn step (loop at b s step) w ∷ k) spot.frame.here z.0) x.past.met) x.long (rw z.2 x.rest))
-          | inr z ↦ ended j (trail z.0 x.past.met) (omega arith) (last to_end (trail z.0 x.past.met) (loop_done (x.past, x.passed, (z.1, refl)))) (rw z.2 x.rest)
+          | inr z ↦ ended j (trail z.0 x.past.met) (omega arith) (last to_end (trail z.0 x.past.met) (loop_done (x.past, x.passed, (z.1, refl))))
+              (rw z.2 x.rest)
         ]
       where
         last : (u : Outcome) (v : Trail Point) → EndsLoop (point_at T) may spot.next spot.frame.here.base b g h a v u → G (tree_of_loop spot b g h) a u v
         last u v x = loop_join (point_at T) may spot.next spot.frame.here.base b g h a 0 a u v refl x
 
+        whole_round : Node
+        whole_round = seq (catch spot.next continued g) h
+
+        inside : (on' : Trail Point) → Tests (point_at T) may spot.next spot.frame.here.base b true a on' → H whole_round on' → H (tree_of_loop spot b g h) a
+        inside on' o y = F.closed.caught spot.next broken (iterate spot.next spot.frame.here.base b whole_round) a
+            (F.closed.in_round spot.next spot.frame.here.base b whole_round a on' o y)
+
         -- the loop again, behind a whole round
-        again : (on' mid v : Trail Point) → Tests (point_at T) may spot.next spot.frame.here.base b true a on' → EndsBodyRound (point_at T) may g on' mid → G h mid to_end v → (i : ℕ) → i < j
+        again : (on' mid v : Trail Point) → Tests (point_at T) may spot.next spot.frame.here.base b true a on' → EndsBodyRound (point_at T) may g on' mid
+            → G h mid to_end v → (i : ℕ) → i < j
             → W i (config (run (loop at b s step) ∷ k) spot.frame.here v.state) v.met → Splits spot.frame.here k (suc j) (tree_of_loop spot b g h) a
-        again on' mid v o x x' i less' t = shift (below.loops spot r (loop at b s step) (tree_of_loop spot b g h) q' (is_loop has d e) k v i m long (omega arith) t)
+        again on' mid v o x x' i less' t = shift (below.loops spot r (loop at b s step) (tree_of_loop spot b g h) q' (is_loop has d e) k v i m long
+            (omega arith) t)
           where
             whole : Round (point_at T) may spot.next spot.frame.here.base b g h a v
             whole = (on', o, (mid, x, x'))
@@ -399,29 +403,33 @@ module _ (may : State → State → Type 0) (keeps : KeepsWidth may) (Q : Questi
             long = round_length (point_at T) may keeps spot.frame spot.live g h (len_one e) (len_one d) spot.next spot.frame.here.base b a v l whole
 
             shift : Splits spot.frame.here k i (tree_of_loop spot b g h) v → Splits spot.frame.here k (suc j) (tree_of_loop spot b g h) a
-            shift (hits y') = hits (hit_of (tree_of_loop spot b g h) (tree_of_loop spot b g h) v a
-                (λ z w n y. loop_first (point_at T) may spot.next spot.frame.here.base b g h a v (stopped z) w whole y) (λ fresh q u y. y fresh) y')
+            shift (hits y') = hits (F.closed.in_loop spot.next spot.frame.here.base b g h a v whole y')
             shift (ended i' m' z e' t') = ended i' m' (omega arith) (loop_first (point_at T) may spot.next spot.frame.here.base b g h a v to_end m' whole e') t'
             shift (jumped i' kind m' d' z e' l' t') =
-                jumped i' kind m' d' (omega arith) (loop_first (point_at T) may spot.next spot.frame.here.base b g h a v (stopped (by_jump kind)) m' whole e') l' t'
+                jumped i' kind m' d' (omega arith) (loop_first (point_at T) may spot.next spot.frame.here.base b g h a v (stopped (by_jump kind)) m' whole
+                e') l' t'
 
         -- the step, behind the body
-        stepping : (on' mid : Trail Point) → Tests (point_at T) may spot.next spot.frame.here.base b true a on' → EndsBodyRound (point_at T) may g on' mid → (i : ℕ) → i < j
-            → W i (config (turn step (loop at b s step) spot.live ∷ k) spot.frame.here mid.state) mid.met → Splits spot.frame.here k (suc j) (tree_of_loop spot b g h) a
+        stepping : (on' mid : Trail Point) → Tests (point_at T) may spot.next spot.frame.here.base b true a on' → EndsBodyRound (point_at T) may g on' mid
+            → (i : ℕ) → i < j
+            → W i (config (turn step (loop at b s step) spot.live ∷ k) spot.frame.here mid.state) mid.met
+            → Splits spot.frame.here k (suc j) (tree_of_loop spot b g h) a
         stepping on' mid o x i less' t =
-            let moved = past (config (turn step (loop at b s step) spot.live ∷ k) spot.frame.here mid.state) (config (run step ∷ run (loop at b s step) ∷ k) spot.frame.here mid.state) mid.met i
+            let moved = past (config (turn step (loop at b s step) spot.live ∷ k) spot.frame.here mid.state)
+            (config (run step ∷ run (loop at b s step) ∷ k) spot.frame.here mid.state) mid.met i
             refl refl t in
             let few = moved.1 in
             cases moved.0 (omega (arith, few)) (below.one (within spot None r) step h r' d (run (loop at b s step) ∷ k) mid moved.0
-            (record { breaks = λ w z. absurd (none-some w z); continues = λ w z. absurd (none-some w z); backs = m.backs })
+            (record { breaks = λ w z. absurd (none-some w z); continues = λ w z. absurd (none-some w z); backs = m.backs }) tt
             long (omega (arith, few)) moved.2)
           where
             long : length mid.state.store ≡ spot.live
-            long = mid_length (point_at T) may keeps spot.frame spot.live g h (len_one e) (len_one d) on' mid (tests_length (point_at T) may keeps spot.next spot.frame.here.base b true a on' o ∙ l) x
+            long = mid_length (point_at T) may keeps spot.frame spot.live g h (len_one e) (len_one d) on' mid
+                (tests_length (point_at T) may keeps spot.next spot.frame.here.base b true a on' o ∙ l) x
 
-            cases : (i' : ℕ) → i' < j → Splits spot.frame.here (run (loop at b s step) ∷ k) i' h mid → Splits spot.frame.here k (suc j) (tree_of_loop spot b g h) a
-            cases i' less'' (hits y') = hits (hit_of h (tree_of_loop spot b g h) mid a (λ z w n y. (n broken, (0, a, refl, inr (on', o, inr (mid, x, y)))))
-                (asks_step Q spot.next spot.frame.here.base b g h) y')
+            cases : (i' : ℕ) → i' < j → Splits spot.frame.here (run (loop at b s step) ∷ k) i' h mid
+                → Splits spot.frame.here k (suc j) (tree_of_loop spot b g h) a
+            cases i' less'' (hits y') = hits (inside on' o (F.closed.second (catch spot.next continued g) h on' mid x y'))
             cases i' less'' (ended i'' v z e' t') = again on' mid v o x e' i'' (omega arith) t'
             cases i' less'' (jumped i'' broken v d' z e' l' t') = absurd (none-some _ ((len_one d).ends mid v (stopped (by_jump broken)) long e').1)
             cases i' less'' (jumped i'' continued v d' z e' l' t') = absurd (none-some _ ((len_one d).ends mid v (stopped (by_jump continued)) long e').1)
@@ -432,16 +440,16 @@ module _ (may : State → State → Type 0) (keeps : KeepsWidth may) (Q : Questi
             W j (config (run s ∷ turn step (loop at b s step) spot.live ∷ k) spot.frame.here on'.state) on'.met
             → Splits spot.frame.here k (suc j) (tree_of_loop spot b g h) a
         round on' o t = cases (below.one (within spot (Some spot.live) r') s g q' e (turn step (loop at b s step) spot.live ∷ k) on' j
-            (record { breaks = λ w z. z; continues = λ w z. z; backs = m.backs })
+            (record { breaks = λ w z. z; continues = λ w z. z; backs = m.backs }) tt
             (tests_length (point_at T) may keeps spot.next spot.frame.here.base b true a on' o ∙ l) (omega arith) t)
           where
             cases : Splits spot.frame.here (turn step (loop at b s step) spot.live ∷ k) j g on' → Splits spot.frame.here k (suc j) (tree_of_loop spot b g h) a
-            cases (hits y') = hits (hit_of g (tree_of_loop spot b g h) on' a (λ z w n y. (n broken, (0, a, refl, inr (on', o, inl (n continued, y)))))
-                (asks_body Q spot.next spot.frame.here.base b g h) y')
+            cases (hits y') = hits (inside on' o (F.closed.first (catch spot.next continued g) h on' (F.closed.caught spot.next continued g on' y')))
             cases (ended i m' z x t') = stepping on' m' o (inl x) i z t'
             cases (jumped i broken m' d' z x l' t') = ended i m' (omega arith) (last to_end m' (loop_broken on' o (inl (broken_continued, x))))
                 (rw (same_Some (config k spot.frame.here m'.state) d' l') t')
-            cases (jumped i continued m' d' z x l' t') = stepping on' m' o (inr x) i z (rw (same_Some (config (turn step (loop at b s step) spot.live ∷ k) spot.frame.here m'.state) d' l') t')
+            cases (jumped i continued m' d' z x l' t') =
+                stepping on' m' o (inr x) i z (rw (same_Some (config (turn step (loop at b s step) spot.live ∷ k) spot.frame.here m'.state) d' l') t')
             cases (jumped i returned m' d' z x l' t') = jumped i returned m' d' (omega arith)
                 (last (stopped (by_jump returned)) m' (loop_left on' (by_jump returned) o (inl (returned_continued, x)) returned_broken)) l' t'
 
@@ -450,33 +458,38 @@ module _ (may : State → State → Type 0) (keeps : KeepsWidth may) (Q : Questi
     skip_one h i k d e e' j m = land_skip j h i k m d e e'
 
     -- a block's end
-    end_tail : (spot : Spot) (n at : ℕ) (k : List Item) (a : Trail Point) (count : ℕ) → Has T spot at → length a.state.store ≡ spot.live →
+    end_tail : (spot : Spot) (n at : ℕ) (k : List Item) (a : Trail Point) (count : ℕ) → IsBare k → Has T spot at → length a.state.store ≡ spot.live →
         W count (config (end_of at n ∷ k) spot.frame.here a.state) a.met
         → Splits spot.frame.here k count (seq (point spot.next) (act spot.next (keep n))) a
-    end_tail spot n at k a count has l t = splits_point spot at false (end_of at n) (act spot.next (keep n)) k a count has l refl (λ b v. absurd v)
-        (λ over. absurd over) t
-        (λ j b e j' l' y w. splits_more spot.frame.here k (suc j) count (act spot.next (keep n)) b (omega arith) (splits_act spot.next (keep n) spot.frame.here k b j e y w))
+    end_tail spot n at k a count bare has l t = splits_point spot at false (end_of at n) (act spot.next (keep n)) k a count has l refl
+        (F.block_end spot n at has k a bare l) t
+        (λ j b e j' l' y w. splits_more spot.frame.here k (suc j) count (act spot.next (keep n)) b (omega arith)
+        (splits_act spot.next (keep n) spot.frame.here k b j e y w))
 
     -- the end of a `for`
-    cut_tail : (h : Here) (n q : ℕ) (k : List Item) (a : Trail Point) (count : ℕ) → W count (config (cut n ∷ k) h a.state) a.met → Splits h k count (act q (keep n)) a
+    cut_tail : (h : Here) (n q : ℕ) (k : List Item) (a : Trail Point) (count : ℕ) → W count (config (cut n ∷ k) h a.state) a.met
+        → Splits h k count (act q (keep n)) a
     cut_tail h n q k a count t =
         let x = plain (config (cut n ∷ k) h a.state) a.met count refl t in
         splits_more h k (suc x.0) count (act q (keep n)) a (omega arith) (splits_act q (keep n) h k a x.0 x.1 x.3 x.4)
 
-    after_act : (q : ℕ) (op : Op) (g : Node) (h : Here) (k : List Item) (n : ℕ) (a b : Trail Point) → Performs op a b → Splits h k n g b → Splits h k n (seq (act q op) g) a
-    after_act q op g h k n a b o (hits x) = hits (hit_then may Q P T c zs p (act q op) g a b o x)
+    after_act : (q : ℕ) (op : Op) (g : Node) (h : Here) (k : List Item) (n : ℕ) (a b : Trail Point) → Performs op a b → Splits h k n g b
+        → Splits h k n (seq (act q op) g) a
+    after_act q op g h k n a b o (hits x) = hits (F.closed.second (act q op) g a b o x)
     after_act q op g h k n a b o (ended j m i e r) = ended j m i (b, o, e) r
     after_act q op g h k n a b o (jumped j kind m d i e l r) = jumped j kind m d i (inr (b, o, e)) l r
 
-    choose_on : (q base : ℕ) (b : Cond) (g g' : Node) (h : Here) (k : List Item) (n : ℕ) (a t : Trail Point) → Performs (test base b true) a t → Splits h k n g t →
+    choose_on : (q base : ℕ) (b : Cond) (g g' : Node) (h : Here) (k : List Item) (n : ℕ) (a t : Trail Point) → Performs (test base b true) a t
+        → Splits h k n g t →
         Splits h k n (choose q base b g g') a
-    choose_on q base b g g' h k n a t o (hits x) = hits (hit_of g (choose q base b g g') t a (λ z w m y. inl (t, o, y)) (asks_true Q q base b g g') x)
+    choose_on q base b g g' h k n a t o (hits x) = hits (F.closed.on_true q base b g g' a t o x)
     choose_on q base b g g' h k n a t o (ended j m i e r) = ended j m i (inl (t, o, e)) r
     choose_on q base b g g' h k n a t o (jumped j kind m d i e l r) = jumped j kind m d i (inl (t, o, e)) l r
 
-    choose_off : (q base : ℕ) (b : Cond) (g g' : Node) (h : Here) (k : List Item) (n : ℕ) (a t : Trail Point) → Performs (test base b false) a t → Splits h k n g' t →
+    choose_off : (q base : ℕ) (b : Cond) (g g' : Node) (h : Here) (k : List Item) (n : ℕ) (a t : Trail Point) → Performs (test base b false) a t
+        → Splits h k n g' t →
         Splits h k n (choose q base b g g') a
-    choose_off q base b g g' h k n a t o (hits x) = hits (hit_of g' (choose q base b g g') t a (λ z w m y. inr (t, o, y)) (asks_false Q q base b g g') x)
+    choose_off q base b g g' h k n a t o (hits x) = hits (F.closed.on_false q base b g g' a t o x)
     choose_off q base b g g' h k n a t o (ended j m i e r) = ended j m i (inr (t, o, e)) r
     choose_off q base b g g' h k n a t o (jumped j kind m d i e l r) = jumped j kind m d i (inr (t, o, e)) l r
 
@@ -504,7 +517,8 @@ module _ (may : State → State → Type 0) (keeps : KeepsWidth may) (Q : Questi
         (lands_continued (to_turn k) turning.0 f.here x.0 e turning.1 x.2) t
 
     -- back to the caller, from a state that a change may have made
-    splits_leave : (f : Frame) (q live : ℕ) (b : Back) (k : List Item) (xs : List (Met Point)) (o : Option State) (j : ℕ) (e : Config) → f.back ≡ Some b → Matches f k → do_leave (to_mark k) o ≡ Some e
+    splits_leave : (f : Frame) (q live : ℕ) (b : Back) (k : List Item) (xs : List (Met Point)) (o : Option State) (j : ℕ) (e : Config) → f.back ≡ Some b
+        → Matches f k → do_leave (to_mark k) o ≡ Some e
         → W j e xs
         → (u : State) × (o ≡ Some u) × Splits f.here k (suc j) (seq (act q (keep b.length)) (leave live returned)) (trail u xs)
     splits_leave f q live b k xs o j e i mm y t =
@@ -514,7 +528,8 @@ module _ (may : State → State → Type 0) (keeps : KeepsWidth may) (Q : Questi
         let z = go_some marked.0 b.here (run_op (keep b.length) x.0) e x.2 in (
           x.0,
           x.1,
-          jumped j returned (trail z.0 xs) e (omega arith) (jump_join (point_at T) may q (keep b.length) live returned (trail x.0 xs) (trail z.0 xs) (z.1, refl))
+          jumped j returned (trail z.0 xs) e (omega arith) (jump_join (point_at T) may q (keep b.length) live returned (trail x.0 xs) (trail z.0 xs)
+              (z.1, refl))
               (lands_returned (to_mark k) (record { back = b; rest = marked.0 }) z.0 e marked.1 z.2) t,
         )
 
@@ -525,7 +540,8 @@ module _ (may : State → State → Type 0) (keeps : KeepsWidth may) (Q : Questi
         after_act q op (seq (act q (keep b.length)) (leave live returned)) f.here k (suc j) a (trail x.0 a.met) (x.1, refl) x.2
 
     -- a return behind a call that gave its value
-    leave_tail : (f : Frame) (q live : ℕ) (b : Back) (k : List Item) (a : Trail Point) (count : ℕ) → f.back ≡ Some b → Matches f k → W count (config (leave_call ∷ k) f.here a.state) a.met
+    leave_tail : (f : Frame) (q live : ℕ) (b : Back) (k : List Item) (a : Trail Point) (count : ℕ) → f.back ≡ Some b → Matches f k
+        → W count (config (leave_call ∷ k) f.here a.state) a.met
         → Splits f.here k count (seq (act q (keep b.length)) (leave live returned)) a
     leave_tail f q live b k a count i mm t =
         let v = plain (config (leave_call ∷ k) f.here a.state) a.met count refl t in
@@ -534,12 +550,6 @@ module _ (may : State → State → Type 0) (keeps : KeepsWidth may) (Q : Questi
         splits_more f.here k (suc v.0) count (seq (act q (keep b.length)) (leave live returned)) a (omega (arith, few))
         (subst (λ u. Splits f.here k (suc v.0) (seq (act q (keep b.length)) (leave live returned)) (trail u a.met)) (sym (same_Some a.state x.0 x.1)) x.2)
 
-    receiver_is : (f : Frame) (k : List Item) (b : Back) → f.back ≡ Some b → Matches f k → receiver_of P (to_mark k) ≡ b.receiver
-    receiver_is f k b i mm = let marked = mark_some (to_mark k) b (mm.backs ∙ i) in rw marked.1 refl
-
-    no_mark : (f : Frame) (k : List Item) → f.back ≡ None → Matches f k → to_mark k ≡ None
-    no_mark f k i mm = mark_none (to_mark k) (mm.backs ∙ i)
-
     land_two : (h : Here) (i i' : Item) (k : List Item) → to_outside (i ∷ i' ∷ k) ≡ to_outside (i' ∷ k) → to_turn (i ∷ i' ∷ k) ≡ to_turn (i' ∷ k)
         → to_mark (i ∷ i' ∷ k) ≡ to_mark (i' ∷ k)
         → to_outside (i' ∷ k) ≡ to_outside k → to_turn (i' ∷ k) ≡ to_turn k →
@@ -547,10 +557,12 @@ module _ (may : State → State → Type 0) (keeps : KeepsWidth may) (Q : Questi
         → (j : Exit) (m : State) → land j h (i ∷ i' ∷ k) m ≡ land j h k m
     land_two h i i' k o a b p d e j m = land_skip j h i (i' ∷ k) m o a b ∙ land_skip j h i' k m p d e
 
-    splits_for : (spot : Spot) (at : ℕ) (init : BlockItems) (b : Cond) (s step : Stmt) (g h : Node) (n' r q' : ℕ) → InlAll P T (at_point spot (suc spot.next)) init g n' r →
+    splits_for : (spot : Spot) (at : ℕ) (init : BlockItems) (b : Cond) (s step : Stmt) (g h : Node) (n' r q' : ℕ)
+        → InlAll P T (at_point spot (suc spot.next)) init g n' r →
         Loops P T (move spot n' spot.next) r (loop at b s step) h q'
         → (k : List Item) (a : Trail Point) (count : ℕ)
-        → Matches spot.frame k → length a.state.store ≡ spot.live → count < fuel → W count (config (all init ∷ run (loop at b s step) ∷ cut spot.live ∷ k) spot.frame.here a.state) a.met →
+        → Matches spot.frame k → length a.state.store ≡ spot.live → count < fuel
+        → W count (config (all init ∷ run (loop at b s step) ∷ cut spot.live ∷ k) spot.frame.here a.state) a.met →
         Splits spot.frame.here k count (seq g (seq h (act spot.next (keep spot.live)))) a
     splits_for spot at init b s step g h n' r q' d e k a count m l less t =
         splits_seq spot.frame.here k (run (loop at b s step) ∷ cut spot.live ∷ k) count g (seq h (act spot.next (keep spot.live))) a
@@ -566,23 +578,31 @@ module _ (may : State → State → Type 0) (keeps : KeepsWidth may) (Q : Questi
         (λ j' u' i' z' w'. cut_tail spot.frame.here spot.live spot.next k u' j' w'))
 
     -- nothing follows in `main`
-    end_tail_of : (f : Frame) (k : List Item) (a : Trail Point) (count : ℕ) (g : Node) → to_mark k ≡ None → W count (config (leave_call ∷ k) f.here a.state) a.met → Splits f.here k count g a
+    end_tail_of : (f : Frame) (k : List Item) (a : Trail Point) (count : ℕ) (g : Node) → to_mark k ≡ None
+        → W count (config (leave_call ∷ k) f.here a.state) a.met → Splits f.here k count g a
     end_tail_of f k a count g i t =
         let v = plain (config (leave_call ∷ k) f.here a.state) a.met count refl t in
         absurd (none-some v.1 (subst (λ o. do_leave o (Some a.state) ≡ Some v.1) i v.3))
 
-    of_loop : (spot : Spot) (r : ℕ) (s : Stmt) (g : Node) (q : ℕ) → Loops P T spot r s g q → (k : List Item) (a : Trail Point) (count : ℕ) → Matches spot.frame k → length a.state.store ≡ spot.live →
+    on_loop : (spot : Spot) (r : ℕ) (s : Stmt) (g : Node) (q : ℕ) → Loops P T spot r s g q → (k : List Item) (a : Trail Point) (count : ℕ)
+        → Matches spot.frame k → length a.state.store ≡ spot.live →
+        count < suc fuel → (IsThere may P T c zs H (run s ∷ k) spot a → H g a)
+        → W count (config (run s ∷ k) spot.frame.here a.state) a.met → Splits spot.frame.here k count g a
+    on_loop _ _ _ _ _ (is_loop {s = spot} {r = r} {at = at} {c = b} {a = s} {step = step} {g = g} {h = h} {m = r'} {q = q'} i d e) k a count m l less top t =
+        splits_loop spot r at b s step g h r' q' i d e k a count m l less top t
+
+    of_loop : (spot : Spot) (r : ℕ) (s : Stmt) (g : Node) (q : ℕ) → Loops P T spot r s g q → (k : List Item) (a : Trail Point) (count : ℕ)
+        → Matches spot.frame k → length a.state.store ≡ spot.live →
         count < suc fuel
         → W count (config (run s ∷ k) spot.frame.here a.state) a.met → Splits spot.frame.here k count g a
-    of_loop _ _ _ _ _ (is_loop {s = spot} {r = r} {at = at} {c = b} {a = s} {step = step} {g = g} {h = h} {m = r'} {q = q'} i d e) k a count m l less t =
-        splits_loop spot r at b s step g h r' q' i d e k a count m l less t
+    of_loop spot r s g q d k a count m l less t = on_loop spot r s g q d k a count m l less (F.loops spot r s g q d k a l) t
 
     -- an array's declarator: the point, and its elements
     splits_fill : (spot : Spot) (at : ℕ) (z : Array) (k : List Item) (a : Trail Point) (count : ℕ) → Has T spot at → length a.state.store ≡ spot.live
         → W count (config (declare_array at z ∷ k) spot.frame.here a.state) a.met
         → Splits spot.frame.here k count (seq (point spot.next) (act spot.next (fill z))) a
-    splits_fill spot at z k a count has l t = splits_point spot at false (declare_array at z) (act spot.next (fill z)) k a count has l refl (λ b v. absurd v)
-        (λ over. absurd over) t
+    splits_fill spot at z k a count has l t = splits_point spot at false (declare_array at z) (act spot.next (fill z)) k a count has l refl
+        (F.filled spot at z has k a l) t
         (λ j b e j' l' y w. splits_more spot.frame.here k (suc j) count (act spot.next (fill z)) b (omega arith)
         (splits_act spot.next (fill z) spot.frame.here k b j e y w))
 
@@ -591,8 +611,8 @@ module _ (may : State → State → Type 0) (keeps : KeepsWidth may) (Q : Questi
         (k : List Item) (a : Trail Point) (count : ℕ)
         → length a.state.store ≡ spot.live → count < suc fuel
         → W count (config (declare d ∷ k) spot.frame.here a.state) a.met → Splits spot.frame.here k count (seq (point spot.next) g) a
-    splits_declare spot d g q' i x k a count l less t = splits_point spot d.label false (declare d) g k a count i l refl (λ b v. absurd v)
-        (asks_declared Q x a.state l) t
+    splits_declare spot d g q' i x k a count l less t = splits_point spot d.label false (declare d) g k a count i l refl
+        (F.declared spot d g q' i x k a l) t
         (λ j b e j' l' y w. splits_more spot.frame.here k (suc j) count g b (omega arith)
         (by_rvalue spot (suc spot.next) d.number_type d.rvalue g q' x k b j e l' (omega arith) y w))
       where
@@ -609,7 +629,8 @@ module _ (may : State → State → Type 0) (keeps : KeepsWidth may) (Q : Questi
             (splits_gives (move spot (suc spot.live) spot.next) r (variable_at spot.live t) b g q' k (trail x.0 a.met) j e d
             (length_append t a.state x.0 x.1 ∙ ap suc l) less y' w)
 
-    splits_every : (spot : Spot) (b : BlockItems) (g : Node) (n q : ℕ) → InlAll P T spot b g n q → (k : List Item) (a : Trail Point) (count : ℕ) → Matches spot.frame k →
+    splits_every : (spot : Spot) (b : BlockItems) (g : Node) (n q : ℕ) → InlAll P T spot b g n q → (k : List Item) (a : Trail Point) (count : ℕ)
+        → Matches spot.frame k →
         length a.state.store ≡ spot.live
         → count < suc fuel
         → W count (config (all b ∷ k) spot.frame.here a.state) a.met → Splits spot.frame.here k count g a
@@ -617,12 +638,14 @@ module _ (may : State → State → Type 0) (keeps : KeepsWidth may) (Q : Questi
         let x = past (config (all no_more ∷ k) spot.frame.here a.state) (config k spot.frame.here a.state) a.met count refl refl t in
         ended x.0 a (omega arith) refl x.2
     splits_every _ _ _ _ _ (as_declaration {s = spot} {d = d'} {b = b} {g = g} {h = h} {r = r} {n = n'} {q = q'} i d e) k a count m l less t =
-        let x = past (config (all (declaration d' b) ∷ k) spot.frame.here a.state) (config (declare d' ∷ all b ∷ k) spot.frame.here a.state) a.met count refl refl t in
+        let x = past (config (all (declaration d' b) ∷ k) spot.frame.here a.state) (config (declare d' ∷ all b ∷ k) spot.frame.here a.state) a.met count
+        refl refl t in
         let few : x.0 < count = omega arith in
         splits_more spot.frame.here k x.0 count (seq (seq (point spot.next) g) h) a (omega arith)
         (splits_seq spot.frame.here k (all b ∷ k) x.0 (seq (point spot.next) g) h a (skip_one spot.frame.here (all b) k refl refl refl)
         (splits_declare spot d' g r i d (all b ∷ k) a x.0 l (omega arith) x.2)
-        (λ j u less' z w. below.every (move spot (suc spot.live) r) b h n' q' e k u j m ((length_declarator (point_at T) may keeps d).ends a u to_end l z) (omega arith) w))
+        (λ j u less' z w. below.every (move spot (suc spot.live) r) b h n' q' e k u j m ((length_declarator (point_at T) may keeps d).ends a u to_end l z)
+        (omega arith) w))
     splits_every _ _ _ _ _ (as_array {s = spot} {at = at} {a = z} {b = b} {h = h} {n = n'} {q = q'} i e) k a count m l less t =
         let x = past (config (all (array at z b) ∷ k) spot.frame.here a.state)
         (config (declare_array at z ∷ all b ∷ k) spot.frame.here a.state) a.met count refl refl t in
@@ -638,7 +661,7 @@ module _ (may : State → State → Type 0) (keeps : KeepsWidth may) (Q : Questi
         let few : x.0 < count = omega arith in
         splits_more spot.frame.here k x.0 count (seq g h) a (omega arith)
         (splits_seq spot.frame.here k (all b ∷ k) x.0 g h a (skip_one spot.frame.here (all b) k refl refl refl)
-        (below.one spot s g r d (all b ∷ k) a x.0 (matches_skip spot.frame (all b) k refl refl refl m) l (omega arith) x.2)
+        (below.one spot s g r d (all b ∷ k) a x.0 (matches_skip spot.frame (all b) k refl refl refl m) tt l (omega arith) x.2)
         (λ j u i z w. below.every (at_point spot r) b h n' q' e k u j m ((len_one d).ends a u to_end l z) (omega arith) w))
 
     splits_among : (spot : Spot) (cs : Cases) (arms : Arms) (q : ℕ) → InlCases P T spot cs arms q → (k : List Item) (a : Trail Point) (count : ℕ)
@@ -659,7 +682,7 @@ module _ (may : State → State → Type 0) (keeps : KeepsWidth may) (Q : Questi
         let few : x.0 < count = omega arith in
         splits_more spot.frame.here k x.0 count (seq g (arms_row arms)) a (omega arith)
         (splits_seq spot.frame.here k (cases_item cs ∷ k) x.0 g (arms_row arms) a (skip_one spot.frame.here (cases_item cs) k refl refl refl)
-        (below.one spot s g r d (cases_item cs ∷ k) a x.0 (matches_skip spot.frame (cases_item cs) k refl refl refl m) l (omega arith) x.2)
+        (below.one spot s g r d (cases_item cs ∷ k) a x.0 (matches_skip spot.frame (cases_item cs) k refl refl refl m) tt l (omega arith) x.2)
         (λ j u i z w. below.among (at_point spot r) cs arms q' e k u j m ((len_one d).ends a u to_end l z) (omega arith) w))
 
     -- behind a label
@@ -725,8 +748,9 @@ module _ (may : State → State → Type 0) (keeps : KeepsWidth may) (Q : Questi
         go_in o b z = behind_of_row (point_at T) may l arms drawn o b z
 
         after : Splits spot.frame.here behind j (row_behind l arms) drawn → Splits spot.frame.here k (suc j) tree u
-        after (hits h) = hits (hit_of (row_behind l arms) tree drawn u (λ z b no t. (no broken, (l, drawn, found, go_in (stopped z) b t)))
-            (asks_selected Q spot.next spot.frame.here.base v arms l) h)
+        after (hits h) = hits
+            (F.closed.caught spot.next broken (select spot.next spot.frame.here.base v arms) u
+            (F.closed.selected spot.next spot.frame.here.base v arms l u drawn found h))
         after (ended i b few t r) = let z = at_end i b r in let one = z.1 in ended z.0 b (omega arith) (inl (l, drawn, found, go_in to_end b t)) z.2
         after (jumped i broken b c' few t lands r) = ended i b (omega arith) (inr (l, drawn, found, go_in (stopped (by_jump broken)) b t))
             (rw (same_Some (config k spot.frame.here b.state) c' lands) r)
@@ -742,28 +766,29 @@ module _ (may : State → State → Type 0) (keeps : KeepsWidth may) (Q : Questi
             (rw x.goes w))
 
     -- a statement at its point, by what its step makes
-    at_its_point : (spot : Spot) (at : ℕ) (s : Stmt) (g : Node) (k : List Item) (a : Trail Point) (count : ℕ) → count < suc fuel → Has T spot at → length a.state.store ≡ spot.live →
+    at_its_point : (spot : Spot) (at : ℕ) (s : Stmt) (g : Node) (k : List Item) (a : Trail Point) (count : ℕ) → count < suc fuel → Has T spot at
+        → length a.state.store ≡ spot.live →
         label_on (run s ∷ k) ≡ Some at
-        → ((b : State) → IsFailing (run s ∷ k) spot.frame.here b → ⊥) →
-        (TopAsks Q.holds P (run s ∷ k) spot.frame.here a.state → Asks Q (all_in Q None g) spot.next a.state) → W count
+        → (IsThere may P T c zs H (run s ∷ k) spot a → H (seq (point spot.next) g) a) → W count
         (config (run s ∷ k) spot.frame.here a.state) a.met
-        → ((j : ℕ) (b : Trail Point) (e : Config) → j < fuel → length b.state.store ≡ spot.live → next_at P (run s ∷ k) spot.frame.here b.state ≡ Some e → W j e b.met → Splits spot.frame.here k
+        → ((j : ℕ) (b : Trail Point) (e : Config) → j < fuel → length b.state.store ≡ spot.live → next_at P (run s ∷ k) spot.frame.here b.state ≡ Some e
+        → W j e b.met → Splits spot.frame.here k
         (suc j) g b)
         → Splits spot.frame.here k count (seq (point spot.next) g) a
-    at_its_point spot at s g k a count less has l lab sure asked t inner = splits_point spot at false (run s) g k a count has l lab
-        (λ b v. absurd (sure b.state v)) asked t
+    at_its_point spot at s g k a count less has l lab top t inner = splits_point spot at false (run s) g k a count has l lab top t
         (λ j b e j' l' y w. splits_more spot.frame.here k (suc j) count g b (omega arith) (inner j b e (omega arith) l' y w))
 
-    splits_one : (spot : Spot) (s : Stmt) (g : Node) (q : ℕ) → Inl P T spot s g q → (k : List Item) (a : Trail Point) (count : ℕ) → Matches spot.frame k → length a.state.store ≡ spot.live →
-        count < suc fuel
+    on_top : (spot : Spot) (s : Stmt) (g : Node) (q : ℕ) → Inl P T spot s g q → (k : List Item) (a : Trail Point) (count : ℕ) → Matches spot.frame k
+        → IsBare k → length a.state.store ≡ spot.live →
+        count < suc fuel → (IsThere may P T c zs H (run s ∷ k) spot a → H g a)
         → W count (config (run s ∷ k) spot.frame.here a.state) a.met → Splits spot.frame.here k count g a
-    splits_one _ _ _ _ (as_nothing {s = spot} {at = at} i) k a zero m l less t = hits
-        (here spot at false (run (nothing at) ∷ k) a (point spot.next) i l refl (refl, refl) (λ b m v. absurd v) (λ over fresh. absurd over) t)
-    splits_one _ _ _ _ (as_nothing {s = spot} {at = at} i) k a (suc j) m l less t =
+    on_top _ _ _ _ (as_nothing {s = spot} {at = at} i) k a zero m bare l less top t = hits (top t)
+    on_top _ _ _ _ (as_nothing {s = spot} {at = at} i) k a (suc j) m bare l less top t =
         let x = enters (run (nothing at) ∷ k) spot at false j a i l refl t in
         ended j x.past (omega arith) x.passed (rw (same_Some (config k spot.frame.here x.past.state) x.goal x.step) x.rest)
-    splits_one _ _ _ _ (as_block {s = spot} {body = body} {end = end} {g = g} {n = n'} {q = q'} d i) k a count m l less t =
-        let x = past (config (run (block body end) ∷ k) spot.frame.here a.state) (config (all body ∷ end_of end (length a.state.store) ∷ k) spot.frame.here a.state) a.met count refl refl t in
+    on_top _ _ _ _ (as_block {s = spot} {body = body} {end = end} {g = g} {n = n'} {q = q'} d i) k a count m bare l less top t =
+        let x = past (config (run (block body end) ∷ k) spot.frame.here a.state) (config (all body ∷ end_of end (length a.state.store) ∷ k) spot.frame.here
+        a.state) a.met count refl refl t in
         let t' = subst (λ w. W x.0 (config (all body ∷ end_of end w ∷ k) spot.frame.here a.state) a.met) l x.2 in
         let few : x.0 < count = omega arith in
         splits_more spot.frame.here k x.0 count (seq g (seq (point q') (act q' (keep spot.live)))) a (omega arith)
@@ -771,116 +796,123 @@ module _ (may : State → State → Type 0) (keeps : KeepsWidth may) (Q : Questi
         (skip_one spot.frame.here (end_of end spot.live) k refl refl refl)
         (below.every spot body g n' q' d (end_of end spot.live ∷ k) a x.0 (matches_skip spot.frame (end_of end spot.live) k refl refl refl m) l
         (omega arith) t')
-        (λ j u less' z w. end_tail (move spot n' q') spot.live end k u j i ((len_all d).ends a u to_end l z) w))
-    splits_one _ _ _ _ (as_absent {s = spot}) k a count m l less t =
+        (λ j u less' z w. end_tail (move spot n' q') spot.live end k u j bare i ((len_all d).ends a u to_end l z) w))
+    on_top _ _ _ _ (as_absent {s = spot}) k a count m bare l less top t =
         let x = past (config (run absent ∷ k) spot.frame.here a.state) (config k spot.frame.here a.state) a.met count refl refl t in
         ended x.0 a (omega arith) refl x.2
-    splits_one _ _ _ _ (as_assign {s = spot} {at = at} {x = x} {e = v} {g = g} {q = q'} i d) k a count m l less t = at_its_point spot at (assign at x v) g k a
-        count less i l refl (λ b v. v) (asks_given Q d a.state) t
+    on_top _ _ _ _ (as_assign {s = spot} {at = at} {x = x} {e = v} {g = g} {q = q'} i d) k a count m bare l less top t =
+        at_its_point spot at (assign at x v) g k a
+        count less i l refl top t
         (λ j b e less' l' y w. splits_gives spot (suc spot.next) (variable_at (index_of spot.frame.here.base x.slot) x.number_type) v g q' k b j e d l' less' y
         w)
-    splits_one _ _ _ _ (as_write {s = spot} {at = at} {x = x} {e = v} i) k a count m l less t =
-        at_its_point spot at (write at x (value v)) (act spot.next (give_element spot.frame.here.base x v)) k a count less i l refl (λ b z. z)
-        (asks_own Q spot.next (give_element spot.frame.here.base x v) a.state) t
+    on_top _ _ _ _ (as_write {s = spot} {at = at} {x = x} {e = v} i) k a count m bare l less top t =
+        at_its_point spot at (write at x (value v)) (act spot.next (give_element spot.frame.here.base x v)) k a count less i l refl
+        top t
         (λ j u e less' l' y w. splits_act spot.next (give_element spot.frame.here.base x v) spot.frame.here k u j e y w)
-    splits_one _ _ _ _ (as_write_call {s = spot} {at = at} {x = x} {c = b} {g = g} {q = q'} i d) k a count m l less t =
-        at_its_point spot at (write at x (result b)) g k a count less i l refl (λ b z. z)
-        (λ over. asks_calls Q d None a.state a.state (λ op o. o) over) t
+    on_top _ _ _ _ (as_write_call {s = spot} {at = at} {x = x} {c = b} {g = g} {q = q'} i d) k a count m bare l less top t =
+        at_its_point spot at (write at x (result b)) g k a count less i l refl top t
         (λ j u e less' l' y w. splits_calls spot (suc spot.next) (waiting_in x.array) (push_for spot.frame.here.base x) b g q' k u j e d
         (λ es s t o. length_push_for spot.frame.here.base x es s t o) l' less' y w)
-    splits_one _ _ _ _ (as_call {s = spot} {at = at} {c = b} {g = g} {q = q'} i d) k a count m l less t = at_its_point spot at (call at b) g k a count less i l
-        refl (λ b v. v) (asks_given Q d a.state) t
+    on_top _ _ _ _ (as_call {s = spot} {at = at} {c = b} {g = g} {q = q'} i d) k a count m bare l less top t =
+        at_its_point spot at (call at b) g k a count less i l
+        refl top t
         (λ j u e less' l' y w. splits_gives spot (suc spot.next) nobody (result b) g q' k u j e d l' less' y w)
-    splits_one _ _ _ _ (as_if {s = spot} {at = at} {c = b} {a = s} {b = s'} {g = g} {h = h} {r = r} {q = q'} i d d') k a count m l less t =
-        at_its_point spot at (if at b s s') (choose spot.next spot.frame.here.base b g h) k a count less i l refl (λ b v. v)
-        (asks_condition Q spot.next spot.frame.here.base b g h a.state) t
-        (λ j u e less' l' y w. elim (go_by_some (run s ∷ k) (run s' ∷ k) spot.frame.here u.state (truth_of b (scene_at spot.frame.here.base u.state) u.state.draws) e y) as
+    on_top _ _ _ _ (as_if {s = spot} {at = at} {c = b} {a = s} {b = s'} {g = g} {h = h} {r = r} {q = q'} i d d') k a count m bare l less top t =
+        at_its_point spot at (if at b s s') (choose spot.next spot.frame.here.base b g h) k a count less i l refl
+        top t
+        (λ j u e less' l' y w. elim (go_by_some (run s ∷ k) (run s' ∷ k) spot.frame.here u.state
+        (truth_of b (scene_at spot.frame.here.base u.state) u.state.draws) e y) as
         (λ z. Splits spot.frame.here k (suc j) (choose spot.next spot.frame.here.base b g h) u) [
           | inl z ↦ splits_more spot.frame.here k j (suc j) (choose spot.next spot.frame.here.base b g h) u (omega arith)
               (choose_on spot.next spot.frame.here.base b g h spot.frame.here k j u (trail z.0 u.met) (z.1, refl)
-              (below.one (at_point spot (suc spot.next)) s g r d k (trail z.0 u.met) j m (length_test spot.frame.here.base b true u.state z.0 z.1 ∙ l') less' (rw z.2 w)))
+              (below.one (at_point spot (suc spot.next)) s g r d k (trail z.0 u.met) j m bare (length_test spot.frame.here.base b true u.state z.0 z.1 ∙ l')
+              less' (rw z.2 w)))
           | inr z ↦ splits_more spot.frame.here k j (suc j) (choose spot.next spot.frame.here.base b g h) u (omega arith)
               (choose_off spot.next spot.frame.here.base b g h spot.frame.here k j u (trail z.0 u.met) (z.1, refl)
-              (below.one (at_point spot r) s' h q' d' k (trail z.0 u.met) j m (length_test spot.frame.here.base b false u.state z.0 z.1 ∙ l') less' (rw z.2 w)))
+              (below.one (at_point spot r) s' h q' d' k (trail z.0 u.met) j m bare (length_test spot.frame.here.base b false u.state z.0 z.1 ∙ l') less'
+              (rw z.2 w)))
         ])
-    splits_one _ _ _ _ (as_loop {s = spot} {a = s} {g = g} {q = q'} d) k a count m l less t = of_loop spot (suc spot.next) s g q' d k a count m l less t
-    splits_one _ _ _ _ (as_for {s = spot} {at = at} {init = init} {c = b} {a = s} {step = step} {g = g} {h = h} {n = n'} {r = r} {q = q'} d e) k a count m l less t =
-        let x = past (config (run (for at init b s step) ∷ k) spot.frame.here a.state) (config (all init ∷ run (loop at b s step) ∷ cut (length a.state.store) ∷ k) spot.frame.here a.state) a.met
+    on_top _ _ _ _ (as_loop {s = spot} {a = s} {g = g} {q = q'} d) k a count m bare l less top t = of_loop spot (suc spot.next) s g q' d k a count m l less t
+    on_top _ _ _ _ (as_for {s = spot} {at = at} {init = init} {c = b} {a = s} {step = step} {g = g} {h = h} {n = n'} {r = r} {q = q'} d e) k a count m
+        bare l less top t =
+        let x = past (config (run (for at init b s step) ∷ k) spot.frame.here a.state)
+        (config (all init ∷ run (loop at b s step) ∷ cut (length a.state.store) ∷ k) spot.frame.here a.state) a.met
         count refl refl t in
         splits_more spot.frame.here k x.0 count (seq g (seq h (act spot.next (keep spot.live)))) a (omega arith)
-        (splits_for spot at init b s step g h n' r q' d e k a x.0 m l (omega arith) (subst (λ w. W x.0 (config (all init ∷ run (loop at b s step) ∷ cut w ∷ k) spot.frame.here a.state) a.met) l x.2))
-    splits_one _ _ _ _ (as_break {s = spot} {at = at} {m = b} i i' has) k a count m l less t =
-        at_its_point spot at (break at) (seq (act spot.next (keep b)) (leave spot.live broken)) k a count less has l refl (λ b v. v) (λ over. absurd over) t
+        (splits_for spot at init b s step g h n' r q' d e k a x.0 m l (omega arith)
+        (subst (λ w. W x.0 (config (all init ∷ run (loop at b s step) ∷ cut w ∷ k) spot.frame.here a.state) a.met) l x.2))
+    on_top _ _ _ _ (as_break {s = spot} {at = at} {m = b} i i' has) k a count m bare l less top t =
+        at_its_point spot at (break at) (seq (act spot.next (keep b)) (leave spot.live broken)) k a count less has l refl
+        top t
         (λ j u e less' l' y w. splits_break spot.frame spot.next b spot.live k u j e i m y w)
-    splits_one _ _ _ _ (as_continue {s = spot} {at = at} {m = b} i i' has) k a count m l less t =
-        at_its_point spot at (continue at) (seq (act spot.next (keep b)) (leave spot.live continued)) k a count less has l refl (λ b v. v)
-        (λ over. absurd over) t
+    on_top _ _ _ _ (as_continue {s = spot} {at = at} {m = b} i i' has) k a count m bare l less top t =
+        at_its_point spot at (continue at) (seq (act spot.next (keep b)) (leave spot.live continued)) k a count less has l refl
+        top t
         (λ j u e less' l' y w. splits_continue spot.frame spot.next b spot.live k u j e i m y w)
-    splits_one _ _ _ _ (as_return {s = spot} {at = at} {b = b} i i' has) k a count m l less t =
-        at_its_point spot at (return at None) (return_node spot.next (give_any b.receiver) b.length spot.live) k a count less has l refl (λ b v. v)
-        (λ over. absurd over) t
+    on_top _ _ _ _ (as_return {s = spot} {at = at} {b = b} i i' has) k a count m bare l less top t =
+        at_its_point spot at (return at None) (return_node spot.next (give_any b.receiver) b.length spot.live) k a count less has l refl
+        top t
         (λ j u e less' l' y w.
         let y' : do_leave (to_mark k) (run_any b.receiver u.state) ≡ Some e = subst (λ v. do_leave (to_mark k) (run_any v u.state) ≡ Some e)
-        (receiver_is spot.frame k b i m) y in
+        (receiver_is P spot.frame k b i m) y in
         splits_return spot.frame spot.next spot.live (give_any b.receiver) b k u j e i m y' w)
-    splits_one _ _ _ _ (as_return_value {s = spot} {at = at} {e = v} {b = b} i i' has) k a count m l less t =
+    on_top _ _ _ _ (as_return_value {s = spot} {at = at} {e = v} {b = b} i i' has) k a count m bare l less top t =
         at_its_point spot at (return at (Some (value v))) (return_node spot.next (give spot.frame.here.base b.receiver v) b.length spot.live) k a count less
-        has l refl (λ b v. v)
-        (λ over. asks_front Q (act spot.next (give spot.frame.here.base b.receiver v))
-        (seq (act spot.next (keep b.length)) (leave spot.live returned)) spot.next
-        a.state (asks_own Q spot.next (give spot.frame.here.base b.receiver v) a.state
-        (subst (λ x. Q.holds (give spot.frame.here.base x v) a.state) (receiver_is spot.frame k b i m) over))) t
+        has l refl top t
         (λ j u e less' l' y w.
         let y' : do_leave (to_mark k) (run_op (give spot.frame.here.base b.receiver v) u.state) ≡ Some e =
-        subst (λ x. do_leave (to_mark k) (run_op (give spot.frame.here.base x v) u.state) ≡ Some e) (receiver_is spot.frame k b i m) y in
+        subst (λ x. do_leave (to_mark k) (run_op (give spot.frame.here.base x v) u.state) ≡ Some e) (receiver_is P spot.frame k b i m) y in
         splits_return spot.frame spot.next spot.live (give spot.frame.here.base b.receiver v) b k u j e i m y' w)
-    splits_one _ _ _ _ (as_return_call {s = spot} {at = at} {c = v} {b = b} {g = g} {q = q'} i i' has d) k a count m l less t =
+    on_top _ _ _ _ (as_return_call {s = spot} {at = at} {c = v} {b = b} {g = g} {q = q'} i i' has d) k a count m bare l less top t =
         at_its_point spot at (return at (Some (result v))) (seq g (seq (act spot.next (keep b.length)) (leave spot.live returned))) k a count less has l refl
-        (λ b v. v)
-        (λ over. asks_front Q g (seq (act spot.next (keep b.length)) (leave spot.live returned)) spot.next a.state (asks_given Q d a.state over)) t
+        top t
         (λ j u e less' l' y w.
         let y' : do_rvalue P b.receiver (result v) (leave_call ∷ k) spot.frame.here u.state ≡ Some e =
-        subst (λ x. do_rvalue P x (result v) (leave_call ∷ k) spot.frame.here u.state ≡ Some e) (receiver_is spot.frame k b i m) y in
+        subst (λ x. do_rvalue P x (result v) (leave_call ∷ k) spot.frame.here u.state ≡ Some e) (receiver_is P spot.frame k b i m) y in
         splits_seq spot.frame.here k (leave_call ∷ k) (suc j) g (seq (act spot.next (keep b.length)) (leave spot.live returned)) u
         (skip_one spot.frame.here leave_call k refl refl refl)
         (splits_gives spot (suc spot.next) b.receiver (result v) g q' (leave_call ∷ k) u j e d l' less' y' w)
         (λ j'' u' z f b'. leave_tail spot.frame spot.next spot.live b k u' j'' i m b'))
-    splits_one _ _ _ _ (as_end {s = spot} {at = at} i has) k a count m l less t = at_its_point spot at (return at None) (leave spot.live returned) k a count
-        less has l refl (λ b v. v) (λ over. absurd over) t
+    on_top _ _ _ _ (as_end {s = spot} {at = at} i has) k a count m bare l less top t =
+        at_its_point spot at (return at None) (leave spot.live returned) k a count
+        less has l refl top t
         (λ j u e less' l' y w. absurd (none-some e (subst (λ o. do_leave o (run_any (receiver_of P o) u.state) ≡ Some e) (no_mark spot.frame k i m) y)))
-    splits_one _ _ _ _ (as_end_value {s = spot} {at = at} {e = v} i has) k a count m l less t =
+    on_top _ _ _ _ (as_end_value {s = spot} {at = at} {e = v} i has) k a count m bare l less top t =
         at_its_point spot at (return at (Some (value v))) (seq (act spot.next (give spot.frame.here.base (behind_main P) v)) (leave spot.live returned)) k a
-        count less has l refl (λ b v. v)
-        (λ over. asks_front Q (act spot.next (give spot.frame.here.base (behind_main P) v)) (leave spot.live returned) spot.next a.state
-        (asks_own Q spot.next (give spot.frame.here.base (behind_main P) v) a.state
-        (subst (λ o. Q.holds (give spot.frame.here.base (receiver_of P o) v) a.state) (no_mark spot.frame k i m) over))) t
+        count less has l refl top t
         (λ j u e less' l' y w. absurd (none-some e (subst (λ o. do_leave o (run_op (give spot.frame.here.base (receiver_of P o) v) u.state) ≡ Some e)
         (no_mark spot.frame k i m) y)))
-    splits_one _ _ _ _ (as_end_call {s = spot} {at = at} {c = v} {g = g} {q = q'} i has d) k a count m l less t =
-        at_its_point spot at (return at (Some (result v))) (seq g (leave spot.live returned)) k a count less has l refl (λ b v. v)
-        (λ over. asks_front Q g (leave spot.live returned) spot.next a.state (asks_given Q d a.state over)) t
+    on_top _ _ _ _ (as_end_call {s = spot} {at = at} {c = v} {g = g} {q = q'} i has d) k a count m bare l less top t =
+        at_its_point spot at (return at (Some (result v))) (seq g (leave spot.live returned)) k a count less has l refl
+        top t
         (λ j u e less' l' y w.
         let y' : do_rvalue P (behind_main P) (result v) (leave_call ∷ k) spot.frame.here u.state ≡ Some e =
         subst (λ o. do_rvalue P (receiver_of P o) (result v) (leave_call ∷ k) spot.frame.here u.state ≡ Some e) (no_mark spot.frame k i m) y in
         splits_seq spot.frame.here k (leave_call ∷ k) (suc j) g (leave spot.live returned) u (skip_one spot.frame.here leave_call k refl refl refl)
         (splits_gives spot (suc spot.next) (behind_main P) (result v) g q' (leave_call ∷ k) u j e d l' less' y' w)
         (λ j'' u' z f b'. end_tail_of spot.frame k u' j'' (leave spot.live returned) (no_mark spot.frame k i m) b'))
-    splits_one _ _ _ _ (as_assert {s = spot} {at = at} {c = b} i) k a count m l less t =
-        splits_point spot at true (run (assert at b)) (check spot.next spot.frame.here.base b) k a count i l refl (λ u v. (refl, refl, v.0, v.1))
-        (asks_own Q spot.next (test spot.frame.here.base b true) a.state) t
-        (λ j u e j' l' y w. let x = go_some k spot.frame.here (run_op (test spot.frame.here.base b true) u.state) e y in ended j (trail x.0 u.met) (omega arith) (x.1, refl) (rw x.2 w))
-    splits_one _ _ _ _ (as_assume {s = spot} {at = at} {c = b} i) k a count m l less t =
-        at_its_point spot at (assume at b) (act spot.next (test spot.frame.here.base b true)) k a count less i l refl (λ b v. v)
-        (asks_own Q spot.next (test spot.frame.here.base b true) a.state) t
+    on_top _ _ _ _ (as_assert {s = spot} {at = at} {c = b} i) k a count m bare l less top t =
+        splits_point spot at true (run (assert at b)) (check spot.next spot.frame.here.base b) k a count i l refl
+        top t
+        (λ j u e j' l' y w. let x = go_some k spot.frame.here (run_op (test spot.frame.here.base b true) u.state) e y in
+        ended j (trail x.0 u.met) (omega arith) (x.1, refl) (rw x.2 w))
+    on_top _ _ _ _ (as_assume {s = spot} {at = at} {c = b} i) k a count m bare l less top t =
+        at_its_point spot at (assume at b) (act spot.next (test spot.frame.here.base b true)) k a count less i l refl
+        top t
         (λ j u e less' l' y w. splits_act spot.next (test spot.frame.here.base b true) spot.frame.here k u j e y w)
-    splits_one _ _ _ _ (as_switch {s = spot} {at = at} {e = v} {cs = cs} {arms = arms} {q = q'} i d) k a count m l less t =
-        at_its_point spot at (switch at v cs) (switch_node spot.next spot.frame.here.base v arms) k a count less i l refl (λ b z. z)
-        (asks_value Q spot.next spot.frame.here.base v arms a.state) t
+    on_top _ _ _ _ (as_switch {s = spot} {at = at} {e = v} {cs = cs} {arms = arms} {q = q'} i d) k a count m bare l less top t =
+        at_its_point spot at (switch at v cs) (switch_node spot.next spot.frame.here.base v arms) k a count less i l refl
+        top t
         (λ j u e less' l' y w. splits_switch spot v cs arms q' d k u j e m l' less' y w)
+
+    splits_one : (spot : Spot) (s : Stmt) (g : Node) (q : ℕ) → Inl P T spot s g q → (k : List Item) (a : Trail Point) (count : ℕ) → Matches spot.frame k
+        → IsBare k → length a.state.store ≡ spot.live → count < suc fuel
+        → W count (config (run s ∷ k) spot.frame.here a.state) a.met → Splits spot.frame.here k count g a
+    splits_one spot s g q d k a count m bare l less t = on_top spot s g q d k a count m bare l less (F.one spot s g q d k a m l) t
 
   nothing_below : Below zero
   nothing_below = record {
-    one = λ spot s g q d k a count m l less t. absurd (omega arith);
+    one = λ spot s g q d k a count m bare l less t. absurd (omega arith);
     every = λ spot s g n q d k a count m l less t. absurd (omega arith);
     among = λ spot cs arms q d k a count m l less t. absurd (omega arith);
     loops = λ spot r s g q d k a count m l less t. absurd (omega arith);

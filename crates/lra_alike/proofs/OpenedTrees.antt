@@ -13,7 +13,8 @@ use Rattle.lra_operations.specs.declared.asides.Aside.TheVariants.{Noting}
 use Rattle.lra_operations.specs.Graph.{Exit, Node, empty, aside, point, act, check, seq, choose, iterate, catch, leave, select}
 use Rattle.lra_operations.specs.Graph.{Arms, no_arms, entry, arm}
 use Rattle.lra_flow.specs.Live.{dims_behind, live_after}
-use Rattle.lra_flow.specs.Opened.{gift_of, noting_of, opened, opened_arms, place_in, place_of}
+use Rattle.lra_program.specs.Gifts.{gift_of, place_in, place_of}
+use Rattle.lra_flow.specs.Opened.{noting_of, opened, opened_arms}
 use Rattle.lra_flow.specs.Room.{most_live}
 use Rattle.lra_change.specs.Changes.{CellFits, OpFits, PlaceFits}
 use Rattle.lra_outcomes.specs.Fits.{ArmsFit, ArmsJumpWith, JumpsWith, TreeFits}

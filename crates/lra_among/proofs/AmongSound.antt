@@ -30,7 +30,8 @@ use Rattle.lra_flow.specs.Operations.{dropping}
 use Rattle.lra_flow.specs.Pass.{Entry, value, failing, given, Result, noted, goes_on, in_turn, behind, jumps, Leaves, GoesRound, Grows, Narrows, Through}
 use Rattle.lra_flow.specs.Pass.{PassAmong, ArmsPassAmong, MatchesNone, ComesOut}
 use Rattle.lra_flow.specs.Among.{admitted}
-use Rattle.lra_flow.specs.Opened.{gift_of, noting_of, opened, opened_arms}
+use Rattle.lra_program.specs.Gifts.{gift_of}
+use Rattle.lra_flow.specs.Opened.{noting_of, opened, opened_arms}
 use Rattle.lra_flow.proofs.Covers.{Has, HeadHas, covered_has, stays_has}
 use Rattle.lra_flow.proofs.Keeps.{changes_keep, values_keep}
 use Rattle.lra_among.specs.CoversAmong.{Moment, stop, gift, Happens, ArmsHappen, Owes, CoversAmong, BodyCovers, ArmsCoverAmong, MayBecome, PassesCoverAmong}

@@ -40,7 +40,7 @@ use Rattle.lra_flow.specs.Fits.{FittingNeverOverflow}
 use Rattle.lra_flow.proofs.FormLemmas.{form_wide, constant_value, negated_value, exact_forms, forms_are_right}
 use Rattle.lra_flow.proofs.CondKeeping.{cond_leads}
 use Rattle.lra_flow.proofs.Covers.{Has}
-use Rattle.lra_flow.proofs.Keeping.{aim_keeps}
+use Rattle.lra_program.proofs.StepLaws.{aim_keeps}
 use Rattle.lra_flow.proofs.Keeps.{moves_keep, changes_keep}
 
 -- numbers of a type ----------------------------------------------------------------------------------------------------

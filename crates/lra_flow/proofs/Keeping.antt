@@ -15,14 +15,14 @@ use Rattle.lra_program.specs.declared.receivers.Cell.TheVariants.{Variable, Wait
 use Rattle.lra_program.specs.declared.receivers.Target.{Target}
 use Rattle.lra_program.specs.declared.receivers.Receiver.{Receiver}
 use Rattle.lra_program.specs.Receivers.{waiting_in, lets_through, target_accepts, accepts}
-use Rattle.lra_base.specs.declared.refusals.Place.{Place}
 use Rattle.lra_program.specs.Arrays.{elements_of, place_among}
 use Rattle.lra_program.specs.declared.arrays.Array.{Array}
-use Rattle.lra_program.specs.Program.{Expr, literal, read, input, negate, binary, element, type_of, Element, Cond}
+use Rattle.lra_program.specs.Program.{Expr, literal, read, input, negate, binary, element, type_of, Cond}
 use Rattle.lra_program.specs.Value.{◌>>=◌, number, index_of, Scene, apply, Argument, Drawn, draw, draws_of, value_of, values_of, truth_of}
 use Rattle.lra_program.specs.Step.{State, Op, append, fill, give, give_element, give_any, push, push_for, keep, put, put_in, put_waiting, receive, kept_if}
 use Rattle.lra_program.specs.Step.{drawn_for, pushed, filled, aim, scene_at, run_op}
 use Rattle.lra_program.proofs.TypeLaws.{bind_some, number_fits}
+use Rattle.lra_program.proofs.StepLaws.{aim_keeps, store_waiting}
 use Rattle.lra_program.specs.Step as step
 use Rattle.lra_flow.specs.Linear as linear
 use Rattle.lra_flow.specs.declared.seen.Seen.{Seen}
@@ -198,11 +198,6 @@ received x s t (Some r) e = by (accepts x r.0) refl e
     }
     by false ok h = cc
 
--- what an element gets changes no variable
-waiting_keeps : (p : Place) (z : ℤ) (ks : List ℕ) (s : State) → (put_waiting p z ks s).store ≡ s.store
-waiting_keeps p z [] s = refl
-waiting_keeps p z (k ∷ ks) s = refl
-
 -- a variable gets a number of its type
 cell_leads : (t : NumberType) (c : Cell) (w : Seen) (s : State) (z : ℤ) → fits t z ≡ true
     → ((x : ℕ) → MayLead (set_to (length s.store) x w) s.store (slice_set s.store x z))
@@ -210,7 +205,7 @@ cell_leads : (t : NumberType) (c : Cell) (w : Seen) (s : State) (z : ℤ) → fi
 cell_leads t (Variable x) w s z ok led =
     within_type_keeps t (set_to (length s.store) x w) (length s.store) s.store (slice_set s.store x z) x z
     (sym (set_length s.store x z)) (get_set s.store x z) ok (led x)
-cell_leads t (Waiting p) w s z ok led = waiting_keeps p z s.waiting s
+cell_leads t (Waiting p) w s z ok led = store_waiting p z s.waiting s
 
 -- the target, where there is one, gets a number of its type
 target_leads : (o : Option Target) (w : Seen) (s : State) (z : ℤ) → target_accepts o z ≡ true
@@ -277,13 +272,6 @@ test_leads base c false s t (Some (true, left)) ran is = cc
 filled_keeps : (a : Array) (s t : State) (o : Drawn (List ℤ)) → filled a s o ≡ Some t → t.store ≡ s.store
 filled_keeps a s t None is = cc
 filled_keeps a s t (Some r) is = sym (store_is (record s { arrays = (a.declared, r.0) ∷ s.arrays; draws = r.1 }) t is)
-
-pub aim_keeps : (base : ℕ) (x : Element) (s t : State) → aim base x s ≡ Some t → t.store ≡ s.store
-aim_keeps base x s t is =
-    let waits : ℤ × List ℤ → ℕ → State = λ r k. record s { waiting = k ∷ s.waiting; draws = r.1 } in
-    let (r, got, on) = bind_some (value_of x.index (scene_at base s) s.draws) (λ r. place_among x.array.length r.0 >>= λ k. Some (waits r k)) t is in
-    let (k, there, to) = bind_some (place_among x.array.length r.0) (λ k. Some (waits r k)) t on in
-    sym (store_is (waits r k) t to)
 
 -- the moves of a least change lead where it leads
 pub op_leads : (op : Op) (s t : State) → run_op op s ≡ Some t → MayLead (moves_of (length s.store) op) s.store t.store

@@ -17,7 +17,7 @@ use Rattle.lra_program.specs.Step.{Turn, to_turn, Called, to_mark, receiver_of, 
 use Rattle.lra_program.specs.Step.{do_break}
 use Rattle.lra_program.specs.Step.{do_continue, do_leave, do_return, do_switch, chosen, do_stmt, do_declare, next_at}
 use Rattle.lra_program.specs.Asks.{RvalueAsks, WriteAsks, ReturnAsks, DeclaredAsks}
-use Rattle.lra_flow.specs.Opened.{gift_of}
+use Rattle.lra_program.specs.Gifts.{gift_of}
 use Rattle.lra_interleavings.specs.Gifts.{OpGives, StepGives}
 use Rattle.lra_interleavings.proofs.Operations.{Wrote, KeepsMany, wrote, kept_long}
 use Rattle.std.proofs.lemmas.List.{take-take}

@@ -1,5 +1,5 @@
 -- What an operation does to the first n variables of a store: nothing, or it gives one of them a value.
-use Rattle.std.proofs.Common.{◌≡◌, ℕ, ℤ, ◌≤◌, ◌<◌, List, [], ◌∷◌, ◌++◌, length, take, set, Option, Some, None, Bool, true, false, ◌⊎◌, inl, inr, refl, sym}
+use Rattle.std.proofs.Common.{◌≡◌, ℕ, ℤ, ◌≤◌, ◌<◌, List, [], ◌∷◌, ◌++◌, length, take, set, Option, Some, None, Bool, true, ◌⊎◌, inl, inr, refl, sym}
 use Rattle.std.proofs.Common.{ap, ◌∙◌, arith}
 use Rattle.std.proofs.Common.{slice_get, length-append, subst}
 use Rattle.std.specs.Prelude.{⊤}
@@ -19,9 +19,9 @@ use Rattle.lra_program.specs.Receivers.{waiting_in, accepts}
 use Rattle.lra_program.specs.Value.{◌>>=◌, number, Drawn, draw, draws_of, value_of, values_of, truth_of}
 use Rattle.lra_program.proofs.TypeLaws.{bind_some}
 use Rattle.lra_program.specs.Step.{State, scene_at, Op, append, fill, give, give_element, give_any, push, push_for, keep, test, run_op, drawn_for}
-use Rattle.lra_program.specs.Step.{put_waiting, put_in, put, receive, pushed, kept_if, filled, aim, tested}
-use Rattle.lra_flow.specs.Opened.{place_in, place_of, gift_of}
-use Rattle.lra_flow.proofs.Keeping.{aim_keeps}
+use Rattle.lra_program.specs.Step.{put_waiting, put_in, put, receive, pushed, filled, aim, tested}
+use Rattle.lra_program.specs.Gifts.{place_in, place_of, gift_of}
+use Rattle.lra_program.proofs.StepLaws.{aim_keeps, is_kept, store_waiting}
 
 -- lists --------------------------------------------------------------------------------------------------------------
 
@@ -57,8 +57,7 @@ as_it_was : (n : ℕ) (o : Option ℕ) (a b : List ℤ) → n ≤ length a → b
 as_it_was n o a b l e = (subst (λ (c : List ℤ). n ≤ length c) (sym e) l, inl (ap (take n) e))
 
 wrote_waiting : (n : ℕ) (p : Place) (z : ℤ) (ks : List ℕ) (s : State) → n ≤ length s.store → Wrote n None s.store (put_waiting p z ks s).store
-wrote_waiting n p z [] s l = as_it_was n None s.store s.store l refl
-wrote_waiting n p z (k ∷ ks) s l = as_it_was n None s.store s.store l refl
+wrote_waiting n p z ks s l = as_it_was n None s.store (put_waiting p z ks s).store l (store_waiting p z ks s)
 
 wrote_at : (n k : ℕ) (z : ℤ) (a : List ℤ) → n ≤ length a → (k < n) ⊎ (n ≤ k) → Wrote n (Some k) a (set a k z)
 wrote_at n k z a l (inl h) =
@@ -73,12 +72,6 @@ wrote_to : (n : ℕ) (o : Option Target) (z : ℤ) (s : State) → n ≤ length 
     → Wrote n (place_of o) s.store (put o z s).store
 wrote_to n None z s l = as_it_was n None s.store s.store l refl
 wrote_to n (Some t) z s l = wrote_in n t.cell z s l
-
-is_kept : (b d : Bool) (s t : State) → kept_if b d s ≡ Some t → t ≡ s
-is_kept true true s t e = sym (same_Some s t e)
-is_kept false false s t e = sym (same_Some s t e)
-is_kept true false s t e = absurd (none-some t e)
-is_kept false true s t e = absurd (none-some t e)
 
 wrote_received : (n : ℕ) (x : Receiver) (s : State) (v : Drawn ℤ) (t : State) → n ≤ length s.store → receive x s v ≡ Some t
     → Wrote n (place_of x.target) s.store t.store

@@ -11,7 +11,7 @@ use Rattle.lra_program.specs.Step.{to_mark, do_leave, go, next_at, next}
 use Rattle.std.proofs.lemmas.Option.{same_Some}
 use Rattle.lra_program.specs.Run.{start, label_on, Point}
 use Rattle.lra_program.specs.Trails.{Met, passes, Trail, Alone, met_on, Becomes, Walks}
-use Rattle.lra_program.proofs.TrailLaws.{walk_on}
+use Rattle.lra_program.proofs.TrailLaws.{becomes_same, walk_on}
 use Rattle.lra_interleavings.specs.Gifts.{StepGives}
 use Rattle.lra_interleavings.specs.Interleavings.{LeadsOn}
 use Rattle.lra_interleavings.specs.Woven.{GivesThere, Changes, none, more}
@@ -61,10 +61,6 @@ module _ (P : Program) where
   met_none : (o : Option ℕ) (path : List ℕ) (s : State) (xs : List (Met Point)) (n : ℕ) → length (met_on o path s xs) ≤ n → n ≤ length xs → o ≡ None
   met_none None path s xs n h l = refl
   met_none (Some label) path s xs n h l = absurd (omega (arith, h, l))
-
-  pub becomes_same : (o : Option ℕ) (s t : State) → Becomes Alone o s t → t ≡ s
-  becomes_same None s t e = e
-  becomes_same (Some label) s t e = e
 
   pub quiet_of : (n : ℕ) (c d : Config) (xs ys : List (Met Point)) → Walks Alone P n c xs d ys → length ys ≤ length xs → Quiet n c d
   quiet_of zero c d xs ys (e, f) l = e
@@ -266,7 +262,7 @@ module _ (may : State → State → Type 0) (P : Program) (draws : List ℤ) whe
       -- a step from there
       first_step : (s' : State) (e : Config) → Becomes Alone (label_on c.items) s s' → next_at P c.items c.here s' ≡ Some e
           → next_at P c.items c.here s ≡ Some e
-      first_step s' e b x = subst (λ (t : State). next_at P c.items c.here t ≡ Some e) (becomes_same P (label_on c.items) s s' b) x
+      first_step s' e b x = subst (λ (t : State). next_at P c.items c.here t ≡ Some e) (becomes_same (label_on c.items) s s' b) x
 
       one_met : (ys : List (Met Point)) → length ys ≤ 1 → length ys ≤ length (met_on (label_on c.items) c.here.path s [])
       one_met ys h = rw on h
@@ -292,7 +288,7 @@ module _ (may : State → State → Type 0) (P : Program) (draws : List ℤ) whe
           → Walks Alone P (suc left) u met d (passes p s ∷ []) → StepGives x t P u.items u.here u.state
           → (a : Trail Point) × GivesThere may P draws x a × (a.state ≡ t)
       given x t zero left p u d met (same, none_met) (s', e, b, y, rest) g =
-          let next_is = subst (λ (v : State). next_at P u.items u.here v ≡ Some e) (becomes_same P (label_on u.items) u.state s' b) y in (
+          let next_is = subst (λ (v : State). next_at P u.items u.here v ≡ Some e) (becomes_same (label_on u.items) u.state s' b) y in (
             record { state = t; met = met_on (label_on c.items) c.here.path c.state xs },
             (
               w.0,
@@ -315,7 +311,7 @@ module _ (may : State → State → Type 0) (P : Program) (draws : List ℤ) whe
           let many : 1 ≤ length met = met_one met (met_grows P m e0 u (met_on (label_on c.items) c.here.path s []) met walk) in
           let stands = on_quietly m (take n s.store) e0 u _ one (quiet_of P m e0 u (met_on (label_on c.items) c.here.path s []) met walk (one_met met few)) in
           let silent = (quiet_of P (suc left) u d met (passes p s ∷ []) all many).0 in
-          let next_is = subst (λ (v : State). next_at P u.items u.here v ≡ Some e) (becomes_same P (label_on u.items) u.state s' b) y in
+          let next_is = subst (λ (v : State). next_at P u.items u.here v ≡ Some e) (becomes_same (label_on u.items) u.state s' b) y in
           let xs' = met_on (label_on c.items) c.here.path c.state xs in (
             record { state = t; met = met_on (label_on u.items) u.here.path u.state xs' },
             (stands.comes.0, u, xs', u.state, e, stands.comes.1, quiet_becomes (label_on u.items) u.state silent, next_is, g, refl),

@@ -4,7 +4,7 @@ use Rattle.std.specs.Prelude.{◌≡◌, ◌⊎◌, ℕ, List, ◌∷◌, Some, 
 use Rattle.lra_program.specs.Program.{Program, return}
 use Rattle.lra_program.specs.Step.{State, Op, give_any, run_op, Here, Item, run, mark, receiver_of, to_mark}
 use Rattle.lra_program.specs.Asks.{TopAsks}
-use Rattle.lra_flow.specs.Opened.{gift_of}
+use Rattle.lra_program.specs.Gifts.{gift_of}
 
 -- the operation gives the variable x a value, which it has in the state behind it, t
 abbrev pub OpGives : ℕ → State → Op → State → Type 0

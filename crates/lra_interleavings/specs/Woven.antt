@@ -97,7 +97,7 @@ abbrev pub ThreadsAreWoven : Type 1
 ThreadsAreWoven = (P : Program) (fs : List Function) (Within : ℕ → ℕ → ℤ → Type 0) (may : ℕ → State → State → Type 0) →
     AreAllowed P fs Within may → GiveWithin P fs Within may → IsWoven P fs Within may
 
--- the values told by a test, where nothing else happens than that others give them
+-- the values told by a test; others give globals such values, and to arrays anything
 abbrev pub TestedThreadsAreWoven : Type 0
 TestedThreadsAreWoven = (P : Program) (fs : List Function) (within : ℕ → ℕ → ℤ → Bool) →
     let Within : ℕ → ℕ → ℤ → Type 0 = λ k x z. IsTrue (within k x z) in

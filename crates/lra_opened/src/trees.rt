@@ -7,7 +7,8 @@ ghost use Rattle.lra_operations.specs.declared.asides.Aside.TheVariants.{Enterin
 ghost use Rattle.lra_operations.specs.Graph as graph;
 ghost use Rattle.lra_operations.specs.GraphViews.{arm_view, arms_of, node_view, op_view, row};
 ghost use Rattle.lra_operations.specs.Sizes.{arm_sizes, arms_size, whole_size};
-ghost use Rattle.lra_flow.specs.Opened.{entered, gift_of, noting_of, opened, opened_arms, place_of};
+ghost use Rattle.lra_flow.specs.Opened.{entered, noting_of, opened, opened_arms};
+ghost use Rattle.lra_program.specs.Gifts.{gift_of, place_of};
 ghost use Rattle.lra_opened.specs.Opening.{around, row_whole, selection_whole};
 ghost use Rattle.lra_opened.specs.StepsLeft.{place_left, row_left, selection_left, tree_left, Leads, Reaches};
 

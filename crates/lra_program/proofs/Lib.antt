@@ -10,5 +10,6 @@ mod ProgramViewExamples
 mod TypeExamples
 pub mod GivenArguments
 pub mod TypeLaws
+pub mod StepLaws
 pub mod AccessLaws
 pub mod AskLaws

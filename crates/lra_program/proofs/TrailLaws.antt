@@ -7,7 +7,7 @@ use Rattle.lra_program.specs.Step.{State, Config, next_at}
 use Rattle.lra_program.specs.Run.{Steps, start, label_on, Point, IsOn, Reaches, At, IsFailing, Fails}
 use Rattle.lra_program.specs.Trails.{Met, passes, Trail, Alone, met_on, Becomes, Walks, Arrives, Denies, Piece}
 
-becomes_same : (o : Option ℕ) (s t : State) → Becomes Alone o s t → t ≡ s
+pub becomes_same : (o : Option ℕ) (s t : State) → Becomes Alone o s t → t ≡ s
 becomes_same None s t e = e
 becomes_same (Some label) s t e = e
 

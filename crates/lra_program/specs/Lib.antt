@@ -5,6 +5,7 @@ pub mod Value
 pub mod ProgramViews
 pub mod Receivers
 pub mod Step
+pub mod Gifts
 pub mod Run
 pub mod Trails
 pub mod Asks
