@@ -2,6 +2,7 @@
 use Rattle.std.proofs.Common.{◌≡◌, ◌↔◌, ◌∙◌, ℕ, zero, suc, ℤ, List, [], ◌∷◌, Option, None, Some, refl, subst, sym}
 use Rattle.std.specs.Prelude.{slice_get, slice_set, slice_index_or}
 use Rattle.std.proofs.Math.ListN.{length-set}
+use Rattle.std.proofs.lemmas.Option.{same_Some}
 use Rattle.lra_box.specs.declared.interval.Interval.{Interval}
 use Rattle.lra_box.specs.Bounds.{InInterval, InBounds, open_interval, EndsInRange, IsSound}
 use Rattle.lra_box.specs.Content.{Content, BoxFormed, BoundsFit, BoundsSound}
@@ -11,10 +12,10 @@ use Rattle.lra_box.proofs.BoxLemmas.{low_left, low_right, high_left, high_right,
 use Rattle.lra_box.proofs.SoundLemmas.{at_sound, set_sound, some_store, interval_sound}
 use Rattle.lra_box.proofs.StepLemmas.{has_length}
 
-joined_first : (i j : Interval) (z : ℤ) → InInterval i z → InInterval (joined_interval i j) z
+pub joined_first : (i j : Interval) (z : ℤ) → InInterval i z → InInterval (joined_interval i j) z
 joined_first i j z h = (low_left i.low j.low z h.0, high_left i.high j.high z h.1)
 
-joined_second : (i j : Interval) (z : ℤ) → InInterval j z → InInterval (joined_interval i j) z
+pub joined_second : (i j : Interval) (z : ℤ) → InInterval j z → InInterval (joined_interval i j) z
 joined_second i j z h = (low_right i.low j.low z h.0, high_right i.high j.high z h.1)
 
 -- an interval comes in ---------------------------------------------------------------------------
@@ -73,15 +74,12 @@ bound_empty x b h = by_bounds b.bounds h.0 h.1
       λ none. let s = some_store is g in absurd (none s.0 (has_length b.dims (Some is) s.0 f s.1, s.1)),
     )
 
-some_same : {A : Type 0} (a b : A) → Some a ≡ Some b → a ≡ b
-some_same a b e = cc
-
 in_place : (is : List Interval) (s : List ℤ) (x : ℕ) (z : ℤ) → InBounds is s → slice_get s x ≡ Some z →
     InInterval (slice_index_or is x open_interval) z
 in_place [] [] x z h e = (tt, tt)
 in_place [] (v ∷ s) x z h e = absurd h
 in_place (j ∷ js) [] x z h e = absurd h
-in_place (j ∷ js) (v ∷ s) zero z h e = subst (λ (y : ℤ). InInterval j y) (some_same v z e) h.0
+in_place (j ∷ js) (v ∷ s) zero z h e = subst (λ (y : ℤ). InInterval j y) (same_Some v z e) h.0
 in_place (j ∷ js) (v ∷ s) (suc x) z h e = in_place js s x z h.1 e
 
 -- and a store's number there lies within them
@@ -89,4 +87,4 @@ pub bound_has : (x : ℕ) (b : Option (List Interval)) (i : Interval) (s : List 
     has_bounds b s → slice_get s x ≡ Some z → InInterval i z
 bound_has x None i s z e h g = absurd h
 bound_has x (Some is) i s z e h g =
-    subst (λ (j : Interval). InInterval j z) (some_same _ i e) (in_place is s x z h g)
+    subst (λ (j : Interval). InInterval j z) (same_Some _ i e) (in_place is s x z h g)

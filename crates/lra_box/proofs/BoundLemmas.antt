@@ -2,6 +2,7 @@
 use Rattle.std.proofs.Common.{◌≡◌, ◌≢◌, ℕ, ◌*◌, ◌<◌, ◌≤◌, ◌^◌, ◌⊎◌, inl, inr, Bool, true, false, cond, ℤ, List, [], ◌∷◌, length, Option, None, Some, refl, sym, ap, ◌∙◌, arith}
 use Rattle.std.specs.Prelude.{◌≤ℤ◌, slice_set, int_lt}
 use Rattle.std.proofs.lemmas.Int.{ints, clamps}
+use Rattle.std.proofs.lemmas.Option.{same_Some}
 use Rattle.std.specs.Int.{int_min, int_max}
 use Rattle.lra_domain.specs.declared.Mode.{Mode}
 use Rattle.lra_domain.specs.declared.Mode.TheVariants.{Join, Widen, Limited, Tightest}
@@ -180,18 +181,15 @@ grown_falls Widen n a b m f g w = wide_falls n a b f g w
 grown_falls Limited n a b m f g w = wide_falls n a b f g w
 grown_falls Tightest n a b m f g w = wide_falls n a b f g w
 
-some_injective : {A : Type 0} (a b : A) → Some a ≡ Some b → a ≡ b
-some_injective a b e = cc
-
 -- where both have intervals, they have as many
 abbrev pub SameLength : Option (List Interval) → Option (List Interval) → Type 0
 SameLength a b = (is js : List Interval) → a ≡ Some is → b ≡ Some js → length is ≡ length js
 
 pub joined_same : (a b : Option (List Interval)) → SameLength a b → SameLength a (joined_bounds a b)
 joined_same None b same is js e f = cc
-joined_same (Some ks) None same is js e f = ap length (some_injective is ks (sym e) ∙ some_injective ks js f)
+joined_same (Some ks) None same is js e f = ap length (same_Some is ks (sym e) ∙ same_Some ks js f)
 joined_same (Some ks) (Some ls) same is js e f =
-    sym (ap length (sym (some_injective _ js f)) ∙ length_joined ks ls (same ks ls refl refl) ∙ ap length (some_injective ks is e))
+    sym (ap length (sym (same_Some _ js f)) ∙ length_joined ks ls (same ks ls refl refl) ∙ ap length (same_Some ks is e))
 
 pub has_forgotten : (x : ℕ) (b : Option (List Interval)) (s : List ℤ) (v : ℤ) → has_bounds b s → has_bounds (on_bounds (λ is. slice_set is x open_interval) b) (slice_set s x v)
 has_forgotten x None s v h = h

@@ -3,6 +3,7 @@ use Rattle.std.proofs.Common.{◌≡◌, ℕ, zero, suc, ◌*◌, ◌≤◌, ℤ
 use Rattle.std.specs.Prelude.{◌+ℤ◌, ◌*ℤ◌, ◌≤ℤ◌, neg_ℤ, option_and_then}
 use Rattle.std.specs.Int.{int_min, int_max}
 use Rattle.std.proofs.lemmas.Int.{ints, clamps}
+use Rattle.std.proofs.lemmas.Option.{same_Some}
 use Rattle.lra_linear.specs.Vectors.{product}
 use Rattle.lra_lin.specs.Form.{Form}
 use Rattle.lra_box.specs.declared.interval.Interval.{Interval}
@@ -15,28 +16,25 @@ use Rattle.lra_box.proofs.SoundLemmas.{some_number, some_store}
 zero_product : (x : ℤ) → pos 0 *ℤ x ≡ pos 0
 zero_product x = grind (arith, ints)
 
-some_injective : {A : Type 0} (a b : A) → Some a ≡ Some b → a ≡ b
-some_injective a b e = cc
-
 low_in : (i : Interval) (b : ℤ) → crossed i ≡ false → i.low ≡ Some b → InInterval i b
 low_in i b h e = ends i.low i.high h e
   where
     ends : (l u : Option ℤ) → crossed_ends l u ≡ false → l ≡ Some b → BoundHolds Low l b × BoundHolds High u b
     ends None u h e = cc
-    ends (Some l) None h e = let k : l ≡ b = some_injective l b e in rw k (omega (arith, ints), tt)
-    ends (Some l) (Some u) h e = let k : l ≡ b = some_injective l b e in rw (← k) (omega (arith, ints), grind (arith, ints))
+    ends (Some l) None h e = let k : l ≡ b = same_Some l b e in rw k (omega (arith, ints), tt)
+    ends (Some l) (Some u) h e = let k : l ≡ b = same_Some l b e in rw (← k) (omega (arith, ints), grind (arith, ints))
 
 high_in : (i : Interval) (b : ℤ) → crossed i ≡ false → i.high ≡ Some b → InInterval i b
 high_in i b h e = ends i.low i.high h e
   where
     ends : (l u : Option ℤ) → crossed_ends l u ≡ false → u ≡ Some b → BoundHolds Low l b × BoundHolds High u b
     ends l None h e = cc
-    ends None (Some u) h e = let k : u ≡ b = some_injective u b e in rw k (tt, omega (arith, ints))
-    ends (Some l) (Some u) h e = let k : u ≡ b = some_injective u b e in rw (← k) (grind (arith, ints), omega (arith, ints))
+    ends None (Some u) h e = let k : u ≡ b = same_Some u b e in rw k (tt, omega (arith, ints))
+    ends (Some l) (Some u) h e = let k : u ≡ b = same_Some u b e in rw (← k) (grind (arith, ints), omega (arith, ints))
 
 times_some : (c : ℤ) (o : Option ℤ) (p : ℤ) → times c o ≡ Some p → (b : ℤ) × (o ≡ Some b) × (c *ℤ b ≡ p)
 times_some c None p e = cc
-times_some c (Some b) p e = (b, refl, some_injective (c *ℤ b) p e)
+times_some c (Some b) p e = (b, refl, same_Some (c *ℤ b) p e)
 
 times_none : (c : ℤ) (o : Option ℤ) → times c o ≡ None → o ≡ None
 times_none c None e = refl
@@ -44,7 +42,7 @@ times_none c (Some b) e = cc
 
 -- an end of the products is a product
 product_reached : (side : Side) (c : ℤ) (i : Interval) (p : ℤ) → crossed i ≡ false → end_product side c i ≡ Some p → (x : ℤ) × (InInterval i x × (c *ℤ x ≡ p))
-product_reached side (pos zero) i p h e = let x = some_number i h in (x.0, (x.1, zero_product x.0 ∙ some_injective (pos 0) p e))
+product_reached side (pos zero) i p h e = let x = some_number i h in (x.0, (x.1, zero_product x.0 ∙ same_Some (pos 0) p e))
 product_reached Low (pos (suc n)) i p h e = let b = times_some (pos (suc n)) i.low p e in (b.0, (low_in i b.0 h b.1, b.2))
 product_reached High (pos (suc n)) i p h e = let b = times_some (pos (suc n)) i.high p e in (b.0, (high_in i b.0 h b.1, b.2))
 product_reached Low (negsuc n) i p h e = let b = times_some (negsuc n) i.high p e in (b.0, (high_in i b.0 h b.1, b.2))
@@ -121,7 +119,7 @@ product_endless High (negsuc n) i b h e =
 -- the sum's end is a value of the form
 sum_reached : (side : Side) (a : ℤ) (cs : List ℤ) (is : List Interval) (b : ℤ) → AllSound is → length cs ≡ length is → end_sum side a cs is ≡ Some b → (s : List ℤ) ×
     (InBounds is s × (a +ℤ product cs s ≡ b))
-sum_reached side a [] [] b h l e = let k = some_injective a b e in ([], (tt, omega (arith, ints)))
+sum_reached side a [] [] b h l e = let k = same_Some a b e in ([], (tt, omega (arith, ints)))
 sum_reached side a [] (i ∷ is) b h l e = absurd (omega arith)
 sum_reached side a (c ∷ cs) [] b h l e = absurd (omega arith)
 sum_reached side a (c ∷ cs) (i ∷ is) b h l e = by_product (λ p. sum_reached side (a +ℤ p) cs is b h.1 (omega arith)) (end_product side c i) refl e

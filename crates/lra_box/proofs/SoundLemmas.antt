@@ -65,12 +65,12 @@ pub append_sound : (is js : List Interval) → AllSound is → AllSound js → A
 append_sound [] js h k = k
 append_sound (i ∷ is) js h k = (h.0, append_sound is js h.1 k)
 
-low_range : (a b : Option ℤ) → IfSome a InRange → IfSome b InRange → IfSome (lesser_low a b) InRange
+pub low_range : (a b : Option ℤ) → IfSome a InRange → IfSome b InRange → IfSome (lesser_low a b) InRange
 low_range None b p q = tt
 low_range (Some a) None p q = tt
 low_range (Some a) (Some b) p q = grind (arith, ints, clamps)
 
-high_range : (a b : Option ℤ) → IfSome a InRange → IfSome b InRange → IfSome (greater a b) InRange
+pub high_range : (a b : Option ℤ) → IfSome a InRange → IfSome b InRange → IfSome (greater a b) InRange
 high_range None b p q = tt
 high_range (Some a) None p q = tt
 high_range (Some a) (Some b) p q = grind (arith, ints, clamps)
@@ -92,12 +92,12 @@ by_test : (t : Bool) (a : ℤ) → InRange a → IfSome (cond t None (Some a)) I
 by_test true a h = tt
 by_test false a h = h
 
-widen_low_range : (a b : Option ℤ) → IfSome a InRange → IfSome (widened_low a b) InRange
+pub widen_low_range : (a b : Option ℤ) → IfSome a InRange → IfSome (widened_low a b) InRange
 widen_low_range None b p = tt
 widen_low_range (Some a) None p = tt
 widen_low_range (Some a) (Some b) p = by_test (int_lt b a) a p
 
-widen_high_range : (a b : Option ℤ) → IfSome a InRange → IfSome (stable a b) InRange
+pub widen_high_range : (a b : Option ℤ) → IfSome a InRange → IfSome (stable a b) InRange
 widen_high_range None b p = tt
 widen_high_range (Some a) None p = tt
 widen_high_range (Some a) (Some b) p = by_test (int_lt a b) a p

@@ -47,7 +47,8 @@ impl Interval {
     }
 }
 
-pub(crate) fn widen_lows(a: Option<i128>, b: Option<i128>) -> Option<i128>
+/// The first lower bound, unless the second is below it.
+pub fn widen_lows(a: Option<i128>, b: Option<i128>) -> Option<i128>
     ensures { result ≡ widened_low a b }
 {
     match (a, b) {

@@ -13,6 +13,6 @@ mod refine;
 pub use bounds::{opposite_row, wide_row};
 pub use boxes::Boxes;
 pub use ends::{Bound, plus_end, sum_end};
-pub use interval::{Interval, Side, is_crossed};
+pub use interval::{Interval, Side, is_crossed, widen_lows};
 pub use law::box_rows_are_bounds;
 pub use refine::{Refined, refine_all};

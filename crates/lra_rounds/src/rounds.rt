@@ -1,0 +1,137 @@
+//! The rounds: each thread is analysed among what the others wrote so far, until nothing is written that wasn't told.
+
+ghost use Rattle.std.specs.Prelude.{◌≡◌, ◌<◌, ℕ, None, length, IfOk};
+ghost use Rattle.lra_others.specs.Others.{Others};
+ghost use Rattle.lra_box.specs.Content.{Content};
+ghost use Rattle.lra_rounds.specs.Telling.{telling, written_by};
+ghost use Rattle.lra_rounds.specs.Rounds.{flag_of, flag_so_far, Finding, IsRound, AllRounds};
+ghost use Rattle.lra_rounds.specs.Found.{settled_view};
+
+use crate::intervals::Intervals;
+use crate::tables::{JOINING_ROUNDS, begin_table, grow_table, growth_with, is_settled, tell};
+use std::alloc::{AllocError, Global};
+
+/// Threads that run beside each other over the same globals, each of which can be analysed among what others may do.
+pub trait Threads {
+    /// What an analysis of one thread finds.
+    type Found: Drop;
+
+    /// How many threads there are, and how many globals.
+    ghost threads: { Self → ℕ };
+
+    ghost shared: { Self → ℕ };
+
+    /// What an analysis asks of them.
+    ghost ready: { Self → Type 0 };
+
+    /// What is found: the notes of what the thread gives, and the first flagged point.
+    ghost finding: { Finding Self.Found };
+
+    /// What an analysis of a thread, by its number, among others finds.
+    ghost finds: { Self → ℕ → Others Content → Self.Found → Type 0 };
+
+    /// How many threads there are.
+    fn count(&self) -> usize
+        ensures { result ≡ threads self.now };
+
+    /// How many globals there are.
+    fn globals(&self) -> usize
+        ensures { result ≡ shared self.now };
+
+    /// Analyses thread `k`, while others may do what it is told.
+    fn analyse(&self, alloc: Global, k: usize, told: &Intervals) -> Result<Self::Found, AllocError>
+        requires ready { ready self.now }
+        requires thread { k < threads self.now }
+        ensures { IfOk result (λ found. finds self.now k (telling told.now) found) };
+
+    /// The intervals of what a thread gives, as it is noted.
+    fn write(&self, alloc: Global, found: &Self::Found) -> Result<Intervals, AllocError>
+        ensures { IfOk result (λ w. w ≡ written_by (shared self.now) (finding.notes found.now)) };
+
+    /// The first flagged point.
+    fn flagged(&self, found: &Self::Found) -> Option<usize>
+        ensures { result ≡ finding.flag found.now };
+}
+
+/// What is found of each thread in the round that settles, the intervals of that round, and the first flag of all
+/// rounds: a thread's number and a point.
+#[derive(Drop)]
+pub struct SettledRound<F> {
+    pub table: Vec<Intervals>,
+    pub found: Vec<F>,
+    pub flag: Option<(usize, usize)>,
+}
+
+/// What one round finds of each thread, what each thread writes, and the first flag so far.
+#[derive(Drop)]
+struct Round<F> {
+    found: Vec<F>,
+    written: Vec<Intervals>,
+    flag: Option<(usize, usize)>,
+}
+
+/// The first flag so far, behind the analysis of thread `k` with this flagged point.
+fn note_flag(flag: Option<(usize, usize)>, k: usize, point: Option<usize>) -> Option<(usize, usize)>
+    ensures { result ≡ flag_so_far flag (flag_of k point None) }
+{
+    match (flag, point) {
+        (Some(first), _) => Some(first),
+        (None, Some(q)) => Some((k, q)),
+        (None, None) => None,
+    }
+}
+
+/// Analyses each thread, while the others may give what the table says.
+fn go_round<T: Threads>(
+    alloc: Global,
+    threads: &T,
+    table: &[Intervals],
+    flag: Option<(usize, usize)>,
+) -> Result<Round<T::Found>, AllocError>
+    requires ready { T.ready threads.now }
+    requires long { length table.now ≡ T.threads threads.now }
+    ensures { IfOk result (λ r. IsRound T.finding (T.shared threads.now) (T.finds threads.now)
+        (T.threads threads.now) flag table.now r.found.items r.written.items r.flag) }
+{
+    let mut found = Vec::new(alloc);
+    let mut written = Vec::new(alloc);
+    let mut first = flag;
+    'threads: for k in 0..threads.count() {
+        let told = tell(alloc, threads.globals(), k, table)?;
+        let one = threads.analyse(alloc, k, &told)?;
+        let row = threads.write(alloc, &one)?;
+        written.push(row)?;
+        let point = threads.flagged(&one);
+        first = note_flag(first, k, point);
+        found.push(one)?;
+    }
+    Ok(Round {
+        found,
+        written,
+        flag: first,
+    })
+}
+
+/// Rounds, until one settles.
+pub fn settle<T: Threads>(alloc: Global, threads: &T) -> Result<SettledRound<T::Found>, AllocError>
+    requires { T.ready threads.now }
+    ensures { IfOk result (λ end. AllRounds T.finding (T.shared threads.now) (T.finds threads.now)
+        (T.threads threads.now) (settled_view end)) }
+{
+    let mut table = begin_table(alloc, threads.count(), threads.globals())?;
+    let mut left = JOINING_ROUNDS;
+    let mut flag = None;
+    'rounds: loop {
+        let round = go_round(alloc, threads, &table, flag)?;
+        if is_settled(&round.written, &table) {
+            return Ok(SettledRound {
+                table,
+                found: round.found,
+                flag: round.flag,
+            });
+        }
+        grow_table(&mut table, growth_with(left), &round.written);
+        left = left.saturating_sub(1);
+        flag = round.flag;
+    }
+}
