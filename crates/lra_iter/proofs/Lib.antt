@@ -9,7 +9,7 @@ mod AsideSteps
 pub mod Counting
 mod Solving
 pub mod Covering
-mod CoveringAmong
+pub mod CoveringAmong
 pub mod Widths
 mod LoopNumbers
 -- The written iteration has one solution.

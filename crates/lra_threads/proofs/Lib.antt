@@ -1,0 +1,5 @@
+pub mod WrittenRows
+pub mod ReadyValues
+pub mod OwnAccesses
+pub mod RoundsOf
+pub mod RoundsHold

@@ -1,0 +1,157 @@
+-- What the rounds of threads end with.
+use Rattle.std.proofs.Common.{◌≡◌, ◌∙◌, ℕ, List, length, Option, None, Some, refl, ap, sym, subst, inl, inr}
+use Rattle.std.specs.Prelude.{slice_get, option_map}
+use Rattle.std.proofs.lemmas.List.{length-map}
+use Rattle.std.proofs.lemmas.Option.{none-some, same_Some, slice_get-map}
+use Rattle.lra_others.specs.Others.{Others}
+use Rattle.lra_box.specs.Content.{Content}
+use Rattle.lra_box.specs.Meaning.{box_meaning}
+use Rattle.lra_program.specs.Program.{Program}
+use Rattle.lra_program.specs.declared.program.GlobalVariable.{GlobalVariable}
+use Rattle.lra_operations.specs.Graph.{Node}
+use Rattle.lra_operations.specs.GraphViews.{node_view}
+use Rattle.lra_operations.specs.declared.graph.Graph.{Graph}
+use Rattle.lra_flow.specs.Analysis.{Solves}
+use Rattle.lra_flow.specs.Opened.{opened}
+use Rattle.lra_flow.specs.Plan.{Plan}
+use Rattle.lra_iter.specs.Solved.{IsSolvedAmong}
+use Rattle.lra_rounds.specs.Telling.{others_of}
+use Rattle.lra_rounds.specs.Rounds.{AreFound, AllRounds, Settled}
+use Rattle.lra_rounds.proofs.FlagLemmas.{unflagged, strained, settles}
+use Rattle.lra_threads.specs.declared.found.ThreadFound.{ThreadFound}
+use Rattle.lra_threads.specs.Analysed.{IsAnalysed, IsAnalysedOf}
+use Rattle.lra_threads.specs.Found.{AreOpened, HoldsOf, IsFoundOf, IsWrittenOf, StrainsAt, thread_finding}
+use Rattle.lra_threads.specs.Found.{values_of, verdicts_of, notes_of, told_in, flag_of_thread}
+use Rattle.lra_threads.specs.Holding.{AllHold, AreFlagged, HoldsInRound}
+use Rattle.lra_threads.proofs.OwnAccesses.{judged_own, none_before, accessed_written, by_flag}
+use Rattle.lra_threads.proofs.ReadyValues.{as_many_sites, same_place}
+use Rattle.lra_threads.proofs.RoundsOf.{all_told, all_fit}
+
+-- an element there has its own in the list of which this is the image
+own_there : {A B : Type 0} (f : A → B) (o : Option A) (y : B) → option_map f o ≡ Some y → (x : A) × (o ≡ Some x) × (y ≡ f x)
+own_there f None y e = absurd (none-some y e)
+own_there f (Some x) y e = (x, refl, sym (same_Some (f x) y e))
+
+module _ (plan : Plan) (globals : List GlobalVariable) (graphs : List Graph) where
+  abbrev Ends : Settled ThreadFound → Type 0
+  Ends end = AllRounds thread_finding (length globals) (IsAnalysedOf plan globals graphs) (length graphs) end
+
+  holds_in_round : (P : Program) (k : ℕ) (graph : Graph) (g : Node) (end : Settled ThreadFound)
+      → AreFound (length globals) (IsAnalysedOf plan globals graphs) (length graphs) end.table end.found → P.globals ≡ globals
+      → slice_get graphs k ≡ Some graph → node_view graph.tree ≡ opened (length P.globals) g → HoldsInRound P k graph g end
+  holds_in_round P k graph g end are same is opens =
+      let (f, there) = same_place graphs end.found k graph are.all is in
+      let (one, at, analysed) = are.each k f there in
+      let own : one ≡ graph = same_Some one graph (sym at ∙ is) in
+      of_graph f there (subst (λ (x : Graph). IsAnalysed plan globals x (others_of (length globals) k end.table) f) own analysed)
+    where
+      of_graph : (f : ThreadFound) → slice_get end.found k ≡ Some f → IsAnalysed plan globals graph (others_of (length globals) k end.table) f
+          → HoldsInRound P k graph g end
+      of_graph f there one = record {
+        found = f;
+        is_found = there;
+        solved = (
+          plan,
+          subst (λ (zs : List GlobalVariable). IsSolvedAmong (others_of (length zs) k end.table) box_meaning plan P
+              (node_view graph.tree) (values_of f) (notes_of f) (verdicts_of f) f.noted.solution.flagged) (sym same) (one.solved P same),
+        );
+        holds = subst (λ (zs : List GlobalVariable). HoldsOf (others_of (length zs) k end.table) P g f) (sym same) (one.sound P g same opens);
+        wide = one.wide;
+        notes = one.notes;
+        points = as_many_sites graph (values_of f) one.points;
+        assertions = one.assertions;
+        inside = (
+          f.noted.solution.flagged,
+          judged_own (length P.globals) g (node_view graph.tree) (values_of f) f.noted.solution.flagged
+              (flag_of_thread f) (told_in f) opens one.accessed,
+        );
+      }
+
+  pub all_hold : (end : Settled ThreadFound) → Ends end → AllHold globals graphs end
+  all_hold end rounds =
+      let last = settles thread_finding (length globals) (IsAnalysedOf plan globals graphs) (length graphs) end rounds in
+      let fit = all_fit thread_finding (length globals) (IsAnalysedOf plan globals graphs) (length graphs) end rounds in
+      record {
+        within = last.1;
+        count = last.0.all;
+        table = fit.1;
+        wide = fit.0;
+        each = λ P k graph g same is opens. holds_in_round P k graph g end last.0 same is opens;
+      }
+
+  module _ (P : Program) (trees : List Node) (same : P.globals ≡ globals) (opens : AreOpened (length P.globals) trees graphs) where
+    as_many : length graphs ≡ length trees
+    as_many = sym (length-map graphs (λ (x : Graph). node_view x.tree)) ∙ ap length opens ∙ length-map trees (opened (length P.globals))
+
+    own_tree : (k : ℕ) (graph : Graph) → slice_get graphs k ≡ Some graph
+        → (g : Node) × (slice_get trees k ≡ Some g) × (node_view graph.tree ≡ opened (length P.globals) g)
+    own_tree k graph is =
+        own_there (opened (length P.globals)) (slice_get trees k) (node_view graph.tree)
+        (sym (slice_get-map (opened (length P.globals)) trees k) ∙ ap (λ (gs : List Node). slice_get gs k) (sym opens)
+        ∙ slice_get-map (λ (x : Graph). node_view x.tree) graphs k ∙ ap (option_map (λ (x : Graph). node_view x.tree)) is)
+
+    found_of : (k : ℕ) (o : Others Content) (f : ThreadFound) → IsAnalysedOf plan globals graphs k o f → IsFoundOf plan P trees k o f
+    found_of k o f (graph, is, one) =
+        let (g, at, tree) = own_tree k graph is in (
+          g,
+          at,
+          record {
+            solved = subst (λ (h : Node). IsSolvedAmong o box_meaning plan P h (values_of f) (notes_of f) (verdicts_of f) f.noted.solution.flagged)
+                tree (one.solved P same);
+            accessed = judged_own (length P.globals) g (node_view graph.tree) (values_of f) f.noted.solution.flagged (flag_of_thread f)
+                (told_in f) tree one.accessed;
+          },
+        )
+
+    pub all_found : (end : Settled ThreadFound) → Ends end
+        → AllRounds thread_finding (length P.globals) (IsFoundOf plan P trees) (length trees) end
+    all_found end rounds =
+        let told = all_told thread_finding (length globals) (IsAnalysedOf plan globals graphs) (IsFoundOf plan P trees) found_of (length graphs)
+        end rounds in
+        subst (λ (n : ℕ). AllRounds thread_finding (length P.globals) (IsFoundOf plan P trees) n end) as_many
+        (subst (λ (zs : List GlobalVariable). AllRounds thread_finding (length zs) (IsFoundOf plan P trees) (length graphs) end) (sym same) told)
+
+module _ (plan : Plan) (P : Program) (trees : List Node) where
+  written_of : (k : ℕ) (o : Others Content) (f : ThreadFound) → IsFoundOf plan P trees k o f → flag_of_thread f ≡ None
+      → IsWrittenOf plan P trees k o f
+  written_of k o f (g, is, one) none =
+      let first : f.noted.solution.flagged ≡ None =
+      none_before g (values_of f) f.noted.solution.flagged (flag_of_thread f) (told_in f) one.accessed none in (
+        g,
+        is,
+        record {
+          result = one.solved.result;
+          written = one.solved.written first;
+          solves = subst (λ (q : Option ℕ). Solves box_meaning one.solved.result (values_of f) (verdicts_of f) q) first one.solved.solves;
+          noted = one.solved.noted;
+          accessed = accessed_written g (values_of f) f.noted.solution.flagged (flag_of_thread f) (told_in f) one.accessed none;
+        },
+      )
+
+  strains_at : (k q : ℕ) (o : Others Content) (f : ThreadFound) → IsFoundOf plan P trees k o f → flag_of_thread f ≡ Some q
+      → StrainsAt plan P trees k o q
+  strains_at k q o f (g, is, one) some = (
+    g,
+    is,
+    elim (by_flag g (values_of f) f.noted.solution.flagged (flag_of_thread f) (told_in f) one.accessed q some) [
+      | inl first ↦ inl (one.solved.strained q first)
+      | inr behind ↦ inr (record {
+        result = one.solved.result;
+        written = one.solved.written behind.0;
+        values = values_of f;
+        verdicts = verdicts_of f;
+        solves = subst (λ (p : Option ℕ). Solves box_meaning one.solved.result (values_of f) (verdicts_of f) p) behind.0 one.solved.solves;
+        inside = told_in f;
+        judged = behind.1;
+      })
+    ],
+  )
+
+  pub are_flagged : (end : Settled ThreadFound) → AllRounds thread_finding (length P.globals) (IsFoundOf plan P trees) (length trees) end
+      → AreFlagged plan P trees end
+  are_flagged end rounds = record {
+    written = λ none. unflagged thread_finding (length P.globals) (IsFoundOf plan P trees) (IsWrittenOf plan P trees) written_of (length trees)
+        end rounds none;
+    strained = λ k q first. strained thread_finding (length P.globals) (IsFoundOf plan P trees) (IsWrittenOf plan P trees)
+        (StrainsAt plan P trees) written_of strains_at (length trees) k q end rounds first;
+  }

@@ -1,0 +1,129 @@
+-- What is found of threads, each by its tree, among what the others give.
+use Rattle.std.specs.Prelude.{◌≡◌, ◌↔◌, ◌≤◌, ◌<◌, ◌⊎◌, ℕ, List, length, map, Bool, Option, None, Some, All, slice_get}
+use Rattle.std.specs.List.{Contains}
+use Rattle.lra_others.specs.Others.{Others}
+use Rattle.lra_box.specs.Content.{Content}
+use Rattle.lra_box.specs.Meaning.{box_meaning}
+use Rattle.lra_base.specs.declared.refusals.Place.{Place}
+use Rattle.lra_program.specs.Program.{Program}
+use Rattle.lra_program.specs.Sites.{Site}
+use Rattle.lra_program.specs.declared.program.GlobalVariable.{GlobalVariable}
+use Rattle.lra_program.specs.WellFormed.{AreGoodGlobals}
+use Rattle.lra_operations.specs.Asked.{accessed_in}
+use Rattle.lra_operations.specs.Graph.{Node}
+use Rattle.lra_operations.specs.GraphViews.{node_view, site_view}
+use Rattle.lra_operations.specs.declared.graph.Graph.{Graph}
+use Rattle.lra_flow.specs.Accesses.{JudgesAccesses}
+use Rattle.lra_flow.specs.Analysis.{Solves}
+use Rattle.lra_flow.specs.Among.{WrittenAmong, StrainsAmong}
+use Rattle.lra_flow.specs.Opened.{opened}
+use Rattle.lra_flow.specs.Operations.{defined, dropping, straining}
+use Rattle.lra_flow.specs.Pass.{given, Result}
+use Rattle.lra_flow.specs.Plan.{Plan}
+use Rattle.lra_flow.specs.Room.{most_live}
+use Rattle.lra_outcomes.specs.Fits.{TreeFits}
+use Rattle.lra_iter.specs.Numbers.{IsNumbered}
+use Rattle.lra_iter.specs.Lives.{PointsHave}
+use Rattle.lra_iter.specs.Solved.{IsSolvedAmong}
+use Rattle.lra_iter.specs.Among.{HoldsAmong}
+use Rattle.lra_iter.specs.Tables.{note_view}
+use Rattle.lra_iter.specs.declared.tables.Note.{Note}
+use Rattle.lra_fits.specs.Judged.{AreBelow}
+use Rattle.lra_inside.specs.Inside.{told_view}
+use Rattle.lra_rounds.specs.Rounds.{Finding}
+use Rattle.lra_threads.specs.declared.found.ThreadFound.{ThreadFound}
+
+abbrev pub sites_in : Graph → List Site
+sites_in graph = map site_view graph.sites.items
+
+-- an iteration may be made over the graph, with so many globals, and accesses may be judged by what it leaves
+pub record IsReady (globals : ℕ) (graph : Graph) : Type 0 where
+  pub fits : TreeFits (node_view graph.tree) globals
+  pub numbered : IsNumbered (sites_in graph) (node_view graph.tree)
+  pub points : PointsHave (sites_in graph) (node_view graph.tree) globals
+  pub few : All (λ (s : Site). s.live < most_live) (sites_in graph)
+  pub below : AreBelow (length (sites_in graph)) (accessed_in None (node_view graph.tree))
+
+pub record AreReady (plan : Plan) (globals : List GlobalVariable) (graphs : List Graph) : Type 0 where
+  pub parts : 1 ≤ plan.parts
+  pub few : length globals ≤ most_live
+  pub good : AreGoodGlobals globals
+  pub each : (k : ℕ) (graph : Graph) → slice_get graphs k ≡ Some graph → IsReady (length globals) graph
+
+-- each graph's tree is one of these, the threads' own trees, opened
+abbrev pub AreOpened : ℕ → List Node → List Graph → Type 0
+AreOpened globals trees graphs = map (λ (x : Graph). node_view x.tree) graphs ≡ map (opened globals) trees
+
+-- what is found of a thread -----------------------------------------------------------------------------------------
+
+abbrev pub values_of : ThreadFound → List Content
+values_of f = f.noted.solution.values.items
+
+abbrev pub verdicts_of : ThreadFound → List (ℕ × Bool)
+verdicts_of f = f.noted.solution.verdicts.items
+
+-- what variables got
+abbrev pub notes_of : ThreadFound → List (ℕ × ℕ × Content)
+notes_of f = map note_view f.noted.notes.items
+
+-- what is told of accesses, point by point
+abbrev pub told_in : ThreadFound → List (ℕ × List (Place × Bool))
+told_in f = map told_view f.inside.verdicts.items
+
+-- the first flag: of the iteration, before those of accesses
+abbrev pub flag_of_thread : ThreadFound → Option ℕ
+flag_of_thread f = f.inside.flagged
+
+-- the variables that got a value, each with the value behind that
+abbrev pub gift_in : Note Content → ℕ × Content
+gift_in n = (n.variable, n.value)
+
+abbrev pub gifts_in : ThreadFound → List (ℕ × Content)
+gifts_in f = map gift_in f.noted.notes.items
+
+abbrev pub thread_finding : Finding ThreadFound
+thread_finding = record { notes = gifts_in; flag = flag_of_thread }
+
+-- it holds in all runs of this tree among these others
+abbrev pub HoldsOf : Others Content → Program → Node → ThreadFound → Type 0
+HoldsOf o P g f = HoldsAmong o box_meaning P g (values_of f) (notes_of f) (verdicts_of f)
+
+-- The iteration over the opened tree, and what is judged of the accesses of this tree by the values that it leaves.
+pub record IsFound (o : Others Content) (plan : Plan) (P : Program) (g : Node) (f : ThreadFound) : Type 0 where
+  pub solved : IsSolvedAmong o box_meaning plan P (opened (length P.globals) g) (values_of f) (notes_of f)
+      (verdicts_of f) f.noted.solution.flagged
+  pub accessed : JudgesAccesses box_meaning (dropping box_meaning) g (values_of f) f.noted.solution.flagged
+      (told_in f) (flag_of_thread f)
+
+-- of the k-th thread, of which this is its own tree
+abbrev pub IsFoundOf : Plan → Program → List Node → ℕ → Others Content → ThreadFound → Type 0
+IsFoundOf plan P trees k o f = (g : Node) × (slice_get trees k ≡ Some g) × IsFound o plan P g f
+
+-- without flags -----------------------------------------------------------------------------------------------------
+
+-- what is found is that of the written iteration, and of accesses judged by what it leaves
+pub record IsWritten (o : Others Content) (plan : Plan) (P : Program) (g : Node) (f : ThreadFound) : Type 0 where
+  pub result : Result Content
+  pub written : WrittenAmong o box_meaning plan P (opened (length P.globals) g) result
+  pub solves : Solves box_meaning result (values_of f) (verdicts_of f) None
+  pub noted : (q place : ℕ) (v : Content) →
+      Contains (notes_of f) (q, place, v) ↔ Contains result.entries (given q place v)
+  pub accessed : JudgesAccesses box_meaning (defined box_meaning) g (values_of f) None (told_in f) None
+
+abbrev pub IsWrittenOf : Plan → Program → List Node → ℕ → Others Content → ThreadFound → Type 0
+IsWrittenOf plan P trees k o f = (g : Node) × (slice_get trees k ≡ Some g) × IsWritten o plan P g f
+
+-- an access that is judged by what the written iteration leaves strains at the point q
+pub record StrainsInAccess (o : Others Content) (plan : Plan) (P : Program) (g : Node) (q : ℕ) : Type 0 where
+  pub result : Result Content
+  pub written : WrittenAmong o box_meaning plan P (opened (length P.globals) g) result
+  pub values : List Content
+  pub verdicts : List (ℕ × Bool)
+  pub solves : Solves box_meaning result values verdicts None
+  pub inside : List (ℕ × List (Place × Bool))
+  pub judged : JudgesAccesses box_meaning (straining box_meaning) g values None inside (Some q)
+
+-- the written iteration over the k-th thread strains there, or judging its accesses behind it
+abbrev pub StrainsAt : Plan → Program → List Node → ℕ → Others Content → ℕ → Type 0
+StrainsAt plan P trees k o q = (g : Node) × (slice_get trees k ≡ Some g) ×
+    (StrainsAmong o box_meaning plan P (opened (length P.globals) g) q ⊎ StrainsInAccess o plan P g q)

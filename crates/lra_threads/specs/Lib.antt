@@ -1,0 +1,4 @@
+-- In the order in which they are to be read.
+pub mod Found
+pub mod Holding
+pub mod Analysed

@@ -1,0 +1,100 @@
+//! Threads as the graphs of their operations: each is iterated over among what the others give.
+
+ghost use Rattle.std.specs.Prelude.{◌≡◌, List, length, IfOk};
+ghost use Rattle.lra_rounds.specs.Rounds.{AllRounds};
+ghost use Rattle.lra_rounds.specs.Found.{settled_view};
+ghost use Rattle.lra_program.specs.Program.{Program};
+ghost use Rattle.lra_operations.specs.Graph.{Node};
+ghost use Rattle.lra_threads.specs.Found.{thread_finding, AreOpened, AreReady, IsFoundOf};
+ghost use Rattle.lra_threads.specs.Analysed.{IsAnalysedOf};
+ghost use Rattle.lra_threads.specs.Holding.{AllHold, AreFlagged};
+
+use crate::found::ThreadFound;
+use lra_inside::judge_accesses;
+use lra_iter::{Plan, analyse_with};
+use lra_operations::Graph;
+use lra_program::GlobalVariable;
+use lra_rounds::{Intervals, SettledRound, Threads, settle};
+use std::alloc::{AllocError, Global};
+
+/// The graphs of threads over the same globals, and how they are iterated over. Their trees have been opened: in them
+/// others act, and what globals get is noted.
+#[derive(Clone, Copy)]
+pub struct Graphs<'a> {
+    pub plan: &'a Plan,
+    pub globals: &'a [GlobalVariable],
+    pub graphs: &'a [Graph],
+}
+
+impl Threads for Graphs<'_> {
+    type Found = ThreadFound;
+
+    ghost threads = { λ t. length t.graphs.now };
+
+    ghost shared = { λ t. length t.globals.now };
+
+    ghost ready = { λ t. AreReady t.plan.now t.globals.now t.graphs.now };
+
+    ghost finding = { thread_finding };
+
+    ghost finds = { λ t k o found. IsAnalysedOf t.plan.now t.globals.now t.graphs.now k o found };
+
+    fn count(&self) -> usize {
+        self.graphs.len()
+    }
+
+    fn globals(&self) -> usize {
+        self.globals.len()
+    }
+
+    fn analyse(
+        &self,
+        alloc: Global,
+        k: usize,
+        told: &Intervals,
+    ) -> Result<ThreadFound, AllocError> {
+        let graph = &self.graphs[k];
+        let noted = analyse_with(alloc, self.plan, self.globals, graph, told)?;
+        let solution = &noted.solution;
+        let inside = judge_accesses(alloc, &graph.tree, &solution.values, solution.flagged)?;
+        Ok(ThreadFound { noted, inside })
+    }
+
+    fn write(&self, alloc: Global, found: &ThreadFound) -> Result<Intervals, AllocError> {
+        let mut row = Intervals::none(alloc, self.globals.len())?;
+        'notes: for note in &found.noted.notes {
+            row.take(note.variable, &note.value);
+        }
+        Ok(row)
+    }
+
+    fn flagged(&self, found: &ThreadFound) -> Option<usize> {
+        found.inside.flagged
+    }
+}
+
+/// The rounds of threads, until nothing is written that wasn't told.
+pub fn analyse_threads(
+    alloc: Global,
+    plan: &Plan,
+    globals: &[GlobalVariable],
+    graphs: &[Graph],
+) -> Result<SettledRound<ThreadFound>, AllocError>
+    requires { AreReady plan.now globals.now graphs.now }
+    ensures rounds { IfOk result (λ end. (P : Program) (trees : List Node) →
+        P.globals ≡ globals.now → AreOpened (length P.globals) trees graphs.now →
+        AllRounds thread_finding (length P.globals) (IsFoundOf plan.now P trees)
+        (length trees) (settled_view end)) }
+    ensures holds { IfOk result (λ end. AllHold globals.now graphs.now (settled_view end)) }
+    ensures flagged { IfOk result (λ end. (P : Program) (trees : List Node) →
+        P.globals ≡ globals.now → AreOpened (length P.globals) trees graphs.now →
+        AreFlagged plan.now P trees (settled_view end)) }
+{
+    let threads = Graphs {
+        plan,
+        globals,
+        graphs,
+    };
+    let end = settle(alloc, &threads)?;
+    Ok(end)
+}
