@@ -1,0 +1,63 @@
+-- What the rounds of threads end with holds in every interleaving of the threads. Each thread's points have the numbers
+-- of its own program's points, from 0.
+use Rattle.std.specs.Prelude.{◌≡◌, ℕ, ℤ, List, length, Bool, true, Some, slice_get}
+use Rattle.std.specs.List.{Contains}
+use Rattle.lra_base.specs.declared.refusals.Place.{Place}
+use Rattle.lra_program.specs.Program.{Function, Program}
+use Rattle.lra_program.specs.Sites.{Site, sites_of}
+use Rattle.lra_program.specs.WellFormed.{IsWellFormed}
+use Rattle.lra_operations.specs.Graph.{Node}
+use Rattle.lra_operations.specs.GraphViews.{node_view}
+use Rattle.lra_operations.specs.declared.graph.Graph.{Graph}
+use Rattle.lra_operations.specs.Agree.{IsGraph, point_of}
+use Rattle.lra_flow.specs.Analysis.{IsUnreachable}
+use Rattle.lra_flow.specs.Opened.{opened}
+use Rattle.lra_box.specs.Content.{Content}
+use Rattle.lra_box.specs.Meaning.{box_meaning}
+use Rattle.lra_rounds.specs.Rounds.{Settled}
+use Rattle.lra_interleavings.specs.Interleavings.{thread_program, AtThread, FailsThread, StraysThread, Gives}
+use Rattle.lra_threads.specs.declared.found.ThreadFound.{ThreadFound}
+use Rattle.lra_threads.specs.Found.{values_of, verdicts_of, told_in}
+use Rattle.lra_threads.specs.Holding.{AllHold}
+use Rattle.lra_woven.specs.Written.{HasWritten}
+
+module _ (P : Program) (fs : List Function) (end : Settled ThreadFound) where
+  pub record HoldsBeside : Type 0 where
+    -- the value at a thread's point has each store that the thread sees there, and as many dimensions as that has
+    -- numbers
+    pub stores : (k q : ℕ) (f : Function) (s : Site) (store : List ℤ) → slice_get fs k ≡ Some f →
+        slice_get (sites_of (thread_program P f)) q ≡ Some s → AtThread P fs k (point_of s) store →
+        (found : ThreadFound) × (slice_get end.found k ≡ Some found) × (v : Content) ×
+        (slice_get (values_of found) q ≡ Some v) × box_meaning.has v store × (box_meaning.dims v ≡ length store)
+    -- no thread fails an assertion that is proved
+    pub proved : (k q : ℕ) (f : Function) (s : Site) (found : ThreadFound) → slice_get fs k ≡ Some f →
+        slice_get (sites_of (thread_program P f)) q ≡ Some s → slice_get end.found k ≡ Some found →
+        Contains (verdicts_of found) (q, true) → FailsThread P fs k (point_of s) → ⊥
+    -- no thread comes to a point whose value has no part
+    pub unreached : (k q : ℕ) (f : Function) (s : Site) (store : List ℤ) (found : ThreadFound) (v : Content) →
+        slice_get fs k ≡ Some f → slice_get (sites_of (thread_program P f)) q ≡ Some s →
+        slice_get end.found k ≡ Some found → slice_get (values_of found) q ≡ Some v → IsUnreachable box_meaning v →
+        AtThread P fs k (point_of s) store → ⊥
+    -- no thread evaluates an access outside its array that is told to be inside
+    pub inside : (k q : ℕ) (f : Function) (s : Site) (found : ThreadFound) (js : List (Place × Bool)) (n : ℕ)
+        (place : Place) → slice_get fs k ≡ Some f → slice_get (sites_of (thread_program P f)) q ≡ Some s →
+        slice_get end.found k ≡ Some found → Contains (told_in found) (q, js) → slice_get js n ≡ Some (place, true) →
+        StraysThread P fs k (point_of s) n → ⊥
+    -- each number that a thread gives a global is in the thread's interval for it
+    pub gives : (k x : ℕ) (z : ℤ) → Gives P fs k x z → HasWritten end.table k x z
+
+-- the graph is the opened one of a tree of the program with this function in the place of `main`
+pub record IsThread (P : Program) (f : Function) (graph : Graph) : Type 0 where
+  pub well : IsWellFormed (thread_program P f)
+  pub tree : Node
+  pub is_graph : IsGraph (thread_program P f) tree
+  pub opens : node_view graph.tree ≡ opened (length P.globals) tree
+
+-- a graph for each function
+abbrev pub AreThreads : Program → List Function → List Graph → Type 0
+AreThreads P fs graphs = (k : ℕ) (f : Function) → slice_get fs k ≡ Some f →
+    (graph : Graph) × (slice_get graphs k ≡ Some graph) × IsThread P f graph
+
+abbrev pub ThreadsHold : Type 0
+ThreadsHold = (P : Program) (fs : List Function) (graphs : List Graph) (end : Settled ThreadFound) →
+    AreThreads P fs graphs → AllHold P.globals graphs end → HoldsBeside P fs end
