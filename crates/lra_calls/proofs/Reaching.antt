@@ -18,7 +18,7 @@ use Rattle.lra_program.specs.ProgramViews.{function_view, program_view}
 use Rattle.lra_scopes.specs.Calls.{functions_at}
 use Rattle.lra_tree.specs.Functions.{functions_of}
 use Rattle.lra_tree.specs.Reach.{IsCalling, ReachesByCalls, there, by_call, calls_in, IsRecursive, IsFirstRecursive, NotRecursive}
-use Rattle.lra_meaning.specs.Resolve.{function_place, resolve}
+use Rattle.lra_meaning.specs.Resolve.{function_place, resolved_functions}
 use Rattle.lra_calls.specs.declared.calls.Call.{Call}
 use Rattle.lra_calls.specs.Calls.{call_of, calls_among, first_places, calls_behind, row_by}
 use Rattle.lra_calls.specs.Search.{Comes, begins, goes_on}
@@ -209,7 +209,7 @@ pub resolved_first : {E : Type 0} (r : Result (Option Place) E) (tree : Tree) (p
     → calls ≡ calls_behind (functions_at index) labels 0 (first_places (functions_at index) (functions_at index)) (map function_view functions)
     → length rows ≡ n → ((j : ℕ) → j < n → get_or (map (λ row. row.items) rows) j [] ≡ row_by j taken)
     → IfOk r (λ o. MatchOption o (AllByRecursion (λ c. IsBack (map (λ row. row.items) given) c → ⊥) asked) (IsFirstBack (map (λ row. row.items) given) asked))
-    → IfOk r (λ o. program_view program ≡ resolve (tree_view tree) → labels ≡ labels_of (tree_view tree)
+    → IfOk r (λ o. (program_view program).functions ≡ resolved_functions (tree_view tree) → labels ≡ labels_of (tree_view tree)
     → MatchOption o (NotRecursive (tree_view tree)) (IsFirstRecursive (tree_view tree)))
 resolved_first (Err e) tree program labels index parts functions calls taken asked rows given n a b d e1 e2 e3 m read count row h = tt
 resolved_first (Ok o) tree program labels index parts functions calls taken asked rows given n indexed are same took asks gave size read count row h = λ resolved labelled.
@@ -218,9 +218,9 @@ resolved_first (Ok o) tree program labels index parts functions calls taken aske
     let of_tree : calls ≡ calls_behind (functions_of t) labels 0 (first_places (functions_of t) (functions_of t)) (program_view program).functions =
     read ∙ ap (λ (items : List Item). calls_behind (functions_at items) labels 0 (first_places (functions_at items) (functions_at items)) (map function_view functions)) (indexed ∙ are)
     ∙ ap (λ (fs : List Function). calls_behind (functions_of t) labels 0 (first_places (functions_of t) (functions_of t)) (map function_view fs)) same in
-    let whole = calls_read t (program_view program) labels calls resolved labelled of_tree in
+    let whole = calls_read t (program_view program).functions labels calls resolved labelled of_tree in
     let views = length-map program.functions.items function_view in
-    let of_program = resolved_count t (program_view program) resolved in
+    let of_program = resolved_count t (program_view program).functions resolved in
     let n_is : n ≡ length (functions_of t) = size ∙ sym views ∙ of_program in
     let has : HasRows t lists = record {
       count = length-map rows (λ (row : Vec ℕ Global). row.items) ∙ count ∙ n_is;

@@ -10,11 +10,10 @@ use Rattle.lra_tree.specs.Functions.{functions_in, functions_of}
 use Rattle.lra_tree.specs.Labels.{Labelled, function_labels, labels_of, label_at}
 use Rattle.lra_tree.specs.Reach.{called_names, calls_of, calls_in}
 use Rattle.lra_program.specs.declared.program.Function.{Function}
-use Rattle.lra_program.specs.Program.{Program}
 use Rattle.lra_program.specs.Program as program
 use Rattle.lra_program.specs.ProgramViews.{function_view}
 use Rattle.lra_meaning.specs.Scope.{Entry}
-use Rattle.lra_meaning.specs.Resolve.{resolve, resolve_parts, items_count, function_place}
+use Rattle.lra_meaning.specs.Resolve.{resolved_functions, resolve_parts, items_count, function_place}
 use Rattle.lra_meaning.proofs.LabelCounts.{count_items}
 use Rattle.lra_calls.specs.declared.calls.Call.{Call}
 use Rattle.lra_calls.specs.Calls.{call_of, calls_by, calls_among, first_places, called_at, labels_between, calls_behind}
@@ -143,12 +142,14 @@ read_from F outside front (function f ∷ ps) =
     ap (λ ls. calls_by F k (called_names ls) ++ calls_behind F (front ++ (here ++ rest)) end ks (resolve_parts F outside start ps)) (between front here rest end (end_is ∙ whole))
     ∙ ap (λ cs. calls_by F k (calls_of f) ++ cs) others ∙ sym (one_function F f (calls_of f) (calls_in (functions_in ps)))
 
-pub calls_read : (t : FileTree) (resolution : Program) (labels : List Labelled) (calls : List Call) → resolution ≡ resolve t → labels ≡ labels_of t
-    → calls ≡ calls_behind (functions_of t) labels 0 (first_places (functions_of t) (functions_of t)) resolution.functions → calls ≡ calls_among (functions_of t) (calls_in (functions_of t))
-calls_read t resolution labels calls resolved labelled read =
-    read ∙ ap (λ ls. calls_behind (functions_of t) ls 0 (first_places (functions_of t) (functions_of t)) resolution.functions) labelled
-    ∙ ap (λ (p : Program). calls_behind (functions_of t) (labels_of t) 0 (first_places (functions_of t) (functions_of t)) p.functions) resolved
-    ∙ ap (λ ks. calls_behind (functions_of t) (labels_of t) 0 ks (resolve t).functions) (known_places (functions_of t) (functions_of t) (λ f inside. inside))
+pub calls_read : (t : FileTree) (functions : List program.Function) (labels : List Labelled) (calls : List Call) → functions ≡ resolved_functions t
+    → labels ≡ labels_of t
+    → calls ≡ calls_behind (functions_of t) labels 0 (first_places (functions_of t) (functions_of t)) functions
+    → calls ≡ calls_among (functions_of t) (calls_in (functions_of t))
+calls_read t functions labels calls resolved labelled read =
+    read ∙ ap (λ ls. calls_behind (functions_of t) ls 0 (first_places (functions_of t) (functions_of t)) functions) labelled
+    ∙ ap (λ fs. calls_behind (functions_of t) (labels_of t) 0 (first_places (functions_of t) (functions_of t)) fs) resolved
+    ∙ ap (λ ks. calls_behind (functions_of t) (labels_of t) 0 ks (resolved_functions t)) (known_places (functions_of t) (functions_of t) (λ f inside. inside))
     ∙ read_from (functions_of t) [] [] t.parts
 
 -- as many functions of the program as of the source
@@ -158,5 +159,5 @@ functions_count F outside n (prototype ∷ ps) = functions_count F outside n ps
 functions_count F outside n (globals g ∷ ps) = functions_count F _ n ps
 functions_count F outside n (function f ∷ ps) = ap suc (functions_count F outside (n + suc (items_count f.body)) ps)
 
-pub resolved_count : (t : FileTree) (resolution : Program) → resolution ≡ resolve t → length resolution.functions ≡ length (functions_of t)
-resolved_count t resolution resolved = ap (λ (p : Program). length p.functions) resolved ∙ functions_count (functions_of t) [] 1 t.parts
+pub resolved_count : (t : FileTree) (functions : List program.Function) → functions ≡ resolved_functions t → length functions ≡ length (functions_of t)
+resolved_count t functions resolved = ap length resolved ∙ functions_count (functions_of t) [] 1 t.parts

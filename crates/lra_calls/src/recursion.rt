@@ -6,7 +6,7 @@ ghost use Rattle.lra_tree.specs.Views.{tree_view};
 ghost use Rattle.lra_tree.specs.Labels.{labels_of};
 ghost use Rattle.lra_tree.specs.Reach.{IsFirstRecursive, NotRecursive};
 ghost use Rattle.lra_program.specs.ProgramViews.{program_view};
-ghost use Rattle.lra_meaning.specs.Resolve.{resolve};
+ghost use Rattle.lra_meaning.specs.Resolve.{resolved_functions};
 ghost use Rattle.lra_calls.specs.Recursion.{IsBack, IsFirstBack};
 
 use crate::calls::{Call, find_calls};
@@ -53,7 +53,7 @@ pub fn first_recursive(
     program: &Program,
     labels: &Labels,
 ) -> Result<Option<Place>, AllocError>
-    ensures { IfOk result (λ o. program_view program.now ≡ resolve (tree_view tree.now) →
+    ensures { IfOk result (λ o. (program_view program.now).functions ≡ resolved_functions (tree_view tree.now) →
         labels.now.labels ≡ labels_of (tree_view tree.now) →
         MatchOption o (NotRecursive (tree_view tree.now)) (IsFirstRecursive (tree_view tree.now))) }
 {

@@ -25,6 +25,7 @@ use Rattle.lra_meaning.specs.Resolve.{array_in, array_or, array_named, no_array,
 use Rattle.lra_meaning.specs.Resolve.{all_of, any_of, resolve_cond, resolve_call, resolve_rvalue, resolve_given, resolve_assign, resolve_declared}
 use Rattle.lra_meaning.specs.Resolve.{resolve_declarators, resolve_init, resolve_for_test, resolve_step, init_count, step_count, stmt_count, items_count}
 use Rattle.lra_meaning.specs.Resolve.{declarator_count, resolve_stmt, resolve_cases, resolve_items, arrays_by, arrays_in, resolve_parts, resolve}
+use Rattle.lra_meaning.specs.Threads.{thread_faults, thread_program}
 use Rattle.lra_formed.specs.Known.{Knows, CondKnows, CallKnows, RvalueKnows, GivenKnows, known_behind, StmtKnows, CasesKnow, ItemsKnow, HasArrays}
 use Rattle.lra_formed.proofs.Faultless.{none_left, none_right, none_both, at_place, Each, each_found}
 
@@ -341,3 +342,8 @@ module _ (known : List Array) where
 
 pub has_arrays : (t : tree.FileTree) → name_faults t ≡ [] → HasArrays (resolve t)
 has_arrays t e = parts_know (resolve t).arrays (functions_of t) 1 [] [] t.parts tt (λ a h. h) (none_left (parts_faults (functions_of t) [] [] t.parts) _ e)
+
+-- and so in the program of each thread
+pub threads_have_arrays : (t : tree.FileTree) (place : ℕ) → thread_faults t ≡ [] → HasArrays (thread_program t place)
+threads_have_arrays t place e =
+    parts_know (thread_program t place).arrays (functions_of t) 1 [] [] t.parts tt (λ a h. h) (none_left (parts_faults (functions_of t) [] [] t.parts) _ e)

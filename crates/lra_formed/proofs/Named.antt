@@ -20,6 +20,8 @@ use Rattle.lra_meaning.specs.Resolve.{items_count, declarator_count, resolve_stm
 use Rattle.lra_meaning.specs.Resolve.{resolve_parts, main_of, resolve}
 use Rattle.lra_program.specs.Sites.{Site, Event, comes, one_call_more, greatest_calls, plain_site, live_behind, rvalue_events, given_events, stmt_events, cases_events, items_events, function_events, call_events}
 use Rattle.lra_program.specs.Sites.{sites_in, sites_of}
+use Rattle.lra_program.specs.ProgramViews.{function_or}
+use Rattle.lra_meaning.specs.Threads.{thread_program}
 use Rattle.lra_meaning.specs.ShownNames.{shown_names}
 use Rattle.lra_meaning.specs.LiveNames.{globals_named, live_in_call_at, live_at, names_outside, live_names}
 use Rattle.lra_meaning.proofs.LabelCounts.{count_stmt, count_declarators, count_items, count_step, count_init}
@@ -367,9 +369,16 @@ module _ (outside : List (List ℕ)) (ls : List Labelled) where
       main_has more live (f ∷ fs) [] all h = no_main more live h
       main_has more live (f ∷ fs) (g ∷ gs) all h = one_of more live (is_main f) g (main_of fs gs) (one_has more (calls_have more) [] live g all.0 h) (main_has more live fs gs all.1 h)
 
+      -- those of the function at a place
+      placed_has : (more live : ℕ) (gs : List Function) (place : ℕ) → AllByRecursion IsLabelled gs → width_of [] ≡ live
+          → EachPoint HasAsMany (function_events (call_events P more) [] live (Some (function_or (slice_get gs place))))
+      placed_has more live [] place all h = no_main more live h
+      placed_has more live (g ∷ gs) zero all h = one_has more (calls_have more) [] live g all.0 h
+      placed_has more live (g ∷ gs) (suc place) all h = placed_has more live gs place all.1 h
+
 -- the whole --------------------------------------------------------------------------------------------------------
 
-globals_as_many : (ps : List tree.PartTree) → length (globals_named ps) ≡ length (globals_in ps)
+pub globals_as_many : (ps : List tree.PartTree) → length (globals_named ps) ≡ length (globals_in ps)
 globals_as_many [] = refl
 globals_as_many (tree.prototype ∷ ps) = globals_as_many ps
 globals_as_many (tree.globals g ∷ ps) =
@@ -393,9 +402,27 @@ names_as_many t q s e =
     let h : length (outside ++ []) ≡ length P.globals = omega arith in
     at_place (HasAsMany outside ls) (sites_of P) q s (main_has outside ls F P all greatest_calls (length P.globals) F P.functions all h) e
 
+-- and so at each point of a thread
+pub thread_names_as_many : (t : tree.FileTree) (place q : ℕ) (s : Site) → slice_get (sites_of (thread_program t place)) q ≡ Some s
+    → length (live_names (globals_named t.parts) (labels_of t) s) ≡ s.live
+thread_names_as_many t place q s e =
+    let ls = labels_of t in
+    let outside = globals_named t.parts in
+    let F = functions_of t in
+    let P = thread_program t place in
+    let all = parts_labelled outside ls F 1 [] t.parts (stand_behind ls 0 [] ls refl refl) in
+    let a = length-append outside [] in
+    let b = globals_as_many t.parts in
+    let h : length (outside ++ []) ≡ length P.globals = omega arith in
+    at_place (HasAsMany outside ls) (sites_of P) q s (placed_has outside ls F P all greatest_calls (length P.globals) P.functions place all h) e
+
 shown_same : (names : List (List ℕ)) → length (shown_names names) ≡ length names
 shown_same [] = refl
 shown_same (name ∷ newer) = ap suc (shown_same newer)
 
 pub shown_as_many : (t : tree.FileTree) (q : ℕ) (s : Site) → slice_get (sites_of (resolve t)) q ≡ Some s → length (shown_names (live_names (globals_named t.parts) (labels_of t) s)) ≡ s.live
 shown_as_many t q s e = shown_same (live_names (globals_named t.parts) (labels_of t) s) ∙ names_as_many t q s e
+
+pub thread_shown_as_many : (t : tree.FileTree) (place q : ℕ) (s : Site) → slice_get (sites_of (thread_program t place)) q ≡ Some s
+    → length (shown_names (live_names (globals_named t.parts) (labels_of t) s)) ≡ s.live
+thread_shown_as_many t place q s e = shown_same (live_names (globals_named t.parts) (labels_of t) s) ∙ thread_names_as_many t place q s e

@@ -1,10 +1,11 @@
 -- The program of a source whose literals are small and whose names have no faults is well-formed.
-use Rattle.std.proofs.Common.{◌≡◌, ℕ, suc, ◌+◌, ◌≤◌, List, [], ◌∷◌, ◌++◌, length, map, Option, Some, None, Bool, true, false, not, nat_eq, cond, refl, sym, subst, ap, ◌∙◌, arith, length-append}
+use Rattle.std.proofs.Common.{◌≡◌, ℕ, zero, suc, ◌+◌, ◌≤◌, List, [], ◌∷◌, ◌++◌, length, map, Option, Some, None, Bool}
+use Rattle.std.proofs.Common.{true, false, not, nat_eq, cond, refl, sym, subst, ap, ◌∙◌, arith, length-append}
 use Rattle.std.specs.Prelude.{IsTrue, is_some, slice_get, codes, if◌then◌else◌, ◌||◌}
 use Rattle.std.specs.List.{AllByRecursion, Contains, list_any, flat_map}
 use Rattle.std.proofs.lemmas.Bool.{eqb-true}
 use Rattle.std.proofs.lemmas.List.{length-map}
-use Rattle.std.proofs.lemmas.Option.{same_Some, none-some}
+use Rattle.std.proofs.lemmas.Option.{same_Some, none-some, slice_get_within, get_or_from_slice_get}
 use Rattle.lra_base.specs.declared.number_types.NumberType.{NumberType}
 use Rattle.lra_base.specs.declared.number_types.NumberType.TheVariants.{Int, Long}
 use Rattle.lra_base.specs.NumberTypes.{fits}
@@ -12,13 +13,16 @@ use Rattle.lra_tree.specs.declared.trees.Parameter.{Parameter}
 use Rattle.lra_tree.specs.declared.trees.SignedLiteral.{SignedLiteral}
 use Rattle.lra_tree.specs.Trees as tree
 use Rattle.lra_program.specs.Program.{Function, Program}
+use Rattle.lra_program.specs.ProgramViews.{function_or}
 use Rattle.lra_program.specs.declared.program.GlobalVariable.{GlobalVariable}
 use Rattle.lra_meaning.specs.Scope.{Entry, width_of_all, parameter_entry, global_entries, function_scope}
 use Rattle.lra_tree.specs.Functions.{functions_in, functions_of, is_named, is_main, function_named}
 use Rattle.lra_meaning.specs.NameFaults.{parameters_faults, function_faults, shape_faults, first_value_faults, globals_faults, global_names, parts_faults}
 use Rattle.lra_meaning.specs.NameFaults.{name_faults}
 use Rattle.lra_meaning.specs.Resolve.{function_place, items_count, resolve_items, resolve_function, value_or_zero, variables_by, globals_in, resolve_parts}
-use Rattle.lra_meaning.specs.Resolve.{main_of, resolve}
+use Rattle.lra_meaning.specs.Resolve.{arrays_in, resolved_functions, main_of, resolve}
+use Rattle.lra_meaning.specs.Threads.{greatest_threads, thread_name, has_no_parameters, has_thread, thread_places_from}
+use Rattle.lra_meaning.specs.Threads.{thread_places, thread_faults, thread_program}
 use Rattle.lra_program.specs.WellFormed.{AreGoodItems, IsGoodFunction, IsWellFormed}
 use Rattle.lra_formed.specs.Literals.{IsSmallPart, HasSmallLiterals}
 use Rattle.lra_formed.proofs.Faultless.{none_left, none_right, none_if, is_not, width-append}
@@ -163,16 +167,66 @@ main_in F n outside (tree.function f ∷ ps) e =
 
 -- the whole --------------------------------------------------------------------------------------------------------
 
+-- with any of its functions that has no parameters in the place of `main`
+well_formed_with : (t : tree.FileTree) (main : Function) → HasSmallLiterals t → parts_faults (functions_of t) [] [] t.parts ≡ []
+    → IsMain (resolved_functions t) main
+    → IsWellFormed (record { globals = globals_in t.parts; arrays = arrays_in t.parts; functions = resolved_functions t; main = main })
+well_formed_with t main small e there =
+    let F = functions_of t in
+    let P : Program = record { globals = globals_in t.parts; arrays = arrays_in t.parts; functions = resolved_functions t; main = main } in
+    let labels = parts_run F 1 [] t.parts in
+    record {
+      globals = globals_have_types F [] [] t.parts e;
+      labels = run_is_range 1 labels.0 _ labels.1;
+      functions = good_functions P F (λ name f found. callees_in F 1 [] t.parts name f found) 1 [] [] t.parts (omega arith) small e;
+      main = there.0;
+      alone = there.1;
+    }
+
 pub well_formed : (t : tree.FileTree) → HasSmallLiterals t → name_faults t ≡ [] → IsWellFormed (resolve t)
 well_formed t small e =
     let F = functions_of t in
     let parts = parts_faults F [] [] t.parts in
-    let mains = main_in F 1 [] t.parts (is_not (list_any is_main F) (none_if (not (list_any is_main F)) _ _ (none_right parts _ e))) in
-    let labels = parts_run F 1 [] t.parts in
-    record {
-      globals = globals_have_types F [] [] t.parts (none_left parts _ e);
-      labels = run_is_range 1 labels.0 _ labels.1;
-      functions = good_functions (resolve t) F (λ name f found. callees_in F 1 [] t.parts name f found) 1 [] [] t.parts (omega arith) small (none_left parts _ e);
-      main = mains.0;
-      alone = mains.1;
-    }
+    well_formed_with t (main_of F (resolved_functions t)) small (none_left parts _ e)
+    (main_in F 1 [] t.parts (is_not (list_any is_main F) (none_if (not (list_any is_main F)) _ _ (none_right parts _ e))))
+
+-- threads ----------------------------------------------------------------------------------------------------------
+
+contained : (gs : List Function) (k : ℕ) (g : Function) → slice_get gs k ≡ Some g → Contains gs g
+contained gs k g e = (k, slice_get_within gs k g e, get_or_from_slice_get gs k g g e)
+
+no_more_types : (g : Function) (f : tree.FunctionTree) → length g.parameters ≡ length f.parameters → nat_eq (length f.parameters) 0 ≡ true → g.parameters ≡ []
+no_more_types g f same e = none_there g.parameters (same ∙ eqb-true (length f.parameters) 0 e)
+  where
+    none_there : (ts : List NumberType) → length ts ≡ 0 → ts ≡ []
+    none_there [] h = refl
+    none_there (t ∷ ts) h = absurd (omega (arith, h))
+
+-- a function that is named and has no parameters
+alone_in : (t : tree.FileTree) (name : List ℕ) (found : Option tree.FunctionTree) → function_named (functions_of t) name ≡ found
+    → has_no_parameters found ≡ true
+    → IsMain (resolved_functions t) (function_or (slice_get (resolved_functions t) (function_place (functions_of t) name)))
+alone_in t name None e alone = absurd cc
+alone_in t name (Some f) e alone =
+    let (g, at, same) = callees_in (functions_of t) 1 [] t.parts name f e in
+    subst (λ o. IsMain (resolved_functions t) (function_or o)) (sym at)
+    (contained (resolved_functions t) (function_place (functions_of t) name) g at, no_more_types g f same alone)
+
+module _ (t : tree.FileTree) (small : HasSmallLiterals t) (e : parts_faults (functions_of t) [] [] t.parts ≡ []) where
+  more_formed : (there : Bool) (k : ℕ) (places : List ℕ) → has_thread (functions_of t) k ≡ there
+      → AllByRecursion (λ place. IsWellFormed (thread_program t place)) places
+      → AllByRecursion (λ place. IsWellFormed (thread_program t place)) (if there then function_place (functions_of t) (thread_name k) ∷ places else [])
+  more_formed false k places is h = tt
+  more_formed true k places is h = (
+    well_formed_with t _ small e (alone_in t (thread_name k) (function_named (functions_of t) (thread_name k)) refl is),
+    h,
+  )
+
+  formed_from : (more k : ℕ) → AllByRecursion (λ place. IsWellFormed (thread_program t place)) (thread_places_from (functions_of t) more k)
+  formed_from zero k = tt
+  formed_from (suc more) k = more_formed (has_thread (functions_of t) k) k (thread_places_from (functions_of t) more (suc k)) refl (formed_from more (suc k))
+
+-- the program of each thread of a source whose literals are small and whose names have no faults is well-formed
+pub threads_formed : (t : tree.FileTree) → HasSmallLiterals t → thread_faults t ≡ []
+    → AllByRecursion (λ place. IsWellFormed (thread_program t place)) (thread_places t)
+threads_formed t small e = formed_from t small (none_left (parts_faults (functions_of t) [] [] t.parts) _ e) greatest_threads 0

@@ -17,10 +17,10 @@ use Rattle.lra_meaning.specs.Resolve.{resolve}
 use Rattle.lra_program.specs.Sites.{events_of}
 use Rattle.lra_meaning.specs.Refuse.{limit_fault, RefusesTree, bad_name, recursive, past_limit, Refuse, too_long, bad_token, bad_text, bad_tree, Accepts, OneAnswer}
 
-not_both : {A : Type 0} (x : A) (xs ys : List A) → xs ≡ [] → xs ≡ x ∷ ys → ⊥
+pub not_both : {A : Type 0} (x : A) (xs ys : List A) → xs ≡ [] → xs ≡ x ∷ ys → ⊥
 not_both x xs ys e f = cc
 
-heads : {A : Type 0} (x y : A) (xs ys : List A) → x ∷ xs ≡ y ∷ ys → x ≡ y
+pub heads : {A : Type 0} (x y : A) (xs ys : List A) → x ∷ xs ≡ y ∷ ys → x ≡ y
 heads x y xs ys e = cc
 
 tails : {A : Type 0} (x y : A) (xs ys : List A) → x ∷ xs ≡ y ∷ ys → xs ≡ ys
@@ -34,14 +34,14 @@ first_of P [] (y ∷ b') c d a a' e p q n m = absurd (m.0 (subst P (heads c y a 
 first_of P (x ∷ b) [] c d a a' e p q n m = absurd (n.0 (subst P (sym (heads x d (b ++ c ∷ a) a' e)) q))
 first_of P (x ∷ b) (y ∷ b') c d a a' e p q n m = first_of P b b' c d a a' (tails x y (b ++ c ∷ a) (b' ++ d ∷ a') e) p q n.1 m.1
 
-one_recursive : (t : FileTree) (p q : Place) → IsFirstRecursive t p → IsFirstRecursive t q → p ≡ q
+pub one_recursive : (t : FileTree) (p q : Place) → IsFirstRecursive t p → IsFirstRecursive t q → p ≡ q
 one_recursive t p q (b, a, c, e, at, r, none) (b', a', d, f, at', r', none') =
     at ∙ ap (λ (x : List ℕ × Identifier). x.1.place) (first_of (IsRecursive t) b b' c d a a' (sym e ∙ f) r r' none none') ∙ sym at'
 
-abbrev Same : Cause → Cause → Place → Place → Type 0
+abbrev pub Same : Cause → Cause → Place → Place → Type 0
 Same c d p q = (c ≡ d) × (p ≡ q)
 
-same_refusal : (r s : Refusal) → r ≡ s → Same r.cause s.cause r.place s.place
+pub same_refusal : (r s : Refusal) → r ≡ s → Same r.cause s.cause r.place s.place
 same_refusal r s e = (ap (λ (x : Refusal). x.cause) e, ap (λ (x : Refusal). x.place) e)
 
 one_tree_fault : (t : FileTree) (c d : Cause) (p q : Place) → RefusesTree t c p → RefusesTree t d q → Same c d p q
@@ -61,16 +61,17 @@ faultless t _ _ e n l (recursive at f g) = n at g
 faultless t _ _ e n l (past_limit r f m h) = none-some r (sym l ∙ h)
 
 module _ (L : Language) (reading : OneReading) (tree : OneTree L) (fault : OneTextFault L) where
-  same_tokens : (source : List ℕ) (T U : List Token) → Lex source T → Lex source U → T ≡ U
+  pub same_tokens : (source : List ℕ) (T U : List Token) → Lex source T → Lex source U → T ≡ U
   same_tokens source T U a b = (reading source).0 T U a b
 
-  same_tree : (source : List ℕ) (T U : List Token) (s t : FileTree) → Lex source T → Lex source U → IsTree L T s → IsTree L U t → s ≡ t
+  pub same_tree : (source : List ℕ) (T U : List Token) (s t : FileTree) → Lex source T → Lex source U → IsTree L T s → IsTree L U t → s ≡ t
   same_tree source T U s t a b (x, is, plain, low) (y, is', plain', low') = (tree s t x y is is' (plain ∙ same_tokens source T U a b ∙ sym plain')).0
 
-  not_long : (source : List ℕ) → (n : ℕ) → n < length source → length source ≤ n → ⊥
+  pub not_long : (source : List ℕ) → (n : ℕ) → n < length source → length source ≤ n → ⊥
   not_long source n a b = omega arith
 
-  text_and_tree : (source : List ℕ) (T U : List Token) (c : Cause) (p : Place) (t : FileTree) → Lex source T → Lex source U → IsTextFault L T c p → IsTree L U t → ⊥
+  pub text_and_tree : (source : List ℕ) (T U : List Token) (c : Cause) (p : Place) (t : FileTree) → Lex source T → Lex source U → IsTextFault L T c p
+      → IsTree L U t → ⊥
   text_and_tree source T U c p t a b f is = (fault T).1 t c p (subst (λ (V : List Token). IsTree L V t) (sym (same_tokens source T U a b)) is) f
 
   one_refusal : (source : List ℕ) (c d : Cause) (p q : Place) → Refuse L source c p → Refuse L source d q → Same c d p q

@@ -31,10 +31,10 @@ use Rattle.lra_front.proofs.ReadSteps.{tree_refused}
 use Rattle.lra_front.proofs.StageSteps.{well, accepted}
 
 -- a list of tokens has a tree, or a first fault
-abbrev IsRead : List Token → Type 0
+abbrev pub IsRead : List Token → Type 0
 IsRead T = ((t : FileTree) × IsTree Spells T t) ⊎ ((c : Cause) × (at : Place) × IsTextFault Spells T c at)
 
-text_read : (T : List Token) (r : Read FileTree) → EndsOnce T → file_at 63 T ≡ r → IsRead T
+pub text_read : (T : List Token) (r : Read FileTree) → EndsOnce T → file_at 63 T ≡ r → IsRead T
 text_read T (Ok x) ends e = inl (x.0, tree_found T x.1 x.0 ends e)
 text_read T (Err f) ends e =
     let s = stops_at T f ends e in

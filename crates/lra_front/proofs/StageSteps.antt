@@ -1,19 +1,20 @@
 -- What the stages behind the reading answer, as answers of the tree.
-use Rattle.std.proofs.Common.{◌≡◌, ℕ, List, [], ◌∷◌, Some, None, sym, ap, ◌∙◌, subst}
+use Rattle.std.proofs.Common.{◌≡◌, ℕ, List, [], ◌∷◌, Some, None, refl, sym, ap, ◌∙◌, subst}
 use Rattle.std.specs.Prelude.{Option, Result, MatchOption}
 use Rattle.std.specs.Result.{IsErrAnd}
 use Rattle.lra_base.specs.declared.refusals.Refusal.{Refusal}
 use Rattle.lra_base.specs.declared.refusals.Place.{Place}
 use Rattle.lra_base.specs.Refused.{IfRefusal, IfRefused}
-use Rattle.lra_base.proofs.Refusing.{exit_refused}
+use Rattle.lra_base.proofs.Refusing.{exit_refused, refusal_by}
+use Rattle.lra_base.specs.declared.refusals.Cause.{Cause}
 use Rattle.lra_base.specs.declared.refusals.Cause.TheVariants.{Recursive}
 use Rattle.lra_tree.specs.Reach.{IsFirstRecursive, NotRecursive}
 use Rattle.lra_tree.specs.Trees.{FileTree}
-use Rattle.lra_program.specs.Program.{Program}
+use Rattle.lra_program.specs.Program.{Function, Program}
 use Rattle.lra_operations.specs.Graph.{Node}
 use Rattle.lra_program.specs.Sites.{Site, events_of, sites_of}
 use Rattle.lra_tree.specs.Labels.{Labelled, labels_of}
-use Rattle.lra_meaning.specs.Resolve.{resolve}
+use Rattle.lra_meaning.specs.Resolve.{resolve, resolved_functions}
 use Rattle.lra_meaning.specs.NameFaults.{name_faults}
 use Rattle.lra_operations.specs.Agree.{IsGraph, Agrees}
 use Rattle.lra_program.specs.WellFormed.{IsWellFormed}
@@ -29,11 +30,11 @@ use Rattle.lra_formed.proofs.Whole.{well_formed}
 use Rattle.lra_base.specs.declared.error.SourceError.{SourceError}
 use Rattle.lra_base.specs.declared.error.SourceError.TheVariants.{Refused, Memory}
 use Rattle.lra_front.specs.Claims.{AreFew}
-use Rattle.lra_front.specs.Stages.{HasTree, HasGraph}
+use Rattle.lra_front.specs.Stages.{HasTree, HasGraph, IsRecursionRefusal}
 
 -- names --------------------------------------------------------------------------------------------------------------
 
-first_is : (fs : List Refusal) (r : Refusal) → first_fault fs ≡ Some r → (further : List Refusal) × (fs ≡ r ∷ further)
+pub first_is : (fs : List Refusal) (r : Refusal) → first_fault fs ≡ Some r → (further : List Refusal) × (fs ≡ r ∷ further)
 first_is [] r e = let wrong : ⊥ = cc in absurd wrong
 first_is (f ∷ fs) r e = (fs, cc)
 
@@ -52,14 +53,25 @@ exit_named t x e is told = exit_refused (λ r. RefusesTree t r.cause r.place) x 
 
 -- recursion ----------------------------------------------------------------------------------------------------------
 
--- what a search for the first recursive call answers, of the program of a source and the table of its labels
-module _ (t : FileTree) (P : Program) (labels : List Labelled) (x : Option Place) (program : P ≡ resolve t) (labelled : labels ≡ labels_of t)
-    (h : P ≡ resolve t → labels ≡ labels_of t → MatchOption x (NotRecursive t) (IsFirstRecursive t)) where
+-- what a search for the first recursive call answers, of the functions of a source and the table of its labels
+module _ (t : FileTree) (functions : List Function) (labels : List Labelled) (x : Option Place) (resolved : functions ≡ resolved_functions t)
+    (labelled : labels ≡ labels_of t)
+    (h : functions ≡ resolved_functions t → labels ≡ labels_of t → MatchOption x (NotRecursive t) (IsFirstRecursive t)) where
   pub none_recursive : x ≡ None → NotRecursive t
-  none_recursive is = subst (λ (y : Option Place). MatchOption y (NotRecursive t) (IsFirstRecursive t)) is (h program labelled)
+  none_recursive is = subst (λ (y : Option Place). MatchOption y (NotRecursive t) (IsFirstRecursive t)) is (h resolved labelled)
 
-  pub recursive_refused : (at : Place) → name_faults t ≡ [] → x ≡ Some at → RefusesTree t Recursive at
-  recursive_refused at names is = recursive at names (subst (λ (y : Option Place). MatchOption y (NotRecursive t) (IsFirstRecursive t)) is (h program labelled))
+  pub first_refused : (at : Place) → x ≡ Some at → IsRecursionRefusal t (record { cause = Recursive; place = at })
+  first_refused at is = (refl, subst (λ (y : Option Place). MatchOption y (NotRecursive t) (IsFirstRecursive t)) is (h resolved labelled))
+
+-- it refuses the tree
+recursion_refused : (t : FileTree) (r : Refusal) → name_faults t ≡ [] → IsRecursionRefusal t r → RefusesTree t r.cause r.place
+recursion_refused t r names h = subst (λ (c : Cause). RefusesTree t c r.place) (sym h.0) (recursive r.place names h.1)
+
+pub exit_recursive : {X : Type 0} (t : FileTree) (x : Result X SourceError) (e : SourceError) → name_faults t ≡ [] → IsErrAnd x (λ y. y ≡ e)
+    → IfRefusal (IsRecursionRefusal t) e
+    → IfRefused x (λ r. RefusesTree t r.cause r.place)
+exit_recursive t x e names is fault =
+    exit_refused (λ r. RefusesTree t r.cause r.place) x e is (refusal_by (IsRecursionRefusal t) _ (λ r. recursion_refused t r names) e fault)
 
 -- trees of operations ------------------------------------------------------------------------------------------------
 

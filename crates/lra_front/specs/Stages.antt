@@ -1,5 +1,7 @@
 -- What is known of a source between the stages of its reading.
 use Rattle.std.specs.Prelude.{◌≡◌, ℕ, ◌≤◌, ℤ, List, [], length, None}
+use Rattle.lra_base.specs.declared.refusals.Cause.TheVariants.{Recursive}
+use Rattle.lra_base.specs.declared.refusals.Refusal.{Refusal}
 use Rattle.lra_tree.specs.declared.tokens.Token.{Token}
 use Rattle.lra_tree.specs.Trees.{FileTree}
 use Rattle.lra_base.specs.Places.{greatest_length}
@@ -15,7 +17,7 @@ use Rattle.lra_program.specs.Sites.{Site, events_of, sites_of}
 use Rattle.lra_operations.specs.Agree.{IsGraph, Agrees}
 use Rattle.lra_program.specs.WellFormed.{IsWellFormed}
 use Rattle.lra_meaning.specs.Refuse.{limit_fault}
-use Rattle.lra_tree.specs.Reach.{NotRecursive}
+use Rattle.lra_tree.specs.Reach.{IsFirstRecursive, NotRecursive}
 use Rattle.lra_front.specs.Claims.{AreFew}
 
 -- a source that isn't too long, and its tree
@@ -34,6 +36,10 @@ pub record HasConstants (source : List ℕ) (constants : List ℤ) : Type 0 wher
 -- a source has one list of constants
 abbrev pub OneConstants : Type 0
 OneConstants = (source : List ℕ) (one two : List ℤ) → HasConstants source one → HasConstants source two → one ≡ two
+
+-- the refusal of a tree's first recursive call
+abbrev pub IsRecursionRefusal : FileTree → Refusal → Type 0
+IsRecursionRefusal t r = (r.cause ≡ Recursive) × IsFirstRecursive t r.place
 
 -- a tree whose names have no fault, that has no recursion and whose program passes no limit, the tree of operations of
 -- that program, and its points

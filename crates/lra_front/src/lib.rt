@@ -12,5 +12,5 @@ mod reading;
 
 pub use front::{Front, read_source};
 pub use laws::{each_answer, one_answer, one_constants};
-pub use program::{graph_of, program_of};
+pub use program::{check_calls, graph_of, program_of};
 pub use reading::{Reading, read_text};

@@ -6,12 +6,12 @@ ghost use Rattle.lra_tree.specs.Views.{tree_view};
 ghost use Rattle.lra_program.specs.ProgramViews.{program_view};
 ghost use Rattle.lra_operations.specs.GraphViews.{node_view, site_view};
 ghost use Rattle.lra_meaning.specs.NameFaults.{name_faults};
-ghost use Rattle.lra_meaning.specs.Resolve.{resolve};
+ghost use Rattle.lra_meaning.specs.Resolve.{resolve, resolved_functions};
 ghost use Rattle.lra_program.specs.WellFormed.{IsWellFormed};
 ghost use Rattle.lra_tree.specs.Labels.{labels_of};
 ghost use Rattle.lra_tree.specs.Reach.{NotRecursive};
 ghost use Rattle.lra_meaning.specs.Refuse.{RefusesTree};
-ghost use Rattle.lra_front.specs.Stages.{HasGraph};
+ghost use Rattle.lra_front.specs.Stages.{HasGraph, IsRecursionRefusal};
 
 use lra_base::{Cause, Refusal, SourceError};
 use lra_calls::first_recursive;
@@ -33,13 +33,13 @@ pub fn program_of(alloc: Global, tree: &Tree) -> Result<Resolution, SourceError>
 }
 
 /// That no function reaches itself by calls, or the refusal of the first call by which one does.
-#[tactic(auto, using(crate::proofs::StageSteps::recursive_refused))]
-fn check_calls(alloc: Global, tree: &Tree, resolution: &Resolution) -> Result<(), SourceError>
-    requires program { program_view resolution.now.program ≡ resolve (tree_view tree.now) }
+#[tactic(auto, using(crate::proofs::StageSteps::first_refused))]
+pub fn check_calls(alloc: Global, tree: &Tree, resolution: &Resolution) -> Result<(), SourceError>
+    requires functions { (program_view resolution.now.program).functions
+        ≡ resolved_functions (tree_view tree.now) }
     requires labels { resolution.now.labels.labels ≡ labels_of (tree_view tree.now) }
-    requires clean { name_faults (tree_view tree.now) ≡ [] }
     ensures straight { OnOk result (NotRecursive (tree_view tree.now)) }
-    ensures refused { IfRefused result (λ r. RefusesTree (tree_view tree.now) r.cause r.place) }
+    ensures refused { IfRefused result (IsRecursionRefusal (tree_view tree.now)) }
 {
     match first_recursive(alloc, tree, &resolution.program, &resolution.labels)? {
         None => Ok(()),

@@ -3,7 +3,7 @@
 use Rattle.std.proofs.Common.{◌≡◌, ℕ, zero, suc, ◌≤◌, ◌<◌, List, [], ◌∷◌, ◌++◌, length, Option, Some, None, Bool, true, false, slice_get, refl, sym, ap, ◌∙◌, subst, arith, append-nil, append_assoc}
 use Rattle.std.proofs.Common.{length-append, add-zero}
 use Rattle.std.specs.Prelude.{nat_lt, if◌then◌else◌}
-use Rattle.std.proofs.lemmas.Bool.{lt-ltb}
+use Rattle.std.proofs.lemmas.Bool.{lt-ltb, le-ltb, ltb-false}
 use Rattle.std.proofs.lemmas.Option.{none-some, same_Some}
 use Rattle.lra_base.specs.declared.refusals.Refusal.{Refusal}
 use Rattle.lra_program.specs.Program.{BlockItems, Program}
@@ -63,11 +63,8 @@ few_live S (comes t ∷ es) U e (suc q) s f =
     few_live (S ++ t ∷ []) es U (chosen_passed (nat_lt greatest_live t.live) (nat_lt greatest_points (suc (length S))) (Variables t.label) (Points t.label) (walk (S ++ t ∷ []) es) U e) q s f
 few_live S (one_call_more at ∷ es) U e q s f = absurd (not_passed (Calls at) U e)
 
-pub none_refused : (P : Program) (U : List Site) (ls : List Labelled) → walk [] (events_of P) ≡ passed U → limit_fault ls 0 (events_of P) ≡ None
-none_refused P U ls e = sym (walk_fault ls [] (events_of P)) ∙ ap (fault_in ls) e
-
-pub refused_there : (P : Program) (x : Limit) (ls : List Labelled) → walk [] (events_of P) ≡ stopped x → limit_fault ls 0 (events_of P) ≡ Some (refusal_of ls x)
-refused_there P x ls e = sym (walk_fault ls [] (events_of P)) ∙ ap (fault_in ls) e
+pub whole_sites : (P : Program) (U : List Site) → walk [] (events_of P) ≡ passed U → U ≡ sites_of P
+whole_sites P U e = walk_sites [] (events_of P) U e
 
 abbrev pub first_frame : Program → Frame
 first_frame P = record {
@@ -91,29 +88,31 @@ module _ (P : Program) (alone : P.main.parameters ≡ []) where
   abbrev last_site : ℕ → Site
   last_site n = record { path = []; label = P.main.end; live = n; asserts = false }
 
-  pub whole_walk : (V U : List Site) (h : Node) → WritesItems P [] (first_frame P) [] P.main.body h V → Pointed V (last_site (live_behind (length P.globals) P.main.body)) U
-      → walk [] (events_of P) ≡ passed U
-  whole_walk V U h x e = subst (λ es. walk [] es ≡ passed U) events_are
-      (walk_then [] (items_events (call_events P 32) [] (length P.globals) P.main.body) (plain_site [] P.main.end (live_behind (length P.globals) P.main.body) ∷ []) V (passed U) x.walked e)
+  pub whole_walk : (S V U : List Site) (h : Node) → WritesItems P [] (first_frame P) S P.main.body h V
+      → Pointed V (last_site (live_behind (length P.globals) P.main.body)) U
+      → walk S (events_of P) ≡ passed U
+  whole_walk S V U h x e = subst (λ es. walk S es ≡ passed U) events_are
+      (walk_then S (items_events (call_events P 32) [] (length P.globals) P.main.body)
+      (plain_site [] P.main.end (live_behind (length P.globals) P.main.body) ∷ []) V (passed U) x.walked e)
 
   -- where the items are stopped, and where their end is
-  pub items_stopped : (x : Limit) → walk [] (items_events (call_events P 32) [] (length P.globals) P.main.body) ≡ stopped x → walk [] (events_of P) ≡ stopped x
-  items_stopped x e = subst (λ es. walk [] es ≡ stopped x) events_are
-      (walk_stop [] (items_events (call_events P 32) [] (length P.globals) P.main.body) (plain_site [] P.main.end (live_behind (length P.globals) P.main.body) ∷ []) x e)
+  pub items_stopped : (S : List Site) (x : Limit) → walk S (items_events (call_events P 32) [] (length P.globals) P.main.body) ≡ stopped x
+      → walk S (events_of P) ≡ stopped x
+  items_stopped S x e = subst (λ es. walk S es ≡ stopped x) events_are
+      (walk_stop S (items_events (call_events P 32) [] (length P.globals) P.main.body)
+      (plain_site [] P.main.end (live_behind (length P.globals) P.main.body) ∷ []) x e)
 
-  pub end_stopped : (V : List Site) (x : Limit) → walk [] (items_events (call_events P 32) [] (length P.globals) P.main.body) ≡ passed V
-      → walk V (plain_site [] P.main.end (live_behind (length P.globals) P.main.body) ∷ []) ≡ stopped x → walk [] (events_of P) ≡ stopped x
-  end_stopped V x e f = subst (λ es. walk [] es ≡ stopped x) events_are
-      (walk_then [] (items_events (call_events P 32) [] (length P.globals) P.main.body) (plain_site [] P.main.end (live_behind (length P.globals) P.main.body) ∷ []) V (stopped x) e f)
-
-  pub whole_sites : (U : List Site) → walk [] (events_of P) ≡ passed U → U ≡ sites_of P
-  whole_sites U e = walk_sites [] (events_of P) U e
+  pub end_stopped : (S V : List Site) (x : Limit) → walk S (items_events (call_events P 32) [] (length P.globals) P.main.body) ≡ passed V
+      → walk V (plain_site [] P.main.end (live_behind (length P.globals) P.main.body) ∷ []) ≡ stopped x → walk S (events_of P) ≡ stopped x
+  end_stopped S V x e f = subst (λ es. walk S es ≡ stopped x) events_are
+      (walk_then S (items_events (call_events P 32) [] (length P.globals) P.main.body)
+      (plain_site [] P.main.end (live_behind (length P.globals) P.main.body) ∷ []) V (stopped x) e f)
 
   pub whole_graph : (V U : List Site) (h g : Node) (q : ℕ) → WritesItems P [] (first_frame P) [] P.main.body h V → Pointed V (last_site (live_behind (length P.globals) P.main.body)) U
       → q ≡ length V → g ≡ seq h (point q) → IsGraph P g
   whole_graph V U h g q x e i a =
       let n = live_behind (length P.globals) P.main.body in
-      let same : U ≡ sites_of P = whole_sites U (whole_walk V U h x e) in
+      let same : U ≡ sites_of P = whole_sites P U (whole_walk [] V U h x e) in
       let is : IsFrame P [] (first_frame P) (main_frame P) = record {
         path = refl;
         base = refl;
@@ -132,13 +131,13 @@ module _ (P : Program) (alone : P.main.parameters ≡ []) where
         parts = rw (← i) a;
       }
 
--- as the code has it: the path, the frame, the points, the items and the label of the end are known by equations
-module _ (P : Program) (well : IsWellFormed P) (p : List ℕ) (r : Frame) (S : List Site) (b : BlockItems) (at : ℕ) (from : p ≡ []) (first : r ≡ first_frame P) (none : S ≡ [])
+-- as the code has it: the path, the frame, the items and the label of the end are known by equations
+module _ (P : Program) (well : IsWellFormed P) (p : List ℕ) (r : Frame) (S : List Site) (b : BlockItems) (at : ℕ) (from : p ≡ []) (first : r ≡ first_frame P)
     (body : P.main.body ≡ b) (ends : P.main.end ≡ at) where
-  writes_as : (h : Node) (V : List Site) → WritesItems P p r S b h V → WritesItems P [] (first_frame P) [] P.main.body h V
+  writes_as : (h : Node) (V : List Site) → WritesItems P p r S b h V → WritesItems P [] (first_frame P) S P.main.body h V
   writes_as h V x =
-      subst (λ z. WritesItems P [] (first_frame P) [] z h V) (sym body)
-      (subst (λ z. WritesItems P [] (first_frame P) z b h V) none (subst (λ z. WritesItems P [] z S b h V) first (subst (λ z. WritesItems P z r S b h V) from x)))
+      subst (λ z. WritesItems P [] (first_frame P) S z h V) (sym body)
+      (subst (λ z. WritesItems P [] z S b h V) first (subst (λ z. WritesItems P z r S b h V) from x))
 
   lives_as : (n : ℕ) → n ≡ live_behind r.live b → n ≡ live_behind (length P.globals) P.main.body
   lives_as n same = same ∙ ap (λ (z : Frame). live_behind z.live b) first ∙ ap (λ z. live_behind (length P.globals) z) (sym body)
@@ -150,27 +149,55 @@ module _ (P : Program) (well : IsWellFormed P) (p : List ℕ) (r : Frame) (S : L
       (subst (λ z. walk V (plain_site [] z n ∷ []) ≡ w) (sym ends) (subst (λ z. walk V (plain_site z at n ∷ []) ≡ w) from e))
 
   module _ (V U : List Site) (n q : ℕ) (h : Node) (same : n ≡ live_behind r.live b) (x : WritesItems P p r S b h V) (e : walk V (plain_site p at n ∷ []) ≡ passed U) where
-    pub made_walk : walk [] (events_of P) ≡ passed U
-    made_walk = whole_walk P well.alone V U h (writes_as h V x) (end_as n V (passed U) same e)
+    pub made_walk : walk S (events_of P) ≡ passed U
+    made_walk = whole_walk P well.alone S V U h (writes_as h V x) (end_as n V (passed U) same e)
 
-    pub made_sites : U ≡ sites_of P
-    made_sites = whole_sites P well.alone U made_walk
+    pub made_graph : (g : Node) → q ≡ length V → g ≡ seq h (point q) → S ≡ [] → IsGraph P g
+    made_graph g i a none =
+        whole_graph P well.alone V U h g q (subst (λ z. WritesItems P [] (first_frame P) z P.main.body h V) none (writes_as h V x))
+        (end_as n V (passed U) same e) i a
 
-    pub made_graph : (g : Node) → q ≡ length V → g ≡ seq h (point q) → IsGraph P g
-    made_graph g i a = whole_graph P well.alone V U h g q (writes_as h V x) (end_as n V (passed U) same e) i a
+  pub stopped_in_items : (x : Limit) → walk S (items_events (inside P p r) p r.live b) ≡ stopped x → walk S (events_of P) ≡ stopped x
+  stopped_in_items x e = items_stopped P well.alone S x
+      (subst (λ z. walk S (items_events (call_events P 32) [] (length P.globals) z) ≡ stopped x) (sym body)
+      (subst (λ (z : Frame). walk S (items_events (inside P [] z) [] z.live b) ≡ stopped x) first
+      (subst (λ z. walk S (items_events (inside P z r) z r.live b) ≡ stopped x) from e)))
+
+  pub stopped_at_end : (V : List Site) (h : Node) (n : ℕ) (x : Limit) → n ≡ live_behind r.live b → WritesItems P p r S b h V
+      → walk V (plain_site p at n ∷ []) ≡ stopped x
+      → walk S (events_of P) ≡ stopped x
+  stopped_at_end V h n x same y e = end_stopped P well.alone S V x (writes_as h V y).walked (end_as n V (stopped x) same e)
+
+-- a program that is written out behind these points, or passes a limit there
+module _ (P : Program) (S : List Site) where
+  module _ (U : List Site) (e : walk S (events_of P) ≡ passed U) where
+    -- where it is the first one
+    pub made_sites : S ≡ [] → U ≡ sites_of P
+    made_sites none = whole_sites P U (subst (λ z. walk z (events_of P) ≡ passed U) none e)
 
     pub made_few : (k : ℕ) (s : Site) → slice_get (sites_of P) k ≡ Some s → s.live ≤ greatest_live
-    made_few k s f = few_live [] (events_of P) U made_walk k s f
+    made_few k s f = few_live S (events_of P) U e k s f
 
-    pub made_within : (ls : List Labelled) → limit_fault ls 0 (events_of P) ≡ None
-    made_within ls = none_refused P U ls made_walk
+    pub made_within : (ls : List Labelled) → limit_fault ls (length S) (events_of P) ≡ None
+    made_within ls = sym (walk_fault ls S (events_of P)) ∙ ap (fault_in ls) e
 
-  pub refused_in_items : (x : Limit) → walk S (items_events (inside P p r) p r.live b) ≡ stopped x → (ls : List Labelled) → limit_fault ls 0 (events_of P) ≡ Some (refusal_of ls x)
-  refused_in_items x e ls = refused_there P x ls (items_stopped P well.alone x
-      (subst (λ z. walk [] (items_events (call_events P 32) [] (length P.globals) z) ≡ stopped x) (sym body)
-      (subst (λ z. walk z (items_events (call_events P 32) [] (length P.globals) b) ≡ stopped x) none
-      (subst (λ (z : Frame). walk S (items_events (inside P [] z) [] z.live b) ≡ stopped x) first (subst (λ z. walk S (items_events (inside P z r) z r.live b) ≡ stopped x) from e)))))
+  pub made_refused : (x : Limit) (ls : List Labelled) → walk S (events_of P) ≡ stopped x → limit_fault ls (length S) (events_of P) ≡ Some (refusal_of ls x)
+  made_refused x ls e = sym (walk_fault ls S (events_of P)) ∙ ap (fault_in ls) e
 
-  pub refused_at_end : (V : List Site) (h : Node) (n : ℕ) (x : Limit) → n ≡ live_behind r.live b → WritesItems P p r S b h V → walk V (plain_site p at n ∷ []) ≡ stopped x → (ls : List Labelled)
-      → limit_fault ls 0 (events_of P) ≡ Some (refusal_of ls x)
-  refused_at_end V h n x same y e ls = refused_there P x ls (end_stopped P well.alone V x (writes_as h V y).walked (end_as n V (stopped x) same e))
+-- fewer points before it, and it passes no limit either
+fewer_then : (many full less : Bool) (x y : Refusal) (f g : Option Refusal) → (full ≡ false → less ≡ false) → (f ≡ None → g ≡ None)
+    → (if many then Some x else (if full then Some y else f)) ≡ None → (if many then Some x else (if less then Some y else g)) ≡ None
+fewer_then true full less x y f g room rest e = absurd (none-some x (sym e))
+fewer_then false true less x y f g room rest e = absurd (none-some y (sym e))
+fewer_then false false less x y f g room rest e = rw (room refl) (rest e)
+
+room_for : (n m : ℕ) → n ≤ m → nat_lt greatest_points (suc m) ≡ false → nat_lt greatest_points (suc n) ≡ false
+room_for n m few e = let room = ltb-false greatest_points (suc m) e in le-ltb greatest_points (suc n) (omega (arith, few, room))
+
+pub fewer_within : (ls : List Labelled) (n m : ℕ) (es : List Event) → n ≤ m → limit_fault ls m es ≡ None → limit_fault ls n es ≡ None
+fewer_within ls n m [] few e = refl
+fewer_within ls n m (comes s ∷ es) few e =
+    fewer_then (nat_lt greatest_live s.live) (nat_lt greatest_points (suc m)) (nat_lt greatest_points (suc n)) _ _ (limit_fault ls (suc m) es)
+    (limit_fault ls (suc n) es)
+    (room_for n m few) (fewer_within ls (suc n) (suc m) es (omega (arith, few))) e
+fewer_within ls n m (one_call_more at ∷ es) few e = absurd (none-some _ (sym e))

@@ -22,7 +22,7 @@ use lra_operations::{Path, Site};
 use lra_program::BlockItem;
 use parts::open_part;
 use std::alloc::AllocError;
-pub use whole::build;
+pub use whole::{build, build_thread};
 
 /// One place more.
 fn add_place<'a>(places: &mut Vec<Open<'a>>, place: Open<'a>) -> Result<(), AllocError>

@@ -9,6 +9,6 @@
 mod inlining;
 mod refused;
 
-pub use inlining::build;
+pub use inlining::{build, build_thread};
 pub use lra_opening::{GraphError, Limit};
 pub use refused::refusal;

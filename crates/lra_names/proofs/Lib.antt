@@ -5,3 +5,5 @@ pub mod CaseLaws
 -- Functions and the whole.
 pub mod FunctionLaws
 pub mod OneFunction
+-- Threads.
+pub mod ThreadLaws

@@ -110,10 +110,10 @@ pub struct Resolved {
     /// The names of the file scope.
     names: Names,
     scope: Scope,
-    labels: Labelling,
-    globals: Vec<GlobalVariable>,
-    arrays: Vec<Array>,
-    functions: Vec<lra_program::Function>,
+    pub labels: Labelling,
+    pub globals: Vec<GlobalVariable>,
+    pub arrays: Vec<Array>,
+    pub functions: Vec<lra_program::Function>,
 }
 
 /// The first value of a global of this type: its literal, or 0.
@@ -330,7 +330,7 @@ fn find_main(parts: &[Item]) -> Option<usize>
 }
 
 /// All parts of the source.
-fn resolve_all(alloc: Global, functions: &Functions<'_>) -> Result<Resolved, SourceError>
+pub fn resolve_all(alloc: Global, functions: &Functions<'_>) -> Result<Resolved, SourceError>
     ensures told { TellsOf (parts_faults (functions_at functions.now) [] [] (map part_view functions.now)) result }
     ensures found { IfOk result (λ r. map function_view r.functions.items
         ≡ resolve_parts (functions_at functions.now) [] 1 (map part_view functions.now)) }

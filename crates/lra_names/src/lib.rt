@@ -3,5 +3,7 @@
 
 mod functions;
 mod statements;
+mod threads;
 
 pub use functions::{Resolution, resolve};
+pub use threads::{ThreadsResolution, resolve_threads};

@@ -6,5 +6,6 @@ use Rattle.lra_front.proofs.program.check_calls.Goals as goal
 
 pub returns-in-None-clause-straight : goal.returns-in-None-clause-straight
 returns-in-None-clause-straight c =
-    none_recursive (tree_view c.args.tree.now) (program_view c.args.resolution.now.program) c.args.resolution.now.labels.labels c.in_ok-first_recursive.field-0
-    c.requires.program c.requires.labels c.in_ok-first_recursive.ensures c.in-None.is
+    none_recursive (tree_view c.args.tree.now) (program_view c.args.resolution.now.program).functions c.args.resolution.now.labels.labels
+    c.in_ok-first_recursive.field-0
+    c.requires.functions c.requires.labels c.in_ok-first_recursive.ensures c.in-None.is

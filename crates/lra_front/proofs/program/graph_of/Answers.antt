@@ -1,6 +1,6 @@
 -- Goals of `graph_of`: the tree of operations of a program without recursion and its points; or the refusal for its
 -- first recursive call, or for the first limit that it passes.
-use Rattle.std.proofs.Common.{◌≡◌, List, map, Some}
+use Rattle.std.proofs.Common.{◌≡◌, List, map, Some, ap}
 use Rattle.lra_tree.specs.Labels.{Labelled}
 use Rattle.lra_tree.specs.Views.{tree_view}
 use Rattle.lra_program.specs.ProgramViews.{program_view}
@@ -8,8 +8,16 @@ use Rattle.lra_operations.specs.GraphViews.{node_view, site_view}
 use Rattle.lra_program.specs.Sites.{events_of}
 use Rattle.lra_meaning.specs.Refuse.{limit_fault}
 use Rattle.lra_opening.specs.Limits.{refusal_of}
-use Rattle.lra_front.proofs.StageSteps.{has_graph, limit_passed, limit_refused}
+use Rattle.lra_program.specs.Program.{Program}
+use Rattle.lra_front.proofs.StageSteps.{has_graph, exit_recursive, limit_passed, limit_refused}
 use Rattle.lra_front.proofs.program.graph_of.Goals as goal
+
+pub check_calls-requires-clause-functions : goal.check_calls-requires-clause-functions
+check_calls-requires-clause-functions c = ap (λ (P : Program). P.functions) c.requires.program
+
+pub returns-in_err-check_calls-clause-refused : goal.returns-in_err-check_calls-clause-refused
+returns-in_err-check_calls-clause-refused c =
+    exit_recursive (tree_view c.args.tree.now) c.from_residual.result _ c.requires.clean c.from_residual.ensures.1 c.in_err-check_calls.ensures.refused
 
 pub returns-in-Ok-clause-graph : goal.returns-in-Ok-clause-graph
 returns-in-Ok-clause-graph c =

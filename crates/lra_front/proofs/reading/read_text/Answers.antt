@@ -7,10 +7,10 @@ use Rattle.lra_base.proofs.Limit.{taken}
 use Rattle.lra_tree.specs.Views.{tree_view}
 use Rattle.lra_tree.specs.Faults.{IsTree}
 use Rattle.lra_tree.specs.Grammar.{Spells}
-use Rattle.lra_meaning.specs.Refuse.{Refuse}
+use Rattle.lra_meaning.specs.RefuseThreads.{Unread}
 use Rattle.lra_readers.specs.Files.{EndsOnce}
 use Rattle.lra_readers.proofs.Ended.{lexed_end}
-use Rattle.lra_front.proofs.ReadSteps.{long_refused, exit_lexed, exit_parsed, has_constants, has_tree}
+use Rattle.lra_front.proofs.ReadSteps.{long_unread, unread_refused, refused_unread, exit_lexed, exit_parsed, has_constants, has_tree}
 use Rattle.lra_front.proofs.reading.read_text.Goals as goal
 
 pub slice_bounds-place_behind-end : goal.slice_bounds-place_behind-end
@@ -19,9 +19,14 @@ slice_bounds-place_behind-end c = taken 65536 c.args.bytes.now c.if-bytes-gt-GRE
 pub place_behind-place-requires : goal.place_behind-place-requires
 place_behind-place-requires c = let e = taken 65536 c.args.bytes.now c.if-bytes-gt-GREATEST_LENGTH.true in omega arith
 
+pub returns-then-bytes-gt-GREATEST_LENGTH-clause-unread : goal.returns-then-bytes-gt-GREATEST_LENGTH-clause-unread
+returns-then-bytes-gt-GREATEST_LENGTH-clause-unread c =
+    subst (λ (p : Place). Unread Spells c.args.bytes.now TooLong p) (sym c.place_behind-place.ensures)
+    (long_unread c.args.bytes.now 65536 refl c.if-bytes-gt-GREATEST_LENGTH.true)
+
 pub returns-then-bytes-gt-GREATEST_LENGTH-clause-refused : goal.returns-then-bytes-gt-GREATEST_LENGTH-clause-refused
 returns-then-bytes-gt-GREATEST_LENGTH-clause-refused c =
-    subst (λ (p : Place). Refuse Spells c.args.bytes.now TooLong p) (sym c.place_behind-place.ensures) (long_refused c.args.bytes.now 65536 refl c.if-bytes-gt-GREATEST_LENGTH.true)
+    unread_refused c.args.bytes.now TooLong c.place_behind-place.result (returns-then-bytes-gt-GREATEST_LENGTH-clause-unread c)
 
 pub parse-requires : goal.parse-requires
 parse-requires c = record {
@@ -29,14 +34,20 @@ parse-requires c = record {
       subst EndsOnce (sym c.deref.ensures.value) (lexed_end c.args.bytes.now c.in_ok-tokens.tokens.items c.in_ok-tokens.ensures.found);
 }
 
-pub returns-in_err-tokens-clause-refused : goal.returns-in_err-tokens-clause-refused
-returns-in_err-tokens-clause-refused c =
+pub returns-in_err-tokens-clause-unread : goal.returns-in_err-tokens-clause-unread
+returns-in_err-tokens-clause-unread c =
     exit_lexed c.args.bytes.now c.from_residual.result _ c.if-bytes-gt-GREATEST_LENGTH.false c.from_residual.ensures.1 c.in_err-tokens.ensures.refused
 
-pub returns-in_err-tree-clause-refused : goal.returns-in_err-tree-clause-refused
-returns-in_err-tree-clause-refused c =
+pub returns-in_err-tokens-clause-refused : goal.returns-in_err-tokens-clause-refused
+returns-in_err-tokens-clause-refused c = refused_unread c.args.bytes.now c.from_residual.result (returns-in_err-tokens-clause-unread c)
+
+pub returns-in_err-tree-clause-unread : goal.returns-in_err-tree-clause-unread
+returns-in_err-tree-clause-unread c =
     exit_parsed c.args.bytes.now c.in_ok-tokens.tokens.items c.deref.result.now c.from_residual-in_err-tree.result _ c.if-bytes-gt-GREATEST_LENGTH.false c.in_ok-tokens.ensures.found
     c.deref.ensures.value c.from_residual-in_err-tree.ensures.1 c.in_err-tree.ensures.refused
+
+pub returns-in_err-tree-clause-refused : goal.returns-in_err-tree-clause-refused
+returns-in_err-tree-clause-refused c = refused_unread c.args.bytes.now c.from_residual-in_err-tree.result (returns-in_err-tree-clause-unread c)
 
 pub returns-clause-found : goal.returns-clause-found
 returns-clause-found c =

@@ -1,0 +1,32 @@
+-- What each source deserves as a program of several threads: its one refusal, or its tree with a tree of operations
+-- for each thread.
+use Rattle.std.specs.Prelude.{◌⊎◌, ℕ, List}
+use Rattle.std.specs.List.{AllZip}
+use Rattle.lra_base.specs.declared.refusals.Cause.{Cause}
+use Rattle.lra_base.specs.declared.refusals.Place.{Place}
+use Rattle.lra_tree.specs.Trees.{FileTree}
+use Rattle.lra_tree.specs.Grammar.{Spells}
+use Rattle.lra_operations.specs.Graph.{Node}
+use Rattle.lra_operations.specs.Agree.{IsGraph, Agrees}
+use Rattle.lra_meaning.specs.Threads.{thread_places, thread_program}
+use Rattle.lra_meaning.specs.RefuseThreads.{RefuseThreads, AcceptsThreads}
+
+-- the source is refused for some cause at some place
+abbrev pub HasThreadsRefusal : List ℕ → Type 0
+HasThreadsRefusal source = (cause : Cause) × (at : Place) × RefuseThreads Spells source cause at
+
+-- a tree of operations of a thread's program, that comes to the points of its runs
+abbrev pub IsThreadTree : FileTree → ℕ → Node → Type 0
+IsThreadTree t place g = IsGraph (thread_program t place) g × Agrees (thread_program t place) g
+
+-- the source is accepted, and each thread has such a tree
+pub record IsAcceptedThreads (source : List ℕ) : Type 0 where
+  pub tree : FileTree
+  pub accepted : AcceptsThreads Spells source tree
+  pub operations : List Node
+  pub are_graphs : AllZip (IsThreadTree tree) (thread_places tree) operations
+
+-- every list of bytes is refused or accepted, and none is both
+abbrev pub EachThreadsAnswer : Type 0
+EachThreadsAnswer = (source : List ℕ) → (HasThreadsRefusal source ⊎ IsAcceptedThreads source)
+    × (HasThreadsRefusal source → IsAcceptedThreads source → ⊥)
