@@ -19,7 +19,8 @@ use Rattle.lra_operations.specs.Inlined.{is_loop, as_value, as_result, is_call, 
 use Rattle.lra_operations.specs.Agree.{IsGraph}
 use Rattle.lra_flow.specs.Plan.{Plan, Widening}
 use Rattle.lra_flow.specs.Operations.{Operations}
-use Rattle.lra_flow.specs.Pass.{Result, noted, jumps, behind, Through, GoesRound, Grows, Narrows, Pass, ArmsPass}
+use Rattle.lra_flow.specs.Pass.{Admission, nothing_admitted, Result, noted, jumps, behind, Through, GoesRound, Grows, Narrows, PassAmong, ArmsPassAmong}
+use Rattle.lra_flow.specs.Among.{IterationAmong}
 use Rattle.lra_flow.specs.Analysis.{Iteration}
 use Rattle.lra_iter.specs.Numbers.{ArmsAreBelow, AreBelow}
 
@@ -112,7 +113,7 @@ behind_flag broken r v f = refl
 behind_flag continued r v f = refl
 behind_flag returned r v f = refl
 
-module _ (V H : Type 0) (ops : Operations V H) (n : ℕ) where
+module _ (V H : Type 0) (ops : Operations V H) (admission : Admission V) (n : ℕ) where
   flag_is : (f g : Option ℕ) → f ≡ g → IsBelow n g → IsBelow n f
   flag_is f g e b = subst (λ (h : Option ℕ). IsBelow n h) (sym e) b
 
@@ -135,7 +136,7 @@ module _ (V H : Type 0) (ops : Operations V H) (n : ℕ) where
         narrows_below more first next t v r rest (round_below (noted q e s.flag) next t turn (noted_below n q e s.flag l b))
 
   mutual
-    pub pass_below : (set : Plan) (g : Node) (f : Option ℕ) (v : V) (r : Result V) → Pass V H ops set g f v r → AreBelow n g → IsBelow n f → IsBelow n r.flag
+    pub pass_below : (set : Plan) (g : Node) (f : Option ℕ) (v : V) (r : Result V) → PassAmong V H ops admission set g f v r → AreBelow n g → IsBelow n f → IsBelow n r.flag
     pass_below set empty f v r is a b = result_is r _ is b
     pass_below set (aside q Entering) f v r (w, e, done, is) a b = result_is r _ is (noted_below n q e f a b)
     pass_below set (aside q (Noting place)) f v r is a b = result_is r _ is b
@@ -148,9 +149,9 @@ module _ (V H : Type 0) (ops : Operations V H) (n : ℕ) where
         result_is r _ is (noted_below n q i t.flag a.0 (pass_below set y (noted q e s.flag) off t two a.2
         (noted_below n q e s.flag a.0 (pass_below set x (noted q d f) on s one a.1 (noted_below n q d f a.0 b)))))
     pass_below set (iterate q base c x) f v r (h, later, u, top, out, s, t, e, started, grown, narrowed, off, is) a b =
-        let g = grows_below q base c (Pass V H ops set x) a.0 (λ f' v' r' p k. pass_below set x f' v' r' p a.1 k) set.widening set.delay f h later u s grown b
+        let g = grows_below q base c (PassAmong V H ops admission set x) a.0 (λ f' v' r' p k. pass_below set x f' v' r' p a.1 k) set.widening set.delay f h later u s grown b
         in
-        let m = narrows_below q base c (Pass V H ops set x) a.0 (λ f' v' r' p k. pass_below set x f' v' r' p a.1 k) set.narrow v u s top t narrowed g in
+        let m = narrows_below q base c (PassAmong V H ops admission set x) a.0 (λ f' v' r' p k. pass_below set x f' v' r' p a.1 k) set.narrow v u s top t narrowed g in
         result_is r _ is (noted_below n q e t.flag a.0 m)
     pass_below set (catch q j x) f v r (w, e, s, one, joined, is) a b =
         result_is r _ is (flag_is _ (noted q e s.flag) (behind_flag j s w (noted q e s.flag)) (noted_below n q e s.flag a.0 (pass_below set x f v s one a.1 b)))
@@ -159,12 +160,17 @@ module _ (V H : Type 0) (ops : Operations V H) (n : ℕ) where
         (noted_below n q x f a.0 b)
 
     arms_below : (set : Plan) (q base : ℕ) (e : Expr) (d : Bool) (v other : V) (arms : Arms) (f : Option ℕ) (o : Option V) (r : Result V)
-        → ArmsPass V H ops set q base e d v other arms f o r → q < n → ArmsAreBelow n arms → IsBelow n f → IsBelow n r.flag
+        → ArmsPassAmong V H ops admission set q base e d v other arms f o r → q < n → ArmsAreBelow n arms → IsBelow n f → IsBelow n r.flag
     arms_below set q base e d v other no_arms f o r (w, x, out, is) l a b = result_is r _ is (noted_below n q x f l b)
     arms_below set q base e d v other (entry k arms) f o r (u, w, x, y, enters, joins, rest) l a b =
         arms_below set q base e d v other arms (noted q y (noted q x f)) (Some w) r rest l a (noted_below n q y (noted q x f) l (noted_below n q x f l b))
     arms_below set q base e d v other (arm g arms) f o r (w, s, t, from, one, rest, is) l a b =
         result_is r _ is (arms_below set q base e d v other arms s.flag (Some s.normal) t rest l a.1 (pass_below set g f w s one a.0 b))
 
-  pub iteration_below : (set : Plan) (P : Program) (g : Node) (r : Result V) → 0 < n → AreBelow n g → Iteration ops set P g r → IsBelow n r.flag
-  iteration_below set P g r low below (none, first, e, universal, values, pass) = pass_below set g (noted 0 e None) first r pass below (noted_below n 0 e None low tt)
+  pub iteration_among_below : (set : Plan) (P : Program) (g : Node) (r : Result V) → 0 < n → AreBelow n g → IterationAmong ops admission set P g r → IsBelow n r.flag
+  iteration_among_below set P g r low below (none, first, e, universal, values, pass) =
+      pass_below set g (noted 0 e None) first r pass below (noted_below n 0 e None low tt)
+
+pub iteration_below : (V H : Type 0) (ops : Operations V H) (n : ℕ) (set : Plan) (P : Program) (g : Node) (r : Result V) → 0 < n → AreBelow n g
+    → Iteration ops set P g r → IsBelow n r.flag
+iteration_below V H ops n = iteration_among_below V H ops nothing_admitted n

@@ -116,7 +116,7 @@ module _ {V H A : Type 0} (ops : Operations V H) (Told : Op → V → A → Exac
   pub none_before : behind ≡ None → flagged ≡ None
   none_before none = first_none flagged j.found (sym j.flags ∙ none)
 
-  point_below : (k : Finding A) → Contains j.found k → k.point < length values
+  pub point_below : (k : Finding A) → Contains j.found k → k.point < length values
   point_below k among =
       let (a, one, there, told) = j.is_asked k among in
       let inside = slice_get_within values a.point told.0 told.4 in

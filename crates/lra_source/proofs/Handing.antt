@@ -37,7 +37,7 @@ use Rattle.lra_source.proofs.Widths.{graph_lives}
 -- lists --------------------------------------------------------------------------------------------------------------
 
 -- a list that has each place of another is at least as long
-no_longer : {A B : Type 0} (xs : List A) (ys : List B) → ((k : ℕ) (x : A) → slice_get xs k ≡ Some x → (y : B) × (slice_get ys k ≡ Some y)) → length xs ≤ length ys
+pub no_longer : {A B : Type 0} (xs : List A) (ys : List B) → ((k : ℕ) (x : A) → slice_get xs k ≡ Some x → (y : B) × (slice_get ys k ≡ Some y)) → length xs ≤ length ys
 no_longer [] ys f = omega arith
 no_longer (x ∷ xs) [] f = let there = f 0 x refl in absurd (none-some there.0 there.1)
 no_longer (x ∷ xs) (y ∷ ys) f = let rest = no_longer xs ys (λ k. f (suc k)) in omega (arith, rest)

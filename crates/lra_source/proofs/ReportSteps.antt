@@ -92,7 +92,7 @@ step_by true full a b rest e = let wrong : ⊥ = cc in absurd wrong
 step_by false true a b rest e = let wrong : ⊥ = cc in absurd wrong
 step_by false false a b rest e = (refl, e)
 
-few_behind : (ls : List Labelled) (n : ℕ) (es : List Event) → limit_fault ls n es ≡ None → n ≤ greatest_points → n + length (sites_in es) ≤ greatest_points
+pub few_behind : (ls : List Labelled) (n : ℕ) (es : List Event) → limit_fault ls n es ≡ None → n ≤ greatest_points → n + length (sites_in es) ≤ greatest_points
 few_behind ls n [] e l = omega (arith, l)
 few_behind ls n (comes s ∷ es) e l =
     let (free, rest) = step_by (nat_lt greatest_live s.live) (nat_lt greatest_points (suc n)) _ _ (limit_fault ls (suc n) es) e in

@@ -1,0 +1,73 @@
+-- What is known of the threads of a source behind the rounds, as the listing asks it.
+use Rattle.std.specs.Prelude.{◌≡◌, ◌≤◌, ◌<◌, ◌+◌, ◌++◌, ◌^◌, ℕ, List, length, map, codes, All, Some, slice_get}
+use Rattle.std.specs.List.{flat_map, sum_by}
+use Rattle.lra_box.specs.Meaning.{box_meaning}
+use Rattle.lra_tree.specs.Labels.{labels_of}
+use Rattle.lra_tree.specs.Trees.{FileTree}
+use Rattle.lra_meaning.specs.Refuse.{greatest_points}
+use Rattle.lra_meaning.specs.Threads.{thread_places}
+use Rattle.lra_operations.specs.GraphViews.{node_view}
+use Rattle.lra_operations.specs.declared.graph.Graph.{Graph}
+use Rattle.lra_report.specs.Report.{Verdict}
+use Rattle.lra_report.specs.declared.verdict_kinds.VerdictKind.TheVariants.{Assertion, Fit}
+use Rattle.lra_listing.specs.Given.{accesses_told, verdict_at}
+use Rattle.lra_listing.specs.Views.{told_view}
+use Rattle.lra_listing.specs.declared.listing.Found.{Found}
+use Rattle.lra_flow.specs.Opened.{opened}
+use Rattle.lra_iter.specs.Lives.{AreWide}
+use Rattle.lra_threads.specs.Found.{sites_in, values_of, verdicts_of}
+use Rattle.lra_threads.specs.declared.found.ThreadFound.{ThreadFound}
+use Rattle.lra_threaded.specs.Listed.{thread_sites}
+
+abbrev pub points_in : Graph → ℕ
+points_in graph = length graph.sites.items
+
+-- the same graph with what others do written into its tree
+abbrev pub IsOpened : ℕ → Graph → Graph → Type 0
+IsOpened globals graph other =
+    (node_view other.tree ≡ opened globals (node_view graph.tree)) × (other.sites ≡ graph.sites)
+
+-- the graphs have the points of a source's threads, no more in all than a report may have
+pub record AreGraphsOf (t : FileTree) (graphs : List Graph) : Type 0 where
+  pub count : length graphs ≡ length (thread_places t)
+  pub sites : (k : ℕ) (graph : Graph) → slice_get graphs k ≡ Some graph → sites_in graph ≡ thread_sites t k
+  pub few : sum_by points_in graphs ≤ greatest_points
+
+-- a value for each point, as wide as what lives there, and what is judged stands at points
+pub record IsOfGraph (graph : Graph) (found : ThreadFound) : Type 0 where
+  pub wide : AreWide box_meaning (sites_in graph) (values_of found)
+  pub points : length (values_of found) ≡ length (sites_in graph)
+  pub assertions : All (λ v. v.0 < points_in graph) (verdicts_of found)
+  pub inside : All (λ v. v.0 < points_in graph) found.inside.verdicts.items
+
+-- of each thread
+pub record AreOfGraphs (graphs : List Graph) (found : List ThreadFound) : Type 0 where
+  pub count : length found ≡ length graphs
+  pub each : (k : ℕ) (graph : Graph) (one : ThreadFound) → slice_get graphs k ≡ Some graph →
+      slice_get found k ≡ Some one → IsOfGraph graph one
+
+-- verdicts on a thread, as it is listed alone, stand at its points
+pub record IsJudgedIn (graph : Graph) (found : Found) : Type 0 where
+  pub assertions : All (λ v. v.0 < points_in graph) found.assertions.now
+  pub fitting : All (λ v. v.0 < points_in graph) found.fitting.now
+  pub inside : All (λ v. v.0 < points_in graph) found.inside.now
+
+-- and these they are
+abbrev pub judged_alone : FileTree → ℕ → Found → List Verdict
+judged_alone t k found =
+    map (verdict_at (labels_of t) (thread_sites t k) Assertion) found.assertions.now ++
+    (map (verdict_at (labels_of t) (thread_sites t k) Fit) found.fitting.now ++
+    flat_map (accesses_told (labels_of t) (thread_sites t k)) (map told_view found.inside.now))
+
+-- numbers ----------------------------------------------------------------------------------------------------------
+
+abbrev pub BeginsAtMain : List ℕ → Type 0
+BeginsAtMain path = (rest : List ℕ) × (path ≡ codes "main" ++ rest)
+
+-- what has this number and path alone can stand behind so many points
+abbrev pub CanFollow : ℕ → ℕ → List ℕ → Type 0
+CanFollow before number path = (before + number < 2 ^ 32) × BeginsAtMain path
+
+-- a flag is that of a point
+abbrev pub IsFlagIn : List Graph → ℕ × ℕ → Type 0
+IsFlagIn graphs flag = (graph : Graph) × (slice_get graphs flag.0 ≡ Some graph) × (flag.1 < points_in graph)

@@ -1,0 +1,76 @@
+//! From the bytes of a source of several threads to what is found of them.
+
+ghost use Rattle.std.specs.Prelude.{◌≡◌, ◌<◌, ◌+◌, ◌^◌, length, IfOk};
+ghost use Rattle.std.specs.List.{AllZip};
+ghost use Rattle.lra_base.specs.Refused.{IfRefused};
+ghost use Rattle.lra_tree.specs.Grammar.{Spells};
+ghost use Rattle.lra_meaning.specs.RefuseThreads.{RefuseThreads};
+ghost use Rattle.lra_threaded.specs.Stages.{IsOpened};
+ghost use Rattle.lra_threaded.specs.Threaded as threaded;
+ghost use Rattle.lra_threaded.specs.Threaded.{IsThreadsOf};
+ghost use Rattle.lra_threaded.specs.ThreadsView.{threads_report_of};
+
+use crate::listing::{Outline, list};
+use crate::text::ThreadsReport;
+use lra_base::SourceError;
+use lra_iter::Plan;
+use lra_opened::opened_graph;
+use lra_operations::Graph;
+use lra_options::{Domain, Options, default_options};
+use lra_threads::analyse_threads;
+use lra_threads_front::read_threads;
+use lra_woven::threads_hold;
+use std::alloc::{AllocError, Global};
+use std::mem;
+
+/// Boxes of one part, delayed and narrowed so often.
+fn threads_options(delay: u32, narrow: u32) -> Options
+    ensures { result ≡ threaded.threads_options delay narrow }
+{
+    Options {
+        domain: Domain::Box,
+        delay,
+        narrow,
+        ..default_options()
+    }
+}
+
+/// The graphs with what others do written into their trees, over so many globals.
+fn open_graphs(alloc: Global, globals: usize, graphs: Vec<Graph>) -> Result<Vec<Graph>, AllocError>
+    ensures { IfOk result (λ opened. AllZip (IsOpened globals) graphs.items opened.items) }
+{
+    let mut opened = Vec::new(alloc);
+    'graphs: for graph in graphs {
+        opened.push(opened_graph(alloc, globals, graph)?)?;
+    }
+    Ok(opened)
+}
+
+/// What rounds over boxes, with this delay and so many narrowings, find of the threads of a source, or its one refusal;
+/// memory may be wanting. A source past the limit of 65,536 bytes is refused by its first bytes, so that no more than
+/// one byte past the limit need be given.
+pub fn threads_source(
+    alloc: Global,
+    delay: u32,
+    narrow: u32,
+    bytes: &[u8],
+) -> Result<ThreadsReport, SourceError>
+    requires { length bytes.now + 1 < 2 ^ 32 }
+    ensures answered { IfOk result (λ r. IsThreadsOf delay narrow bytes.now (threads_report_of r)) }
+    ensures refused { IfRefused result (λ r. RefuseThreads Spells bytes.now r.cause r.place) }
+{
+    threads_hold();
+    let mut front = read_threads(alloc, bytes)?;
+    let read = mem::replace(&mut front.graphs, Vec::new(alloc));
+    let globals = front.resolution.program.globals.as_slice();
+    let graphs = open_graphs(alloc, globals.len(), read)?;
+    let plan = Plan::of(alloc, threads_options(delay, narrow), &front.constants)?;
+    let end = analyse_threads(alloc, &plan, globals, &graphs)?;
+    let outline = Outline {
+        tree: &front.tree,
+        labels: &front.resolution.labels,
+        graphs: &graphs,
+    };
+    let report = list(alloc, &outline, delay, narrow, &end)?;
+    Ok(report)
+}
