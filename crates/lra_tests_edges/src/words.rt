@@ -300,6 +300,31 @@ static BACK: [(&str, Command); 4] = [
     ("lra back --point=007 --", Command::Back { point: 7 }),
 ];
 
+/// Lines that ask for an analysis of threads.
+static THREADS: [(&str, Command); 3] = [
+    (
+        "lra threads",
+        Command::Threads {
+            delay: 1,
+            narrow: 1,
+        },
+    ),
+    (
+        "lra threads --delay 0 --narrow=4",
+        Command::Threads {
+            delay: 0,
+            narrow: 4,
+        },
+    ),
+    (
+        "other threads --narrow 0 --",
+        Command::Threads {
+            delay: 1,
+            narrow: 0,
+        },
+    ),
+];
+
 /// The words of a line, between single spaces.
 fn words_of(alloc: Global, line: &str) -> Result<Vec<String>, AllocError> {
     let mut words = Vec::new(alloc);
@@ -331,6 +356,7 @@ fn commands_are_taken(rt: HostRuntime) {
     are_taken(&rt, rt.alloc(), &THRESHOLDS);
     are_taken(&rt, rt.alloc(), &FITS);
     are_taken(&rt, rt.alloc(), &BACK);
+    are_taken(&rt, rt.alloc(), &THREADS);
 }
 
 /// Whether the words of the line ask for no command.
@@ -427,6 +453,17 @@ static COUNTS: [&str; 17] = [
     "lra analyse --json --json",
 ];
 
+/// What an analysis of threads isn't asked.
+static NOT_THREADS: [&str; 7] = [
+    "lra threads x",
+    "lra threads --delay 9",
+    "lra threads --narrow 5",
+    "lra threads --narrow",
+    "lra threads --domain box",
+    "lra threads --json",
+    "lra threads --delay 1 --delay 1",
+];
+
 /// Options that can't be given together, be they given with their defaults.
 static APART: [&str; 17] = [
     "lra analyse --thresholds --limited",
@@ -498,6 +535,7 @@ fn other_lines_ask_for_nothing(rt: HostRuntime) {
     are_other(&rt, rt.alloc(), &APART);
     are_other(&rt, rt.alloc(), &SAMPLES);
     are_other(&rt, rt.alloc(), &POINTS);
+    are_other(&rt, rt.alloc(), &NOT_THREADS);
 }
 
 #[test]

@@ -7,7 +7,7 @@ use Rattle.lra_options.specs.declared.options.Options.{Options}
 use Rattle.lra_words.specs.Chosen.{Asks, AsksNone, IsUntaken}
 use Rattle.lra_words.specs.declared.chosen.Command.{Command}
 use Rattle.lra_words.specs.declared.chosen.Format.{Format}
-use Rattle.lra_words.specs.declared.chosen.Command.TheVariants.{Analyse, Sample, Back, Plain}
+use Rattle.lra_words.specs.declared.chosen.Command.TheVariants.{Analyse, Sample, Back, Threads, Plain}
 use Rattle.lra_words.specs.declared.chosen.PlainCommand.TheVariants.{Certify, Verify}
 use Rattle.lra_answers.specs.Exit.{exit_of}
 use Rattle.lra_answers.specs.Statuses.{Ends, reported, answered, silent, faults}
@@ -15,12 +15,13 @@ use Rattle.lra_top.specs.SourceAnswer.{written_report}
 use Rattle.lra_top.specs.Commands.{asked_limit, CallsFor}
 use Rattle.lra_top.specs.Run.{IsAsked, IsDeserved, Writes, WritesPart, IsRead, IsCounted}
 use Rattle.lra_top.specs.Headline.{WritesReport, HoldsInAllRuns, IsWrittenUnlessFlagged, TellsAccesses, TellsFits, TellsSamePoints, WritesCertificate}
-use Rattle.lra_top.specs.Headline.{WritesBack, WritesSummary, WritesVerified}
+use Rattle.lra_top.specs.Headline.{WritesBack, WritesSummary, WritesThreads, WritesVerified}
 use Rattle.lra_top.specs.Prepared.{IsReadBy, PrepareCause, Told, IsWritten, Ending}
 use Rattle.lra_top.proofs.Reading.{read_as}
 use Rattle.lra_top.proofs.Ways.{asked_ends, answered_status, usage_status}
 use Rattle.lra_top.proofs.Headline.{holds, is_written, same_points, tells_accesses, tells_fits, writes_report, writes_summary}
 use Rattle.lra_top.proofs.Back.{writes_back}
+use Rattle.lra_top.proofs.Threads.{writes_threads}
 use Rattle.lra_top.proofs.Certified.{writes_certificate}
 use Rattle.lra_top.proofs.Verified.{writes_verified}
 use Rattle.lra_answers.specs.declared.status.Status.{Status}
@@ -191,6 +192,10 @@ module _ {words : List (List ℕ)} {t : Told} {status : Status} (e : Ending word
 
   pub backs : (number : ℕ) → Asks words (Back number) → Ends reported status → WritesBack number t.left t.held t.held_now status
   backs number asks ends = writes_back number words t.left t.held t.held_now status asks ends (written (reported_answered status ends))
+
+  pub threads : (delay narrow : ℕ) → Asks words (Threads delay narrow) → Ends reported status
+      → WritesThreads delay narrow t.left t.held t.held_now status
+  threads delay narrow asks ends = writes_threads delay narrow words t.left t.held t.held_now status asks ends (written (reported_answered status ends))
 
   pub ends : (asked : Option Command) → IsAsked words asked → (among : List Status) → CallsFor asked t.left among → Ends among status ⊎ Ends (faults (asked_limit asked)) status
   ends asked asks among calls = ends_by words t status e.result e.deserved e.written asked asks among calls (e.reads asked asks)

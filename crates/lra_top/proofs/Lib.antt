@@ -6,6 +6,7 @@ pub mod CertifyWays
 pub mod BackWays
 pub mod OneBack
 pub mod SourceWays
+pub mod ThreadsWays
 pub mod SampleWays
 pub mod Rows
 pub mod Reading
@@ -14,5 +15,6 @@ pub mod Headline
 pub mod Verified
 pub mod Certified
 pub mod Back
+pub mod Threads
 pub mod Ending
 pub mod OneWritten

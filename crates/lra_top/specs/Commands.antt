@@ -2,7 +2,7 @@
 use Rattle.std.specs.Prelude.{◌≡◌, ◌⊎◌, ◌<◌, ℕ, List, [], ◌∷◌, length, Option, None, Some, option_and_then}
 use Rattle.lra_base.specs.Places.{greatest_length}
 use Rattle.lra_words.specs.declared.chosen.Command.{Command}
-use Rattle.lra_words.specs.declared.chosen.Command.TheVariants.{Analyse, Sample, Back, Plain}
+use Rattle.lra_words.specs.declared.chosen.Command.TheVariants.{Analyse, Sample, Back, Threads, Plain}
 use Rattle.lra_words.specs.declared.chosen.PlainCommand.TheVariants.{Calc, Verify, Certify}
 use Rattle.lra_answers.specs.Statuses.{reported, refused, source_statuses}
 use Rattle.lra_answers.specs.Told.{CallsTold}
@@ -13,6 +13,7 @@ use Rattle.lra_certificate.specs.Claims.{greatest_certificate}
 use Rattle.lra_top.specs.CertificateAnswer.{DeservesCertificate, CallsCertificate, certificate_statuses}
 use Rattle.lra_top.specs.CertifyAnswer.{DeservesCertified, CallsCertified}
 use Rattle.lra_top.specs.BackAnswer.{DeservesBack, CallsBack}
+use Rattle.lra_top.specs.ThreadsAnswer.{DeservesThreads, CallsThreads}
 use Rattle.lra_answers.specs.declared.status.Status.{Status}
 use Rattle.lra_answers.specs.declared.status.Status.TheVariants.{Usage}
 
@@ -21,6 +22,7 @@ abbrev pub limit_of : Command → Option ℕ
 limit_of (Analyse options format) = Some greatest_length
 limit_of (Sample seed size) = None
 limit_of (Back number) = Some greatest_length
+limit_of (Threads delay narrow) = Some greatest_length
 limit_of (Plain Calc) = Some greatest_length
 limit_of (Plain Verify) = Some greatest_certificate
 limit_of (Plain Certify) = Some greatest_length
@@ -31,6 +33,7 @@ DeservesInput (Analyse options format) bytes text status =
     DeservesSource options (written_report format) bytes text status
 DeservesInput (Sample seed size) bytes text status = DeservesSample seed size text status
 DeservesInput (Back number) bytes text status = DeservesBack number bytes text status
+DeservesInput (Threads delay narrow) bytes text status = DeservesThreads delay narrow bytes text status
 DeservesInput (Plain Calc) bytes text status = DeservesScript bytes text status
 DeservesInput (Plain Verify) bytes text status = DeservesCertificate bytes text status
 DeservesInput (Plain Certify) bytes text status = DeservesCertified bytes text status
@@ -40,6 +43,7 @@ abbrev pub statuses_of : Command → List Status
 statuses_of (Analyse options format) = source_statuses
 statuses_of (Sample seed size) = reported
 statuses_of (Back number) = source_statuses
+statuses_of (Threads delay narrow) = source_statuses
 statuses_of (Plain Calc) = script_statuses
 statuses_of (Plain Verify) = certificate_statuses
 statuses_of (Plain Certify) = source_statuses
@@ -49,6 +53,7 @@ abbrev pub CallsInput : Command → List ℕ → List Status → Type 0
 CallsInput (Analyse options format) bytes among = CallsTold reported bytes among
 CallsInput (Sample seed size) bytes among = ⊥
 CallsInput (Back number) bytes among = CallsBack number bytes among
+CallsInput (Threads delay narrow) bytes among = CallsThreads bytes among
 CallsInput (Plain Calc) bytes among = CallsScript bytes among
 CallsInput (Plain Verify) bytes among = CallsCertificate bytes among
 CallsInput (Plain Certify) bytes among = CallsCertified bytes among

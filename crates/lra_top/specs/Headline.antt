@@ -9,6 +9,7 @@ use Rattle.lra_options.specs.declared.options.Options.{Options}
 use Rattle.lra_tree.specs.Trees.{FileTree}
 use Rattle.lra_tree.specs.Grammar.{Spells}
 use Rattle.lra_meaning.specs.Refuse.{Accepts}
+use Rattle.lra_meaning.specs.RefuseThreads.{AcceptsThreads}
 use Rattle.lra_meaning.specs.Resolve.{resolve}
 use Rattle.lra_program.specs.Program.{Program}
 use Rattle.lra_program.specs.Run.{At, Fails}
@@ -26,6 +27,7 @@ use Rattle.lra_flow.specs.Fits.{Judges, JudgesIf}
 use Rattle.lra_flow.specs.Accesses.{JudgesAccesses}
 use Rattle.lra_report.specs.Report.{Invariant, PointReport, Report, IsRight, IsSound}
 use Rattle.lra_report.specs.Parts.{HasSamePoints}
+use Rattle.lra_report.specs.ReportText.{unknown_count}
 use Rattle.lra_report.specs.BackText.{BackReport, back_text}
 use Rattle.lra_report.specs.Listing.{Lists}
 use Rattle.lra_listing.specs.Given.{told_all, told_of}
@@ -39,6 +41,11 @@ use Rattle.lra_certified.specs.Assertions.{unknown_assertions}
 use Rattle.lra_certified.specs.Certified.{IsCertificateOf, IsCertificateWith}
 use Rattle.lra_retraced.specs.Retraced.{HoldsWhereRunsFail, IsBackOf, IsDefinedBack, IsProvedAtFirst, StrainsAt}
 use Rattle.lra_states.specs.Shown.{AreShown}
+use Rattle.lra_threaded.specs.ThreadsText.{ThreadsReport, threads_text}
+use Rattle.lra_threaded.specs.Threaded.{AreDefinedThreads, HoldsInInterleavings, IsThreadsOf, StrainsAtNumber}
+use Rattle.lra_threaded.specs.Threaded.{shared_program, threads_plan}
+use Rattle.lra_rounds.specs.Rounds.{AreFound}
+use Rattle.lra_threads.specs.Found.{IsFoundOf}
 use Rattle.lra_words.specs.Chosen.{default_options}
 use Rattle.lra_answers.specs.declared.status.Status.{Status}
 use Rattle.lra_answers.specs.declared.status.Status.TheVariants.{Proved}
@@ -224,3 +231,29 @@ pub record WritesBack (number : ℕ) (left held_old held_new : Option (List ℕ)
   pub same_points : AllByRecursion ShowsSamePoints report.points
   pub counted : status ≡ back_status report.proved
   pub written : Appends held_old held_new (back_text report)
+
+-- What is found of the input's threads is written whole. It holds in every interleaving of their steps: the state of a
+-- point whenever its thread is there, whatever the others have done by then; no assertion that is marked proved fails,
+-- no access that is told to be in bounds is evaluated outside its array, no thread comes to a point that is shown as
+-- unreachable, and whatever value a thread gives a global variable lies in the interval that is told for these two. The
+-- status says whether some verdict is unknown. Flagged or not, what is shown of a thread was found of it among what the
+-- settled intervals tell of the others: a verdict is unknown exactly where the values that are shown say so. Without a
+-- flag all that is shown is as it is defined, round by round; the number of a flag is that of a point of which an
+-- operation strains in the written rounds, all before it exact.
+pub record WritesThreads (delay narrow : ℕ) (left held_old held_new : Option (List ℕ)) (status : Status) : Type 0 where
+  pub bytes : List ℕ
+  pub input : IsInput left bytes
+  pub report : ThreadsReport
+  pub deserved : IsThreadsOf delay narrow bytes report
+  pub accepted : AcceptsThreads Spells bytes deserved.program.tree
+  pub holds : HoldsInInterleavings deserved.program.tree report
+  pub found : AreFound (length (shared_program deserved.program.tree).globals)
+      (IsFoundOf (threads_plan delay narrow deserved.constants) (shared_program deserved.program.tree)
+      deserved.program.operations) (length deserved.program.operations) deserved.end.table deserved.end.found
+  pub is_defined : report.flagged ≡ None → AreDefinedThreads (threads_plan delay narrow deserved.constants)
+      deserved.program.tree deserved.program.operations report
+  pub strains : (number : ℕ) → report.flagged ≡ Some number →
+      StrainsAtNumber (threads_plan delay narrow deserved.constants) deserved.program.tree deserved.program.operations
+      number
+  pub counted : status ≡ report_status (unknown_count report.verdicts)
+  pub written : Appends held_old held_new (threads_text report)

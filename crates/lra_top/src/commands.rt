@@ -9,6 +9,7 @@ use crate::certify_answer::answer_certified;
 use crate::sample_answer::answer_sample;
 use crate::script_answer::answer_script;
 use crate::source_answer::answer_source;
+use crate::threads_answer::answer_threads;
 use lra_answers::Answer;
 use lra_base::GREATEST_LENGTH;
 use lra_verify::GREATEST_CERTIFICATE;
@@ -24,6 +25,7 @@ pub fn limit_of(command: Command) -> Option<usize>
         Command::Analyse { .. } => Some(GREATEST_LENGTH),
         Command::Sample { .. } => None,
         Command::Back { .. } => Some(GREATEST_LENGTH),
+        Command::Threads { .. } => Some(GREATEST_LENGTH),
         Command::Plain(PlainCommand::Calc) => Some(GREATEST_LENGTH),
         Command::Plain(PlainCommand::Verify) => Some(GREATEST_CERTIFICATE),
         Command::Plain(PlainCommand::Certify) => Some(GREATEST_LENGTH),
@@ -40,6 +42,7 @@ pub fn answer_command(alloc: Global, command: Command, bytes: &[u8]) -> Result<A
         Command::Analyse { options, format } => answer_source(alloc, options, format, bytes),
         Command::Sample { seed, size } => answer_sample(alloc, seed, size),
         Command::Back { point } => answer_back(alloc, point, bytes),
+        Command::Threads { delay, narrow } => answer_threads(alloc, delay, narrow, bytes),
         Command::Plain(PlainCommand::Calc) => answer_script(alloc, bytes),
         Command::Plain(PlainCommand::Verify) => answer_certificate(alloc, bytes),
         Command::Plain(PlainCommand::Certify) => answer_certified(alloc, bytes),

@@ -4,7 +4,7 @@ ghost use Rattle.std.specs.Prelude.{IfOk, Some};
 ghost use Rattle.std.specs.Io.KnownBytes.{Keeps};
 ghost use Rattle.lra_edge.specs.Causes.{AppendsPart, Rose};
 ghost use Rattle.lra_words.specs.declared.chosen.Command.{Command};
-ghost use Rattle.lra_words.specs.declared.chosen.Command.TheVariants.{Analyse, Sample, Back, Plain};
+ghost use Rattle.lra_words.specs.declared.chosen.Command.TheVariants.{Analyse, Sample, Back, Threads, Plain};
 ghost use Rattle.lra_words.specs.declared.chosen.PlainCommand.TheVariants.{Certify, Verify};
 ghost use Rattle.lra_words.specs.declared.chosen.Format.{Format};
 ghost use Rattle.lra_words.specs.Chosen.{Asks, AsksNone, IsUntaken, IsWithinRanges};
@@ -15,7 +15,7 @@ ghost use Rattle.lra_top.specs.Commands.{limit_of, asked_limit, CallsFor};
 ghost use Rattle.lra_top.specs.Run.{usage_text, IsAsked, IsDeserved, Writes, WritesPart, IsRead, IsCounted};
 ghost use Rattle.lra_top.specs.Headline.{WritesReport, HoldsInAllRuns, IsWrittenUnlessFlagged};
 ghost use Rattle.lra_top.specs.Headline.{TellsAccesses, TellsFits, TellsSamePoints};
-ghost use Rattle.lra_top.specs.Headline.{WritesBack, WritesCertificate, WritesSummary, WritesVerified};
+ghost use Rattle.lra_top.specs.Headline.{WritesBack, WritesCertificate, WritesSummary, WritesThreads, WritesVerified};
 ghost use Rattle.lra_top.specs.Prepared.{IsInputText, IsTaken, IsReadBy, PrepareCause, Ending};
 
 use crate::commands::{answer_command, limit_of};
@@ -151,7 +151,8 @@ fn answer_words<S: Source, K: Sink>(
 }
 
 /// Reads the words, reads the input of their command, if it reads one, and writes what it deserves: a report, a
-/// summary, an output, a certificate, what is verified, what is left before an assertion fails, or a refusal.
+/// summary, an output, a certificate, what is verified, what is left before an assertion fails, what is found of
+/// several threads, or a refusal.
 ///
 /// `words` has the program's name first. The whole text is made before the first byte is written.
 pub fn run<S: Source, K: Sink>(
@@ -218,6 +219,13 @@ pub fn run<S: Source, K: Sink>(
     ensures backs { (number : ℕ) → Asks (map string_bytes words.now) (Back number) →
         Ends reported result →
         WritesBack number (S.left source.old) (K.held sink.old) (K.held sink.new) result }
+    // Where they ask for threads and the status is that of a report, what holds in every
+    // interleaving of the threads' steps, with verdicts that are unknown exactly where the values
+    // that are shown say so; where nothing is flagged, it tells what the written rounds find, and
+    // a flag stands at a point of which an operation strains, all before it exact.
+    ensures threads { (delay narrow : ℕ) →
+        Asks (map string_bytes words.now) (Threads delay narrow) → Ends reported result →
+        WritesThreads delay narrow (S.left source.old) (K.held sink.old) (K.held sink.new) result }
 
     // With which statuses what the words ask for may end: those of its answer, by what the input
     // tells of its bytes, or of a fault. (Where a flagged set is widened, both answers to a script

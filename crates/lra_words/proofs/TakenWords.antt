@@ -20,7 +20,7 @@ use Rattle.clap.specs.declared.builder.value_parser.ValueParser.{ValueParser}
 use Rattle.clap.specs.declared.builder.value_parser.ValueParser.TheVariants as vp
 use Rattle.clap.proofs.WalkLemmas.{both, list_any-map}
 use Rattle.lra_words.specs.Chosen.{HasInRange, IsWithinRanges, best_of, domain_at, domain_named, flag_at, format_of, gives_any, number_at, number_below}
-use Rattle.lra_words.specs.Chosen.{back_of, options_of, sample_of, truth_of}
+use Rattle.lra_words.specs.Chosen.{back_of, options_of, sample_of, threads_of, truth_of}
 use Rattle.lra_words.specs.CommandLine.{plain, plain_commands, named_plain}
 use Rattle.lra_words.specs.CommandLine.{TakesDomains, best_rule, command_line, domain_rule, json_rule, flag, number_rule, point_option}
 use Rattle.lra_words.specs.CommandLine.{seed_option, size_option}
@@ -30,7 +30,7 @@ use Rattle.lra_options.specs.OptionRows.{NumberRow, IsInRange, agree, best_optio
 use Rattle.lra_options.specs.declared.options.Options.{Options}
 use Rattle.lra_words.specs.declared.chosen.Command.{Command}
 use Rattle.lra_words.specs.declared.chosen.PlainCommand.{PlainCommand}
-use Rattle.lra_words.specs.declared.chosen.Command.TheVariants.{Analyse, Back, Plain, Sample}
+use Rattle.lra_words.specs.declared.chosen.Command.TheVariants.{Analyse, Back, Plain, Sample, Threads}
 use Rattle.lra_options.specs.declared.options.Domain.{Domain}
 use Rattle.lra_options.specs.Domains.{domains, domain_name}
 use Rattle.lra_words.proofs.Conflicts.{Gives}
@@ -163,6 +163,10 @@ sample_from rows seed size e f = rw (e, f) refl
 back_from : (rows : List Row) (point : ℕ) → number_at (codes "point") (2 ^ 32) rows ≡ Some point → back_of rows ≡ Some (Back point)
 back_from rows point e = rw e refl
 
+threads_from : (rows : List Row) (delay narrow : ℕ) → number_at (codes "delay") (2 ^ 32) rows ≡ Some delay → number_at (codes "narrow") (2 ^ 32) rows ≡ Some narrow
+    → threads_of rows ≡ Some (Threads delay narrow)
+threads_from rows delay narrow e f = rw (e, f) refl
+
 -- ---- the subcommands as a parse builds them
 
 abbrev built_rule : Rule → Rule
@@ -293,6 +297,27 @@ back_taken parser words e =
     let point = number_of point_option (2 ^ 32) rows point_text.text (lit< tt) point_text.one point_text.passed in
     (Back point.0, back_from rows point.0 point.1, point.2)
 
+threads_own : (parser : ValueParser) → AllOwn (sub_at parser 3).rules (sub_at parser 3).rules
+threads_own parser = (
+  (refl, option_adds (built_rule (number_rule (number_row Delay))) refl refl),
+  (
+    (refl, option_adds (built_rule (number_rule (number_row Narrow))) refl refl),
+    ((refl, help_adds (built_rule help_rule) refl), tt),
+  ),
+)
+
+threads_taken : (parser : ValueParser) (words : List Text) → level_fault (sub_at parser 3) [] nothing_held words false [] ≡ []
+    → (c : Command) × (threads_of (rows_after (sub_at parser 3).rules [] words) ≡ Some c) × IsWithinRanges c
+threads_taken parser words e =
+    let shape = sub_at parser 3 in
+    let rows = rows_after shape.rules [] words in
+    let fit = level_rows shape refl (threads_own parser) (λ i. refl) words e in
+    let delay_text = defaulted_value shape words (built_rule (number_rule (number_row Delay))) fit refl refl refl in
+    let narrow_text = defaulted_value shape words (built_rule (number_rule (number_row Narrow))) fit refl refl refl in
+    let delay = number_of (number_row Delay) (2 ^ 32) rows delay_text.text (lit< tt) delay_text.one delay_text.passed in
+    let narrow = number_of (number_row Narrow) (2 ^ 32) rows narrow_text.text (lit< tt) narrow_text.one narrow_text.passed in
+    (Threads delay.0 narrow.0, threads_from rows delay.0 narrow.0 delay.1 narrow.1, (delay.2, narrow.2))
+
 -- ---- the whole parse
 
 -- the first of a list, or one behind it
@@ -316,7 +341,7 @@ plain_built parser c = built_leaf (inherited (with_leaf_noted (marked_built (com
 
 -- `help`
 abbrev last_sub : ValueParser → Shape
-last_sub parser = sub_at parser (3 + length plain_commands)
+last_sub parser = sub_at parser (4 + length plain_commands)
 
 -- what the subcommand gives that a walk stopped at
 abbrev GivesAt : List Text → Option Shape → Type 0
@@ -329,11 +354,12 @@ stop_gives parser takes None no_help e some = cc
 stop_gives parser takes (Some p) no_help e some =
     let test = λ (s : Shape). answers_to p.0 (label_of s) in
     let later = map (plain_built parser) plain_commands ++ last_sub parser ∷ [] in
-    first_or (GivesAt p.1) test (sub_at parser 0) (sub_at parser 1 ∷ (sub_at parser 2 ∷ later)) analyse
-    (first_or (GivesAt p.1) test (sub_at parser 1) (sub_at parser 2 ∷ later) sample
-    (first_or (GivesAt p.1) test (sub_at parser 2) later back
+    first_or (GivesAt p.1) test (sub_at parser 0) (sub_at parser 1 ∷ (sub_at parser 2 ∷ (sub_at parser 3 ∷ later))) analyse
+    (first_or (GivesAt p.1) test (sub_at parser 1) (sub_at parser 2 ∷ (sub_at parser 3 ∷ later)) sample
+    (first_or (GivesAt p.1) test (sub_at parser 2) (sub_at parser 3 ∷ later) back
+    (first_or (GivesAt p.1) test (sub_at parser 3) later threads
     (plain_or (GivesAt p.1) test (plain_built parser) plain_commands (last_sub parser ∷ []) plain_one
-    (first_or (GivesAt p.1) test (last_sub parser) [] help (λ f h. cc))))) e some
+    (first_or (GivesAt p.1) test (last_sub parser) [] help (λ f h. cc)))))) e some
   where
     analyse : answers_to p.0 (label_of (sub_at parser 0)) ≡ true → GivesAt p.1 (Some (sub_at parser 0))
     analyse named f h = analyse_taken parser takes p.1 f
@@ -343,6 +369,9 @@ stop_gives parser takes (Some p) no_help e some =
 
     back : answers_to p.0 (label_of (sub_at parser 2)) ≡ true → GivesAt p.1 (Some (sub_at parser 2))
     back named f h = inl (back_taken parser p.1 f)
+
+    threads : answers_to p.0 (label_of (sub_at parser 3)) ≡ true → GivesAt p.1 (Some (sub_at parser 3))
+    threads named f h = inl (threads_taken parser p.1 f)
 
     plain_one : (c : PlainCommand) → answers_to p.0 (label_of (plain_built parser c)) ≡ true → GivesAt p.1 (Some (plain_built parser c))
     plain_one c named f h = inl (Plain c, rw (named_plain c) refl, tt)

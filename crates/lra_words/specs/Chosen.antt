@@ -10,6 +10,7 @@ use Rattle.clap.specs.Words.{Row, Text, fault_of, first_of, one_of, subcommand_o
 use Rattle.clap.specs.declared.builder.value_parser.ValueParser.{ValueParser}
 use Rattle.lra_options.specs.Domains.{domains, domain_name}
 use Rattle.lra_options.specs.declared.options.NumberOption.{NumberOption}
+use Rattle.lra_options.specs.declared.options.NumberOption.TheVariants.{Delay, Narrow}
 use Rattle.lra_options.specs.declared.options.FlagOption.{FlagOption}
 use Rattle.lra_options.specs.OptionRows.{IsInRange, number_row, number_value, set_number, number_options}
 use Rattle.lra_options.specs.OptionRows.{flag_row, set_flag, flag_options}
@@ -22,7 +23,7 @@ use Rattle.lra_words.specs.declared.chosen.Command.{Command}
 use Rattle.lra_words.specs.declared.chosen.PlainCommand.{PlainCommand}
 use Rattle.lra_words.specs.declared.chosen.Format.{Format}
 use Rattle.lra_words.specs.declared.chosen.Format.TheVariants.{Lines, Json}
-use Rattle.lra_words.specs.declared.chosen.Command.TheVariants.{Analyse, Sample, Back, Plain}
+use Rattle.lra_words.specs.declared.chosen.Command.TheVariants.{Analyse, Sample, Back, Threads, Plain}
 
 -- the number that a text writes, by decimal digits after at most one plus, where it is below
 -- `limit`
@@ -116,12 +117,18 @@ sample_of rows = option_and_then (λ seed. option_map (λ size. Sample seed size
 abbrev pub back_of : List Row → Option Command
 back_of rows = option_map (λ point. Back point) (number_at point_option.name (2 ^ 32) rows)
 
+abbrev pub threads_of : List Row → Option Command
+threads_of rows = option_and_then (λ delay. option_map (λ narrow. Threads delay narrow)
+    (number_at (number_row Narrow).name (2 ^ 32) rows))
+    (number_at (number_row Delay).name (2 ^ 32) rows)
+
 -- the command of the subcommand's name and matches
 abbrev pub optioned_command : Text → List Row → Option Command
 optioned_command name rows =
     if bytes_eq name (codes "analyse") then analyse_of rows
     else (if bytes_eq name (codes "sample") then sample_of rows
-    else (if bytes_eq name (codes "back") then back_of rows else None))
+    else (if bytes_eq name (codes "back") then back_of rows
+    else (if bytes_eq name (codes "threads") then threads_of rows else None)))
 
 abbrev pub or_optioned : Option PlainCommand → Text → List Row → Option Command
 or_optioned (Some c) name rows = Some (Plain c)
@@ -142,6 +149,7 @@ abbrev pub IsWithinRanges : Command → Type 0
 IsWithinRanges (Analyse options format) = AllByRecursion (HasInRange options) number_options
 IsWithinRanges (Sample seed size) = IsInRange seed_option seed × IsInRange size_option size
 IsWithinRanges (Back point) = IsInRange point_option point
+IsWithinRanges (Threads delay narrow) = IsInRange (number_row Delay) delay × IsInRange (number_row Narrow) narrow
 IsWithinRanges (Plain c) = ⊤
 
 -- an option stands beside `--best`, which stands for it

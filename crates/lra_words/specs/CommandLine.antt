@@ -8,6 +8,7 @@ use Rattle.clap.specs.declared.builder.value_parser.ValueParser.TheVariants as v
 use Rattle.lra_options.specs.Domains.{domains, domain_name}
 use Rattle.lra_options.specs.OptionRows.{NumberRow, number_row, number_options, flag_row, flag_options, default_options}
 use Rattle.clap.specs.declared.builder.action.ArgAction.TheVariants.{SetTrue}
+use Rattle.lra_options.specs.declared.options.NumberOption.TheVariants.{Delay, Narrow}
 use Rattle.lra_words.specs.declared.chosen.PlainCommand.{PlainCommand}
 use Rattle.lra_words.specs.declared.chosen.PlainCommand.TheVariants.{Calc, Verify, Certify}
 
@@ -76,6 +77,11 @@ sample = with_rule (with_rule (new_app (codes "sample")) (number_rule seed_optio
 abbrev pub back : App
 back = with_rule (new_app (codes "back")) (number_rule point_option)
 
+-- with two of the numbers of an analysis
+abbrev pub threads : App
+threads = with_rule (with_rule (new_app (codes "threads")) (number_rule (number_row Delay)))
+    (number_rule (number_row Narrow))
+
 -- commands without options of their own: their names, in the order of the command line; each is the one of its name
 abbrev pub plain_name : PlainCommand → Text
 plain_name Calc = codes "calc"
@@ -104,8 +110,8 @@ abbrev pub requiring : App → App
 requiring a = record a { top = record a.top { subcommand_required = true } }
 
 abbrev pub command_line : ValueParser → App
-command_line parser = with_plain (with_subcommand (with_subcommand
-    (with_subcommand (requiring (new_app (codes "lra"))) (analyse parser).top) sample.top) back.top)
+command_line parser = with_plain (with_subcommand (with_subcommand (with_subcommand
+    (with_subcommand (requiring (new_app (codes "lra"))) (analyse parser).top) sample.top) back.top) threads.top)
 
 -- the parser takes the domains' names
 abbrev pub TakesDomains : ValueParser → Type 0

@@ -53,6 +53,8 @@ pub enum Command {
     Sample { seed: u64, size: u32 },
     /// Analyse a source, and go back from the assertion at the point of this number, 1 to 2,048.
     Back { point: u32 },
+    /// Analyse a source of several threads, over boxes, with these options of the iteration.
+    Threads { delay: u32, narrow: u32 },
     /// What the command's name says alone.
     Plain(PlainCommand),
 }

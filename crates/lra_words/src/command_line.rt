@@ -9,7 +9,7 @@ ghost use Rattle.clap.specs.Words.{app_of, rule_of, with_subcommand};
 ghost use Rattle.clap.specs.declared.builder.command.Command.TheViews.{out-Command};
 ghost use Rattle.lra_words.specs.CommandLine.{DeclaresAnalyse, DeclaresCommandLine, DeclaresDomain};
 ghost use Rattle.lra_words.specs.CommandLine.{back, defaulted, flag, number, number_rule, required, sample, valued};
-ghost use Rattle.lra_words.specs.CommandLine.{with_flags, with_numbers, with_plain};
+ghost use Rattle.lra_words.specs.CommandLine.{threads, with_flags, with_numbers, with_plain};
 
 use crate::chosen::PLAIN_COMMANDS;
 use clap::builder::ValueParser;
@@ -157,6 +157,22 @@ fn add_back<'a>(alloc: Global, app: Command<'a>) -> Result<Command<'a>, AllocErr
     app.subcommand(back_command(alloc)?)
 }
 
+fn threads_command<'a>(alloc: Global) -> Result<Command<'a>, AllocError>
+    ensures app { IfOk result (λ c. app_of c ≡ threads) }
+    ensures local { IfOk result (λ c. (out-Command c).has_globals ≡ false) }
+{
+    let command = Command::new(alloc, "threads").arg(number_arg(alloc, NumberOption::Delay))?;
+    let command = command.arg(number_arg(alloc, NumberOption::Narrow))?;
+    Ok(command)
+}
+
+/// The command line so far, and the subcommand `threads`.
+fn add_threads<'a>(alloc: Global, app: Command<'a>) -> Result<Command<'a>, AllocError>
+    ensures { IfOk result (λ c. app_of c ≡ with_subcommand (app_of app.entry) threads.top) }
+{
+    app.subcommand(threads_command(alloc)?)
+}
+
 /// The command line so far, and the commands without options.
 fn add_plain<'a>(alloc: Global, app: Command<'a>) -> Result<Command<'a>, AllocError>
     ensures { IfOk result (λ c. app_of c ≡ with_plain (app_of app.entry)) }
@@ -169,7 +185,7 @@ fn add_plain<'a>(alloc: Global, app: Command<'a>) -> Result<Command<'a>, AllocEr
     Ok(declared)
 }
 
-/// The command line with its subcommands `analyse`, `sample` and `back`, and with those without options.
+/// The command line with its subcommands `analyse`, `sample`, `back` and `threads`, and with those without options.
 pub(crate) fn declare<'a>(alloc: Global) -> Result<Command<'a>, AllocError>
     ensures { IfOk result (λ c. DeclaresCommandLine (app_of c)) }
 {
@@ -177,5 +193,6 @@ pub(crate) fn declare<'a>(alloc: Global) -> Result<Command<'a>, AllocError>
     let app = Command::new(alloc, "lra").subcommand_required(true);
     let app = add_sample(alloc, app.subcommand(analyse)?)?;
     let app = add_back(alloc, app)?;
+    let app = add_threads(alloc, app)?;
     add_plain(alloc, app)
 }

@@ -6,7 +6,7 @@ ghost use Rattle.lra_words.specs.Chosen.{Asks, AsksFor, AsksNone, IsUntaken, IsW
 ghost use Rattle.lra_words.specs.Chosen.{agreeing, analyse_of, back_of, best_of, chosen_options, domain_named, flag_at};
 ghost use Rattle.lra_words.specs.Chosen.{format_at, format_of, gives_any, gives_flag, gives_number, gives_settled};
 ghost use Rattle.lra_words.specs.Chosen.{number_at, optioned_command, options_of, sample_of, with_beside, with_domain};
-ghost use Rattle.lra_words.specs.Chosen.{with_flag, with_number};
+ghost use Rattle.lra_words.specs.Chosen.{threads_of, with_flag, with_number};
 ghost use Rattle.lra_options.specs.OptionRows.{best_options, number_options, flag_options};
 ghost use Rattle.lra_words.specs.CommandLine.{plain_named};
 ghost use Rattle.lra_words.specs.Refusals.{refusal};
@@ -252,6 +252,14 @@ fn read_back(matches: &ArgMatches) -> Option<Command>
     Some(Command::Back { point })
 }
 
+fn read_threads(matches: &ArgMatches) -> Option<Command>
+    ensures { result ≡ threads_of (rows_of (found_of matches.now)) }
+{
+    let delay = read_number(matches, "delay")?;
+    let narrow = read_number(matches, "narrow")?;
+    Some(Command::Threads { delay, narrow })
+}
+
 fn find_plain(name: &str) -> Option<PlainCommand>
     ensures { result ≡ plain_named name.now }
 {
@@ -269,6 +277,7 @@ fn read_optioned(name: &str, matches: &ArgMatches) -> Option<Command>
         "analyse" => read_analyse(matches),
         "sample" => read_sample(matches),
         "back" => read_back(matches),
+        "threads" => read_threads(matches),
         _ => None,
     }
 }

@@ -1,5 +1,5 @@
 -- Goals of `run`: each clause follows from the record that tells the whole.
-use Rattle.lra_top.proofs.Ending.{written, part, nothing, all_hold, all_written, all_fit, all_accesses, all_same, sampled, verified, certified, backs}
+use Rattle.lra_top.proofs.Ending.{written, part, nothing, all_hold, all_written, all_fit, all_accesses, all_same, sampled, verified, certified, backs, threads}
 use Rattle.lra_top.proofs.Ending.{ends, usage, reads, read_fault, write_fault, complete, room}
 use Rattle.lra_top.proofs.top_call.run.Goals as goal
 
@@ -38,6 +38,9 @@ returns-clause-certified g c = certified c.answer_words.ensures
 
 pub returns-clause-backs : goal.returns-clause-backs
 returns-clause-backs g c = backs c.answer_words.ensures
+
+pub returns-clause-threads : goal.returns-clause-threads
+returns-clause-threads g c = threads c.answer_words.ensures
 
 pub returns-clause-ends : goal.returns-clause-ends
 returns-clause-ends g c = ends c.answer_words.ensures

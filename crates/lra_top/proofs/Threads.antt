@@ -1,0 +1,49 @@
+-- From what a source of several threads deserves to what is claimed of its report.
+use Rattle.std.proofs.Common.{ℕ, List, length, subst, inl, inr}
+use Rattle.std.specs.Prelude.{Option}
+use Rattle.std.specs.Io.KnownBytes.{Appends}
+use Rattle.lra_rounds.proofs.FlagLemmas.{settles}
+use Rattle.lra_threads.specs.Found.{IsFoundOf, thread_finding}
+use Rattle.lra_threaded.specs.Threaded.{shared_program, threads_plan}
+use Rattle.lra_threaded.proofs.Sound.{threads_sound}
+use Rattle.lra_threaded.proofs.Strained.{unflagged_defined, flagged_strain}
+use Rattle.lra_words.specs.Chosen.{Asks}
+use Rattle.lra_words.specs.declared.chosen.Command.TheVariants.{Threads}
+use Rattle.lra_answers.specs.Statuses.{Ends, reported}
+use Rattle.lra_top.specs.ThreadsAnswer.{DeservesThreads, IsThreads}
+use Rattle.lra_top.specs.Run.{IsInput, Writes}
+use Rattle.lra_top.specs.Headline.{WritesThreads}
+use Rattle.lra_top.proofs.Certified.{not_refused}
+use Rattle.lra_top.proofs.Ways.{asked_input}
+use Rattle.lra_answers.specs.declared.status.Status.{Status}
+
+module _ (delay narrow : ℕ) where
+  of_threads : (left held_old held_new : Option (List ℕ)) (bytes text : List ℕ) (status : Status) → IsInput left bytes
+      → IsThreads delay narrow bytes text status → Appends held_old held_new text → WritesThreads delay narrow left held_old held_new status
+  of_threads left held_old held_new bytes text status input d written = record {
+    bytes = bytes;
+    input = input;
+    report = d.report;
+    deserved = d.deserved;
+    accepted = d.deserved.program.accepted;
+    holds = threads_sound delay narrow bytes d.report d.deserved;
+    found = (settles thread_finding (length (shared_program d.deserved.program.tree).globals)
+        (IsFoundOf (threads_plan delay narrow d.deserved.constants) (shared_program d.deserved.program.tree) d.deserved.program.operations)
+        (length d.deserved.program.operations) d.deserved.end d.deserved.rounds).0;
+    is_defined = unflagged_defined delay narrow bytes d.report d.deserved;
+    strains = flagged_strain delay narrow bytes d.report d.deserved;
+    counted = d.counted;
+    written = subst (Appends held_old held_new) d.written written;
+  }
+
+  of_answer : (left held_old held_new : Option (List ℕ)) (bytes text : List ℕ) (status : Status) → IsInput left bytes → Ends reported status
+      → DeservesThreads delay narrow bytes text status → Appends held_old held_new text → WritesThreads delay narrow left held_old held_new status
+  of_answer left held_old held_new bytes text status input ends (inl (r, is)) written = absurd (not_refused status is ends)
+  of_answer left held_old held_new bytes text status input ends (inr d) written =
+      of_threads left held_old held_new bytes text status input d written
+
+  pub writes_threads : (words : List (List ℕ)) (left held_old held_new : Option (List ℕ)) (status : Status) → Asks words (Threads delay narrow)
+      → Ends reported status → Writes words left held_old held_new status → WritesThreads delay narrow left held_old held_new status
+  writes_threads words left held_old held_new status asks ends w =
+      of_answer left held_old held_new w.deserved.bytes w.text status w.deserved.input ends
+      (asked_input words left w.text status (Threads delay narrow) asks w.deserved) w.written
