@@ -1,5 +1,5 @@
-"""Draws from a seed, the same on each machine, and programs made of them: two types, arrays, calls, loops, `switch`,
-names that hide one another. Each program is accepted; most of its indexes lie inside, and most of its loops end.
+"""Draws from a seed, the same on each machine, and programs made of them, some of several threads: two types, arrays,
+calls, loops, `switch`, names that hide one another. Each program is accepted; most of its indexes lie inside, and most of its loops end.
 """
 from dataclasses import dataclass
 from random import Random
@@ -395,6 +395,51 @@ class Writer(Drawing):
         return '\n'.join(self.lines) + '\n'
 
 
+class ThreadsWriter(Writer):
+    """Writes one program of several threads, which often give the globals values."""
+
+    def statement(self):
+        """One of all kinds, or one for others."""
+        found = [own.name for own in self.visible() if own in self.scopes[0] and not own.length]
+        if found and self.happens(20):
+            self.shared(self.one_of(*found))
+        else:
+            super().statement()
+
+    def shared(self, name):
+        """A global gets what is read, or a number, and another one is waited for."""
+        if self.happens(50):
+            self.line(f'{name} = input();')
+            return
+        number = self.number(0, 5)
+        self.line(f'{name} = {number};')
+        self.loops += 1
+        self.block(f'while ({name} {self.one_of("==", "<=", ">=")} {number + self.number(-1, 1)}) ', 1)
+        self.loops -= 1
+
+    def program(self):
+        """Globals, functions, and threads, which may call those before them."""
+        for number in range(self.number(2, 4)):
+            kind = self.one_of('int', 'long')
+            self.line(f'{kind} g{number} = {self.number(-1, 5)};')
+            self.scopes[0].append(Name(f'g{number}', kind))
+        if self.happens(70):
+            self.line('long t[4];')
+            self.scopes[0].append(Name('t', 'long', 4))
+        for number in range(self.number(0, 2)):
+            self.define(f'f{number}')
+        for number in range(self.number(2, 4)):
+            self.result = self.one_of('void', 'void', 'long')
+            self.function(f'{self.result} t{number + 1}(void)', (), self.number(3, 7))
+            self.functions.append(Signature(self.result, f't{number + 1}', ()))
+        return '\n'.join(self.lines) + '\n'
+
+
 def program_of(seed):
     """The program of a seed."""
     return Writer(seed).program()
+
+
+def threads_of(seed):
+    """The program of several threads of a seed."""
+    return ThreadsWriter(seed).program()

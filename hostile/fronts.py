@@ -1,5 +1,6 @@
 #!/usr/bin/env python3
-"""The fronts of a source: each that isn't empty is refused as Syntax, some at known places.
+"""The fronts of a source: each that isn't empty is refused as Syntax, some at known places; of several threads' those
+that end behind a definition are whole, and have too few threads.
 
     hostile/fronts.py [PROGRAM]
 """
@@ -19,4 +20,10 @@ for source, places in SOURCES.items():
         status, text, _ = answer('analyse', source[:count])
         told = text.startswith('refused 4 Syntax at 1:') and text.endswith('\n') and text.count('\n') == 1
         tell(f'{count} bytes of {source}', status == 2 and told, (status, text))
+THREADS = 'long g; void t1(void){ g=1; } void t2(void){ assert(g<2); }'
+refused('no byte, no thread', '', 'refused 17 NoThreads at 1:1', words='threads')
+for count in range(1, len(THREADS)):
+    status, text, _ = answer('threads', THREADS[:count])
+    wanted = f'refused 17 NoThreads at 1:{count + 1}\n' if count in (7, 8, 29, 30) else 'refused 4 Syntax at 1:'
+    tell(f'{count} bytes of {THREADS}', status == 2 and text.startswith(wanted) and text.count('\n') == 1, (status, text))
 ended()

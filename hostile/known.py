@@ -1,5 +1,5 @@
-"""What `runs.py` is tried on: reports, what is left by going back from assertions, what would be wrong of them, and
-runs whose end is known. Written by hand."""
+"""What `runs.py` is tried on: reports, what is left by going back from assertions, what is told of threads, what would
+be wrong of these, and runs whose end is known. Written by hand."""
 
 HEAD = 'analysis box parts 1 delay 1 narrow 1 limited no\nflagged 0\n'
 FITS = HEAD.replace('limited no', 'limited no fits yes')
@@ -147,6 +147,52 @@ BACKS = [
          ('  row i <= 3\n', '  row i <= 2\n'),
          ('4 main 1:41\n  row i >= 0', '4 main 1:41\n  row i >= 1'),
          ('unknown', 'proved')]),
+]
+
+# Each with a name, a program of several threads, what is told of it, and what in that becomes something else, which is
+# then wrong.
+BESIDE = 'threads box count 2 delay 1 narrow 1\nflagged 0\n'
+THREADS = [
+    ('a global that is read',
+     'long g; void t1(void){ g=1; g=2; } void t2(void){ long x; x=g; assert(x<=2); assert(x!=2); }',
+     BESIDE + 'point 1 t1 1:24\n  row g = 0\npoint 2 t1 1:29\n  row g = 1\npoint 3 t1 1:34\n  row g = 2\n'
+     'point 4 t2 1:56\n  row g >= 0\n  row g <= 2\npoint 5 t2 1:59\n  row g >= 0\n  row g <= 2\n'
+     'point 6 t2 1:64\n  row g >= 0\n  row g <= 2\n  row x >= 0\n  row x <= 2\n'
+     'point 7 t2 1:78\n  row g >= 0\n  row g <= 2\n  row x >= 0\n  row x <= 2\n'
+     'point 8 t2 1:92\n  row g >= 0\n  row g <= 2\n  row x >= 0\n  row x <= 1\n'
+     'assert 6 t2 1:64 proved\nassert 7 t2 1:78 unknown\nwrites t1 g 1 2\nverdicts proved 1 unknown 1\n', [
+         ('1:29\n  row g = 1', '1:29\n  row g = 2'),
+         ('1:56\n  row g >= 0\n  row g <= 2', '1:56\n  row g = 0'),
+         ('1:56\n  row g >= 0\n  row g <= 2', '1:56\n  row g >= 0\n  row g <= 1'),
+         ('1:78\n  row g >= 0\n  row g <= 2\n', '1:78\n  row g >= 1\n  row g <= 2\n'),
+         ('1:78 unknown', '1:78 proved'),
+         ('assert 7 t2', 'assert 7 t1'),
+         ('point 8 t2', 'point 8 t1'),
+         ('1:92\n  row g >= 0\n  row g <= 2\n  row x >= 0\n  row x <= 1\n', '1:92\n  unreachable\n'),
+         ('writes t1 g 1 2\n', ''),
+         ('writes t1 g 1 2', 'writes t2 g 1 2'),
+         ('writes t1 g 1 2', 'writes t1 g 2 2'),
+         ('writes t1 g 1 2', 'writes t1 g 1 1'),
+         ('writes t1 g 1 2', 'writes t1 g none 1')]),
+    ('a test and a use', 'long a[2], g; void t1(void){ g=1; g=7; } void t2(void){ if(g==1) a[g]=0; }',
+     BESIDE + 'point 1 t1 1:30\n  row g = 0\npoint 2 t1 1:35\n  row g = 1\npoint 3 t1 1:40\n  row g = 7\n'
+     'point 4 t2 1:57\n  row g >= 0\n  row g <= 7\npoint 5 t2 1:66\n  row g >= 1\n  row g <= 7\n'
+     'point 6 t2 1:74\n  row g >= 0\n  row g <= 7\naccess 5 t2 1:66 unknown\nwrites t1 g 1 7\n'
+     'verdicts proved 0 unknown 1\n', [
+         ('1:66\n  row g >= 1\n  row g <= 7', '1:66\n  row g = 1'),
+         ('1:66 unknown', '1:66 in bounds'),
+         ('access 5 t2 1:66 unknown\n', '')]),
+    ('calls', 'long g; long f(void){ return g+1; } void t1(void){ g=f(); } void t2(void){ g=5; g=f(); }',
+     BESIDE + 'point 1 t1 1:52\n  row g >= 0\npoint 2 t1/f@1:54 1:23\n  row g >= 0\n'
+     'point 3 t1/f@1:54 1:35\n  unreachable\npoint 4 t1 1:59\n  row g >= 1\n'
+     'point 5 t2 1:76\n  row g >= 0\npoint 6 t2 1:81\n  row g >= 1\npoint 7 t2/f@1:83 1:23\n  row g >= 1\n'
+     'point 8 t2/f@1:83 1:35\n  unreachable\npoint 9 t2 1:88\n  row g >= 1\n'
+     'writes t1 g 1 none\nwrites t2 g 2 none\nverdicts proved 0 unknown 0\n', [
+         ('t1/f@1:54 1:23\n  row g >= 0', 't1/f@1:54 1:23\n  row g >= 0\n  row g <= 5'),
+         ('t2/f@1:83 1:23\n  row g >= 1', 't2/f@1:83 1:23\n  row g >= 6'),
+         ('writes t1 g 1 none', 'writes t1 g 1 6'),
+         ('writes t2 g 2 none', 'writes t2 g 6 none'),
+         ('writes t2 g 2 none', 'writes t2 g 2 5')]),
 ]
 
 # Programs of whose runs each ends so; where all assertions hold, at their last statement.

@@ -1,8 +1,8 @@
 """Runs of a program, as docs/DEFINITIONS.md tells them. Written from that page and docs/LANGUAGE.md, not from `lra`.
 
 A run stands on a point before each statement but a block, before each declarator, before each test of a loop and at
-each `}` of a block. What watches it is told of each point to which it comes, of each access of an array, and how it
-ends.
+each `}` of a block. What watches it is told of each point to which it comes, of each access of an array, of each value
+that a global gets, and how it ends. At each point others may go on in between: whatever comes to one is a generator.
 """
 import os
 import sys
@@ -132,44 +132,51 @@ class Receiver:
 NOBODY = Receiver(())
 
 
-def into(cell):
-    """A variable's receiver."""
-    return Receiver((cell.kind,), lambda number: setattr(cell, 'value', number))
+class Globals:
+    """The globals with their first values, and the global arrays, which hold zeros."""
+
+    def __init__(self, program):
+        self.cells = [Cell(variable.name, variable.type, value) for variable, value in program.variables]
+        arrays = {array.name: Cells(array.type, [0] * array.length) for array in program.arrays}
+        self.named = {cell.name: cell for cell in self.cells} | arrays
 
 
 class Run:
-    """One run of a program. `draw` gives a number of a type; what watches the run has `come(path, at, names, values)`,
-    `access(path, on, at, is_inside)` and `ended(path, on, how)`: a path of calls, and offsets in the source."""
+    """One run of a program, or of one of its threads, over these globals. `draw` gives a number of a type; what watches
+    the run has `come(path, at, names, values)`, `access(path, on, at, is_inside)`, `gave(path, name, number)` and
+    `ended(path, on, how)`: a path of calls, and offsets in the source."""
 
-    def __init__(self, source, program, draw, watcher, most_points=2000):
+    def __init__(self, source, program, draw, watcher, shared=None, begins='main', most_points=2000):
+        shared = shared or Globals(program)
         self.source = source
         self.program = program
         self.draw = draw
         self.watcher = watcher
         self.left = most_points
-        self.store = []
-        self.scope = {}
-        self.globals = {}
-        self.path = 'main'
+        self.store = list(shared.cells)
+        self.globals = shared.named
+        self.scope = dict(shared.named)
+        self.path = begins
         self.on = 0
         self.receiver = NOBODY
+        self.how = ''
 
     def run(self):
         """From the start to the end, and how it ends."""
-        main = self.program.functions['main']
+        for _ in self.steps():
+            self.look()
+        return self.how
+
+    def steps(self):
+        """The same, from point to point."""
+        function = self.program.functions[self.path]
         try:
-            for variable, value in self.program.variables:
-                self.globals[variable.name] = self.appear(variable.name, variable.type, value)
-            for array in self.program.arrays:
-                self.globals[array.name] = Cells(array.type, [0] * array.length)
-            self.scope = dict(self.globals)
-            self.receiver = NOBODY.behind(main.result)
-            self.body(main.body)
-            how = END
+            self.receiver = NOBODY.behind(function.result)
+            yield from self.body(function.body)
+            self.how = END
         except Ended as ended:
-            how = ended.how
-        self.watcher.ended(self.path, self.on, how)
-        return how
+            self.how = ended.how
+        self.watcher.ended(self.path, self.on, self.how)
 
     def come(self, at):
         """The point is on top."""
@@ -177,8 +184,21 @@ class Run:
         if self.left == 0:
             raise Ended(CUT)
         self.left -= 1
+
+    def look(self):
+        """Tells of the point on top, and of the store there."""
         names = names_of(tuple(cell.name for cell in self.store))
-        self.watcher.come(self.path, at, names, [cell.value for cell in self.store])
+        self.watcher.come(self.path, self.on, names, [cell.value for cell in self.store])
+
+    def into(self, cell):
+        """A variable's receiver."""
+        return Receiver((cell.kind,), lambda number: self.put(cell, number))
+
+    def put(self, cell, number):
+        """The variable gets the number."""
+        cell.value = number
+        if self.globals.get(cell.name) is cell:
+            self.watcher.gave(self.path, cell.name, number)
 
     def appear(self, name, kind, value):
         """A new variable."""
@@ -236,35 +256,36 @@ class Run:
         """Makes one statement, a declarator among them."""
         match done:
             case Block():
-                return self.block(done)
+                return (yield from self.block(done))
             case Loop():
-                return self.loop(done)
+                return (yield from self.loop(done))
         self.come(done.at)
+        yield
         match done:
             case Declared():
                 cell = self.appear(done.name, done.type, self.draw(done.type))
                 self.scope[done.name] = cell
-                self.gives(into(cell), done.value)
+                yield from self.gives(self.into(cell), done.value)
             case DeclaredArray():
                 array = done.array
                 self.scope[array.name] = Cells(array.type, [self.draw(array.type) for _ in range(array.length)])
             case Assigned():
-                self.gives(into(self.scope[done.name]), done.value)
+                yield from self.gives(self.into(self.scope[done.name]), done.value)
             case Written():
-                self.written(done)
+                yield from self.written(done)
             case Called():
-                self.call(done.call, NOBODY)
+                yield from self.call(done.call, NOBODY)
             case Chosen():
                 way = done.so if self.holds(done.condition) else done.otherwise
-                return self.statement(way) if way else ''
+                return (yield from self.statement(way)) if way else ''
             case Jump():
                 return done.word
             case Return():
-                return self.returned(done)
+                return (yield from self.returned(done))
             case Asked():
                 self.asked(done)
             case Switch():
-                return self.switch(done)
+                return (yield from self.switch(done))
         return ''
 
     def asked(self, done):
@@ -275,19 +296,20 @@ class Run:
     def gives(self, receiver, value):
         """The receiver gets the value, where there is one."""
         if isinstance(value, Call):
-            self.call(value, receiver)
+            yield from self.call(value, receiver)
         elif value:
             receiver.give(self.value(value)[0])
 
     def written(self, done):
         """The index comes first, and waits for the value."""
         cells, place = self.place(done.element)
-        self.gives(Receiver((cells.kind,), lambda number: cells.values.__setitem__(place, number)), done.value)
+        receiver = Receiver((cells.kind,), lambda number: cells.values.__setitem__(place, number))
+        yield from self.gives(receiver, done.value)
 
     def items(self, items):
         """One behind the other, until one is left."""
         for item in items:
-            left = self.statement(item)
+            left = yield from self.statement(item)
             if left:
                 return left
         return ''
@@ -296,32 +318,34 @@ class Run:
         """A scope of its own; at its end its variables still live."""
         scope, live = self.scope, len(self.store)
         self.scope = dict(scope)
-        left = self.body(body)
+        left = yield from self.body(body)
         self.scope = scope
         del self.store[live:]
         return left
 
     def body(self, body):
         """The items of a block, and its end."""
-        left = self.items(body.items)
+        left = yield from self.items(body.items)
         if not left:
             self.come(body.end)
+            yield
         return left
 
     def loop(self, done):
         """A `for` with its beginning, or a `while`."""
         scope, before = self.scope, len(self.store)
         self.scope = dict(scope)
-        self.items(done.begin)
+        yield from self.items(done.begin)
         live, left = len(self.store), ''
         while not left:
             self.come(done.at)
+            yield
             if not self.holds(done.condition):
                 break
-            left = self.statement(done.body)
+            left = yield from self.statement(done.body)
             del self.store[live:]
             if left in ('', 'continue'):
-                left = self.statement(done.step) if done.step else ''
+                left = (yield from self.statement(done.step)) if done.step else ''
         self.scope = scope
         del self.store[before:]
         return left if left == 'return' else ''
@@ -333,7 +357,7 @@ class Run:
         goal = number if number in labels else None
         if goal not in labels:
             return ''
-        left = self.items(part for part in done.parts[labels.index(goal) :] if not isinstance(part, Label))
+        left = yield from self.items(part for part in done.parts[labels.index(goal) :] if not isinstance(part, Label))
         del self.store[live:]
         return '' if left == 'break' else left
 
@@ -351,7 +375,7 @@ class Run:
         self.receiver = receiver.behind(function.result)
         for own, number in zip(function.parameters, numbers):
             self.scope[own.name] = self.appear(own.name, own.type, number)
-        if not self.body(function.body):
+        if not (yield from self.body(function.body)):
             self.give_any()
         self.scope, self.path, self.receiver = before
         del self.store[live:]
@@ -359,7 +383,7 @@ class Run:
     def returned(self, done):
         """The value, or any, goes to who asked for it."""
         if done.value:
-            self.gives(self.receiver, done.value)
+            yield from self.gives(self.receiver, done.value)
         else:
             self.give_any()
         return 'return'

@@ -1,13 +1,15 @@
 #!/usr/bin/env python3
 """Reports against runs: programs drawn from seeds are analysed, and run by an interpreter of docs/DEFINITIONS.md.
 
-    hostile/runs.py [PROGRAM] [--seed N] [--count N] [--runs N] [--guided] [FILE..]
+    hostile/runs.py [PROGRAM] [--seed N] [--count N] [--threads N] [--runs N] [--guided] [FILE..]
 
 Whenever a run is at a point, the rows printed there have to hold; no run comes to a point that is marked unreachable,
 fails an assertion that is marked proved, ends by a number where all is marked as fitting, or has an index outside an
 array where an access is marked in bounds. Where a run fails, what `back` writes for that assertion has to have each of
 its stores at its point. The programs are those of the seeds from N on (1), so many (50), or those in the files; each is
-run so many times (20). Before, texts that are wrong are tried, which have to be noticed, and runs whose end is known.
+run so many times (20). So are programs of several threads (20), whose order is drawn, too: they are held against what
+`threads` prints, in three ways, and what each thread gives a global against its lines `writes`. Files without `main`
+are such programs. Before, texts that are wrong are tried, which have to be noticed, and runs whose end is known.
 With `--guided` as many runs more are made for each assertion that polyhedra leave unknown, of whose draws half are
 numbers of the generators that `back` lists, and it is told how many of both kinds of runs fail there. Says what doesn't
 hold, with the program and the draws of the run, and ends with 1 then. Outside of what is proved.
@@ -17,8 +19,9 @@ import os
 import subprocess
 import sys
 
-from drawing import Draws, program_of
-from known import BACKS, ENDS, REPORTS
+from beside import Told, compare_threads
+from drawing import Draws, program_of, threads_of
+from known import BACKS, ENDS, REPORTS, THREADS
 from running import FAILED, NUMBER, Run
 from told import Back, Report, Wrong
 
@@ -28,6 +31,7 @@ from looking.sources import Source
 HERE = os.path.dirname(os.path.realpath(__file__))
 PROGRAM = os.path.join(HERE, '../crates/lra/out/lra')
 WAYS = ('--domain box --fits', '--domain oct --fits', '--fits', '--best --fits', '--domain box --parts 4 --fits')
+BESIDE = ('', '--delay 0 --narrow 0', '--delay 3 --narrow 2')
 # What ends a run is broken by a verdict of this kind.
 BROKEN = {FAILED: 'assert', NUMBER: 'fit'}
 
@@ -57,6 +61,9 @@ class Checker:
         """An access is listed, and lies inside where it is marked so."""
         for self.report in self.reports:
             self.report.expect('access', (path, on), (path, at), not is_inside)
+
+    def gave(self, path, name, number):
+        """Nothing is told of what a global gets where a program runs alone."""
 
     def ended(self, path, on, how):
         """What ends the run there isn't excluded."""
@@ -115,6 +122,11 @@ def analysed(lra, source, words):
     return Report(words, answered(lra, source, f'analyse {words}'), source)
 
 
+def told_of_threads(lra, source, words):
+    """What is told of a program of several threads."""
+    return Told(words, answered(lra, source, f'threads {words}'), source)
+
+
 def gone_back(lra, source, number):
     """What going back from an assertion of the program leaves; nothing where too many paths lead from a point."""
     text = answered(lra, source, f'back --point {number}', 'refused paths at point ')
@@ -131,8 +143,17 @@ def held_back(source, back, trails):
     return ''
 
 
+def is_of_threads(source):
+    """Whether it has no `main`."""
+    return 'main' not in [name for name, *_ in source.functions]
+
+
 def checked(lra, source, runs):
-    """What doesn't hold of a program's reports, and of what is left by going back from each assertion that fails."""
+    """What doesn't hold of a program's reports, and of what is left by going back from each assertion that fails; or of
+    what is told of its threads."""
+    if is_of_threads(source):
+        yield compare_threads(source, [told_of_threads(lra, source, way) for way in BESIDE], runs)
+        return
     reports = [analysed(lra, source, way) for way in WAYS]
     wrong, _, failing = compare(source, reports, seeded(runs))
     yield wrong
@@ -191,6 +212,22 @@ def known_backs():
                 yield f'{name}: `{new}` in place of `{old}` is not noticed' if old else noticed
 
 
+def known_threads():
+    """The same of what is told of threads."""
+    for name, text, told_so, changes in THREADS:
+        source = Source(name, text.encode())
+        for old, new in [('', ''), *changes]:
+            if told_so.count(old) != 1 and old:
+                yield f'{name}: `{old}` stands {told_so.count(old)} times in what is told of it'
+            try:
+                given = Told('by hand', told_so.replace(old, new) if old else told_so, source)
+                noticed = compare_threads(source, [given], 200)
+            except Wrong as wrong:
+                noticed = str(wrong)
+            if bool(noticed) != bool(old):
+                yield f'{name}: `{new}` in place of `{old}` is not noticed' if old else noticed
+
+
 def known_ends():
     """Programs whose end is known."""
     for text, wanted in ENDS:
@@ -200,9 +237,9 @@ def known_ends():
             yield f'`{text}` ends otherwise: {ends}'
 
 
-def drawn(first, count):
-    """The sources of so many seeds."""
-    return [Source(f'seed {seed}', program_of(seed).encode()) for seed in range(first, first + count)]
+def drawn(first, count, written):
+    """The sources of so many seeds, written so."""
+    return [Source(f'seed {seed}', written(seed).encode()) for seed in range(first, first + count)]
 
 
 def read(name):
@@ -218,15 +255,17 @@ def command():
     words.add_argument('files', metavar='FILE', nargs='*')
     words.add_argument('--seed', type=int, default=1)
     words.add_argument('--count', type=int, default=50)
+    words.add_argument('--threads', type=int, default=20)
     words.add_argument('--runs', type=int, default=20)
     words.add_argument('--guided', action='store_true')
     asked = words.parse_args()
-    faults = [*known_reports(), *known_backs(), *known_ends()]
-    sources = [read(name) for name in asked.files] or drawn(asked.seed, asked.count)
+    faults = [*known_reports(), *known_backs(), *known_threads(), *known_ends()]
+    alone, beside = drawn(asked.seed, asked.count, program_of), drawn(asked.seed, asked.threads, threads_of)
+    sources = [read(name) for name in asked.files] or alone + beside
     for source in sources:
         try:
             faults += filter(None, checked(asked.program, source, asked.runs))
-            if asked.guided:
+            if asked.guided and not is_of_threads(source):
                 faults += filter(None, counted(asked.program, source, asked.runs))
         except Wrong as wrong:
             faults.append(str(wrong))

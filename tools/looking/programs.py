@@ -305,7 +305,8 @@ class Reader:
         self.at += 1
         return sign * value
 
-    def program(self) -> Program:
+    def program(self, needed: tuple[str, ...]) -> Program:
+        """One that defines these functions."""
         variables: list[tuple[Variable, int]] = []
         arrays: list[Array] = []
         functions: dict[str, Function] = {}
@@ -316,7 +317,7 @@ class Reader:
                 self.function(kind, functions)
             else:
                 self.first_values(kind, variables, arrays)
-        if 'main' not in functions:
+        if not all(name in functions for name in needed):
             raise self.fault()
         return Program(tuple(variables), tuple(arrays), functions)
 
@@ -567,6 +568,6 @@ class Reader:
         return self.element() if self.word(1) == '[' else Read(self.take_name())
 
 
-def read_program(source: Source) -> Program:
-    """The program of a source."""
-    return Reader(source).program()
+def read_program(source: Source, needed: tuple[str, ...] = ('main',)) -> Program:
+    """The program of a source, which defines these functions."""
+    return Reader(source).program(needed)

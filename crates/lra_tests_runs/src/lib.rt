@@ -37,6 +37,8 @@ mod scripts;
 #[cfg(test)]
 mod switches;
 #[cfg(test)]
+mod threads;
+#[cfg(test)]
 mod thresholds;
 #[cfg(test)]
 mod types;
