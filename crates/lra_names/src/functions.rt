@@ -8,11 +8,11 @@ ghost use Rattle.lra_tree.specs.Views.{global_view, globals_view, function_view 
 ghost use Rattle.lra_tree.specs.Views.{tree_view};
 ghost use Rattle.lra_program.specs.ProgramViews.{function_view, program_view};
 ghost use Rattle.lra_meaning.specs.Scope.{function_scope, meaning_of, global_entry, global_entries};
-ghost use Rattle.lra_tree.specs.Functions.{is_main, functions_in};
+ghost use Rattle.lra_tree.specs.Functions.{is_main, functions_in, functions_of};
 ghost use Rattle.lra_meaning.specs.NameFaults.{parameters_faults, function_faults, first_value_faults, shape_faults};
 ghost use Rattle.lra_meaning.specs.NameFaults.{globals_faults, global_names, parts_faults, name_faults};
 ghost use Rattle.lra_meaning.specs.Resolve.{resolve_function, value_or_zero, variables_by, arrays_by, globals_in};
-ghost use Rattle.lra_meaning.specs.Resolve.{arrays_in, resolve_parts, items_count, resolve};
+ghost use Rattle.lra_meaning.specs.Resolve.{arrays_in, resolve_parts, resolved_functions, items_count, resolve};
 ghost use Rattle.lra_scopes.specs.Calls.{functions_at};
 ghost use Rattle.lra_scopes.specs.Meanings.{meaning_view};
 ghost use Rattle.lra_tree.specs.Labels.{function_labels, labels_of};
@@ -110,10 +110,10 @@ pub struct Resolved {
     /// The names of the file scope.
     names: Names,
     scope: Scope,
-    pub labels: Labelling,
-    pub globals: Vec<GlobalVariable>,
-    pub arrays: Vec<Array>,
-    pub functions: Vec<lra_program::Function>,
+    labels: Labelling,
+    globals: Vec<GlobalVariable>,
+    arrays: Vec<Array>,
+    functions: Vec<lra_program::Function>,
 }
 
 /// The first value of a global of this type: its literal, or 0.
@@ -330,7 +330,7 @@ fn find_main(parts: &[Item]) -> Option<usize>
 }
 
 /// All parts of the source.
-pub fn resolve_all(alloc: Global, functions: &Functions<'_>) -> Result<Resolved, SourceError>
+fn resolve_all(alloc: Global, functions: &Functions<'_>) -> Result<Resolved, SourceError>
     ensures told { TellsOf (parts_faults (functions_at functions.now) [] [] (map part_view functions.now)) result }
     ensures found { IfOk result (λ r. map function_view r.functions.items
         ≡ resolve_parts (functions_at functions.now) [] 1 (map part_view functions.now)) }
@@ -353,6 +353,20 @@ pub fn resolve_all(alloc: Global, functions: &Functions<'_>) -> Result<Resolved,
     Ok(resolved)
 }
 
+/// All parts of a source, over the functions that it defines.
+pub fn resolve_tree(alloc: Global, tree: &Tree) -> Result<Resolved, SourceError>
+    ensures told { TellsOf (parts_faults (functions_of (tree_view tree.now)) [] []
+        (tree_view tree.now).parts) result }
+    ensures found { IfOk result (λ r. map function_view r.functions.items
+        ≡ resolved_functions (tree_view tree.now)) }
+    ensures valued { IfOk result (λ r. r.globals.items ≡ globals_in (tree_view tree.now).parts) }
+    ensures arrayed { IfOk result (λ r. r.arrays.items ≡ arrays_in (tree_view tree.now).parts) }
+    ensures labelled { IfOk result (λ r. r.labels.labels ≡ labels_of (tree_view tree.now)) }
+{
+    let functions = Functions::new(alloc, &tree.items)?;
+    resolve_all(alloc, &functions)
+}
+
 /// What a source without faults of names means.
 pub struct Resolution {
     pub program: Program,
@@ -369,6 +383,37 @@ impl Drop for Resolution {
     }
 }
 
+impl Resolved {
+    /// All that is resolved, with the function at this place in the place of `main`.
+    pub fn into_resolution(self, main: usize) -> Resolution
+        ensures program { result.program ≡ record {
+          globals = self.globals;
+          arrays = self.arrays;
+          functions = self.functions;
+          main = main;
+        } }
+        ensures labelled { result.labels.labels ≡ self.labels.labels }
+    {
+        let Resolved {
+            names: _,
+            scope: _,
+            labels,
+            globals,
+            arrays,
+            functions,
+        } = self;
+        Resolution {
+            program: Program {
+                globals,
+                arrays,
+                functions,
+                main,
+            },
+            labels: labels.into_table(),
+        }
+    }
+}
+
 /// The program that a source means, with its statements labelled in text order from 1, and the table of these labels;
 /// or its first fault of names, or want of memory.
 #[tactic(auto, using(crate::proofs::FunctionLaws::main_rules))]
@@ -377,18 +422,9 @@ pub fn resolve(alloc: Global, tree: &Tree) -> Result<Resolution, SourceError>
     ensures found { IfOk result (λ r. program_view r.program ≡ resolve (tree_view tree.now)) }
     ensures labelled { IfOk result (λ r. r.labels.labels ≡ labels_of (tree_view tree.now)) }
 {
-    let functions = Functions::new(alloc, &tree.items)?;
-    let resolved = resolve_all(alloc, &functions)?;
+    let resolved = resolve_tree(alloc, tree)?;
     match find_main(&tree.items) {
         None => refuse(Cause::NoMain, tree.end),
-        Some(main) => Ok(Resolution {
-            program: Program {
-                globals: resolved.globals,
-                arrays: resolved.arrays,
-                functions: resolved.functions,
-                main,
-            },
-            labels: resolved.labels.into_table(),
-        }),
+        Some(main) => Ok(resolved.into_resolution(main)),
     }
 }

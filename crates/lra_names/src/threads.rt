@@ -11,10 +11,9 @@ ghost use Rattle.lra_meaning.specs.Threads.{thread_places_from, thread_program};
 ghost use Rattle.lra_scopes.specs.Calls.{functions_at};
 ghost use Rattle.lra_scopes.specs.Outcome.{TellsOf};
 
-use crate::functions::{Resolution, resolve_all};
+use crate::functions::{Resolution, resolve_tree};
 use lra_base::{Cause, SourceError};
-use lra_program::Program;
-use lra_scopes::{Functions, refuse};
+use lra_scopes::refuse;
 use lra_tree::{Item, Tree};
 use std::alloc::{AllocError, Global};
 
@@ -78,22 +77,12 @@ pub fn resolve_threads(alloc: Global, tree: &Tree) -> Result<ThreadsResolution, 
     ensures threads { IfOk result (λ r. r.threads.items ≡ thread_places (tree_view tree.now)) }
     ensures labelled { IfOk result (λ r. r.resolution.labels.labels ≡ labels_of (tree_view tree.now)) }
 {
-    let functions = Functions::new(alloc, &tree.items)?;
-    let resolved = resolve_all(alloc, &functions)?;
+    let resolved = resolve_tree(alloc, tree)?;
     let threads = find_threads(alloc, &tree.items)?;
     if threads.len() < 2 {
         return refuse(Cause::NoThreads, tree.end);
     }
-    let program = Program {
-        globals: resolved.globals,
-        arrays: resolved.arrays,
-        functions: resolved.functions,
-        main: threads[0],
-    };
-    let resolution = Resolution {
-        program,
-        labels: resolved.labels.into_table(),
-    };
+    let resolution = resolved.into_resolution(threads[0]);
     Ok(ThreadsResolution {
         resolution,
         threads,
