@@ -88,12 +88,13 @@ module _ {R : Type 0} (finding : Finding R) (globals : ℕ) (IsFound : ℕ → O
       subst (λ (xs : List R). SoFar 0 flag table xs written flag) (sym e)
       (subst (λ (ws : Table). SoFar 0 flag table [] ws flag) (sym d) (none_so_far flag table))
 
-  pub one_more : (k : ℕ) (flag : Option (ℕ × ℕ)) (table : Table) (found : List R) (written : Table) (first : Option (ℕ × ℕ)) (told : Row) (r : R)
-      (w : Row) (after : List R) (wrote : Table) (last_flag : Option (ℕ × ℕ)) → SoFar k flag table found written first → told ≡ told_to globals k table
-      → IsFound k (telling told) r → w ≡ written_by globals (finding.notes r) → after ≡ found ++ r ∷ [] → wrote ≡ written ++ w ∷ []
-      → last_flag ≡ flag_so_far first (flag_of k (finding.flag r) None) → SoFar (k + 1) flag table after wrote last_flag
-  one_more k flag table found written first told r w after wrote last_flag so is own writes a b c =
-      let others = subst (λ (o : Others Content). IsFound k o r) (ap telling is ∙ telling_others globals k table) own in
+  pub one_more : (k : ℕ) (flag : Option (ℕ × ℕ)) (table : Table) (found : List R) (written : Table) (first : Option (ℕ × ℕ)) (r : R) (w : Row)
+      (point : Option ℕ) (after : List R) (wrote : Table) (last_flag : Option (ℕ × ℕ)) → SoFar k flag table found written first
+      → IsFound k (telling (told_to globals k table)) r → w ≡ written_by globals (finding.notes r) → point ≡ finding.flag r
+      → after ≡ found ++ r ∷ [] → wrote ≡ written ++ w ∷ [] → last_flag ≡ flag_so_far first (flag_of k point None)
+      → SoFar (k + 1) flag table after wrote last_flag
+  one_more k flag table found written first r w point after wrote last_flag so own writes flagged a b c =
+      let others = subst (λ (o : Others Content). IsFound k o r) (telling_others globals k table) own in
       let long : length found ≡ k = so.all in
       let place : k ≡ 0 + length found = omega (arith, long) in
       let last = subst (λ (n : ℕ). IsFound n (others_of globals n table) r) place others in
@@ -107,7 +108,8 @@ module _ {R : Type 0} (finding : Finding R) (globals : ℕ) (IsFound : ℕ → O
             ∙ ap (λ (v : Row). written_in finding globals found ++ v ∷ []) writes
             ∙ sym (map_more (λ x. written_by globals (finding.notes x)) found r)
             ∙ ap (λ (xs : List R). written_in finding globals xs) (sym a);
-        is_first = c ∙ ap (λ (f : Option (ℕ × ℕ)). flag_so_far f (flag_of k (finding.flag r) None)) so.is_first
+        is_first = c ∙ ap (λ (o : Option ℕ). flag_so_far first (flag_of k o None)) flagged
+            ∙ ap (λ (f : Option (ℕ × ℕ)). flag_so_far f (flag_of k (finding.flag r) None)) so.is_first
             ∙ flag_again flag (first_flag finding.flag 0 found) (flag_of k (finding.flag r) None)
             ∙ ap (λ (f : Option (ℕ × ℕ)). flag_so_far flag f) (sym (flag_more finding.flag 0 k found r (omega (arith, long))))
             ∙ ap (λ (xs : List R). flag_so_far flag (first_flag finding.flag 0 xs)) (sym a);

@@ -1,9 +1,9 @@
 //! The rounds: each thread is analysed among what the others wrote so far, until nothing is written that wasn't told.
 
-ghost use Rattle.std.specs.Prelude.{◌≡◌, ◌<◌, ℕ, None, length, IfOk};
+ghost use Rattle.std.specs.Prelude.{◌≡◌, ◌<◌, ℕ, [], ◌∷◌, ◌++◌, None, length, IfOk};
 ghost use Rattle.lra_others.specs.Others.{Others};
 ghost use Rattle.lra_box.specs.Content.{Content};
-ghost use Rattle.lra_rounds.specs.Telling.{telling, written_by};
+ghost use Rattle.lra_rounds.specs.Telling.{telling, told_to, written_by};
 ghost use Rattle.lra_rounds.specs.Rounds.{flag_of, flag_so_far, Finding, IsRound, AllRounds};
 ghost use Rattle.lra_rounds.specs.Found.{settled_view};
 
@@ -62,6 +62,14 @@ pub struct SettledRound<F> {
     pub flag: Option<(usize, usize)>,
 }
 
+/// What an analysis of one thread finds, what that thread writes, and the first flagged point.
+#[derive(Drop)]
+struct Turn<F> {
+    found: F,
+    written: Intervals,
+    point: Option<usize>,
+}
+
 /// What one round finds of each thread, what each thread writes, and the first flag so far.
 #[derive(Drop)]
 struct Round<F> {
@@ -81,6 +89,46 @@ fn note_flag(flag: Option<(usize, usize)>, k: usize, point: Option<usize>) -> Op
     }
 }
 
+impl<F: Drop> Round<F> {
+    /// The turn of thread `k` comes in.
+    fn add(&mut self, k: usize, turn: Turn<F>) -> Result<(), AllocError>
+        ensures { IfOk result (λ done. (self.new.found.items ≡ self.old.found.items ++ turn.found ∷ [])
+            × (self.new.written.items ≡ self.old.written.items ++ turn.written ∷ [])
+            × (self.new.flag ≡ flag_so_far self.old.flag (flag_of k turn.point None))) }
+    {
+        self.flag = note_flag(self.flag, k, turn.point);
+        self.found.push(turn.found)?;
+        self.written.push(turn.written)?;
+        Ok(())
+    }
+}
+
+/// Analyses thread `k`, while the others may give what the table says.
+fn take_turn<T: Threads>(
+    alloc: Global,
+    threads: &T,
+    k: usize,
+    table: &[Intervals],
+) -> Result<Turn<T::Found>, AllocError>
+    requires ready { T.ready threads.now }
+    requires thread { k < T.threads threads.now }
+    requires long { length table.now ≡ T.threads threads.now }
+    ensures { IfOk result (λ turn.
+        T.finds threads.now k (telling (told_to (T.shared threads.now) k table.now)) turn.found
+        × (turn.written ≡ written_by (T.shared threads.now) (T.finding.notes turn.found))
+        × (turn.point ≡ T.finding.flag turn.found)) }
+{
+    let told = tell(alloc, threads.globals(), k, table)?;
+    let found = threads.analyse(alloc, k, &told)?;
+    let written = threads.write(alloc, &found)?;
+    let point = threads.flagged(&found);
+    Ok(Turn {
+        found,
+        written,
+        point,
+    })
+}
+
 /// Analyses each thread, while the others may give what the table says.
 fn go_round<T: Threads>(
     alloc: Global,
@@ -93,23 +141,16 @@ fn go_round<T: Threads>(
     ensures { IfOk result (λ r. IsRound T.finding (T.shared threads.now) (T.finds threads.now)
         (T.threads threads.now) flag table.now r.found.items r.written.items r.flag) }
 {
-    let mut found = Vec::new(alloc);
-    let mut written = Vec::new(alloc);
-    let mut first = flag;
+    let mut round = Round {
+        found: Vec::new(alloc),
+        written: Vec::new(alloc),
+        flag,
+    };
     'threads: for k in 0..threads.count() {
-        let told = tell(alloc, threads.globals(), k, table)?;
-        let one = threads.analyse(alloc, k, &told)?;
-        let row = threads.write(alloc, &one)?;
-        written.push(row)?;
-        let point = threads.flagged(&one);
-        first = note_flag(first, k, point);
-        found.push(one)?;
+        let turn = take_turn(alloc, threads, k, table)?;
+        round.add(k, turn)?;
     }
-    Ok(Round {
-        found,
-        written,
-        flag: first,
-    })
+    Ok(round)
 }
 
 /// Rounds, until one settles.

@@ -1,23 +1,23 @@
 -- Goals of `go_round`: thread by thread.
-use Rattle.std.proofs.Common.{◌∙◌, ℕ, ap, arith}
-use Rattle.std.proofs.Common.{None}
-use Rattle.lra_rounds.specs.Telling.{told_to}
-use Rattle.lra_rounds.specs.Rounds.{flag_so_far, flag_of}
+use Rattle.std.proofs.Common.{arith}
 use Rattle.lra_rounds.proofs.RoundLemmas.{begun_so_far, one_more, whole_round}
 use Rattle.lra_rounds.proofs.rounds.go_round.Goals as goal
 
 pub threads-init : goal.threads-init
 threads-init g c =
     begun_so_far g.T.Threads.finding (g.T.Threads.shared c.args.threads.now) (g.T.Threads.finds c.args.threads.now) c.args.flag c.args.table.now
-    c.new-found.result.items c.new-written.result.items c.new-found.ensures.items c.new-written.ensures.items
+    c.new.result.items c.new-2.result.items c.new.ensures.items c.new-2.ensures.items
 
 pub threads-preserved : goal.threads-preserved
 threads-preserved g c =
-    one_more g.T.Threads.finding (g.T.Threads.shared c.args.threads.now) (g.T.Threads.finds c.args.threads.now) c.threads.k c.args.flag c.args.table.now
-    _ _ _ c.in_ok-told.told c.in_ok-one.one c.in_ok-row.row _ _ _ c.threads.invariant
-    (c.in_ok-told.ensures ∙ ap (λ (n : ℕ). told_to n c.threads.k c.args.table.now) c.globals.ensures) c.in_ok-one.ensures c.in_ok-row.ensures
-    c.in_ok-push-2.ensures.items c.in_ok-push.ensures.items
-    (c.note_flag-first.ensures ∙ ap (λ o. flag_so_far c.threads.first (flag_of c.threads.k o None)) c.flagged-point.ensures)
+    let shared = g.T.Threads.shared c.args.threads.now in
+    let finds = g.T.Threads.finds c.args.threads.now in
+    let turn = c.in_ok-turn.turn in
+    let before = c.threads.round in
+    let after = c.add.new.self in
+    one_more g.T.Threads.finding shared finds c.threads.k c.args.flag c.args.table.now before.found.items before.written.items before.flag
+    turn.found turn.written turn.point after.found.items after.written.items after.flag c.threads.invariant
+    c.in_ok-turn.ensures.0 c.in_ok-turn.ensures.1 c.in_ok-turn.ensures.2 c.in_ok-add.ensures.0 c.in_ok-add.ensures.1 c.in_ok-add.ensures.2
 
 pub returns : goal.returns
 returns g c =
