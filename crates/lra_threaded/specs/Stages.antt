@@ -1,15 +1,22 @@
--- What is known of the threads of a source behind the rounds, as the listing asks it.
+-- What is known of the threads of a source before and behind the rounds, as the report asks it.
 use Rattle.std.specs.Prelude.{◌≡◌, ◌≤◌, ◌<◌, ◌+◌, ◌++◌, ◌^◌, ℕ, List, length, map, codes, All, Some, slice_get}
-use Rattle.std.specs.List.{flat_map, sum_by}
+use Rattle.std.specs.List.{AllZip, flat_map, sum_by}
 use Rattle.lra_box.specs.Meaning.{box_meaning}
+use Rattle.lra_tree.specs.Grammar.{Spells}
 use Rattle.lra_tree.specs.Labels.{labels_of}
 use Rattle.lra_tree.specs.Trees.{FileTree}
+use Rattle.lra_tree.specs.Views.{tree_view}
 use Rattle.lra_meaning.specs.Refuse.{greatest_points}
-use Rattle.lra_meaning.specs.Threads.{thread_places}
+use Rattle.lra_meaning.specs.RefuseThreads.{AcceptsThreads}
+use Rattle.lra_meaning.specs.Threads.{thread_places, thread_program}
+use Rattle.lra_program.specs.ProgramViews.{program_view}
 use Rattle.lra_operations.specs.GraphViews.{node_view}
 use Rattle.lra_operations.specs.declared.graph.Graph.{Graph}
 use Rattle.lra_report.specs.Report.{Verdict}
 use Rattle.lra_report.specs.declared.verdict_kinds.VerdictKind.TheVariants.{Assertion, Fit}
+use Rattle.lra_front.specs.Stages.{HasConstants}
+use Rattle.lra_threads_front.specs.Stages.{IsThreadGraph}
+use Rattle.lra_threads_front.specs.declared.front.ThreadsFront.{ThreadsFront}
 use Rattle.lra_listing.specs.Given.{accesses_told, verdict_at}
 use Rattle.lra_listing.specs.Views.{told_view}
 use Rattle.lra_listing.specs.declared.listing.Found.{Found}
@@ -26,6 +33,20 @@ points_in graph = length graph.sites.items
 abbrev pub IsOpened : ℕ → Graph → Graph → Type 0
 IsOpened globals graph other =
     (node_view other.tree ≡ opened globals (node_view graph.tree)) × (other.sites ≡ graph.sites)
+
+-- the same of what is read, with each graph opened
+pub record AreThreadsOpened (front other : ThreadsFront) : Type 0 where
+  pub rest : front ≡ record other { graphs = front.graphs }
+  pub graphs : AllZip (IsOpened (length other.resolution.program.globals.items)) front.graphs.items other.graphs.items
+
+-- all that the rounds and the report take from what is read of a source
+pub record IsReadOf (source : List ℕ) (front : ThreadsFront) : Type 0 where
+  pub accepted : AcceptsThreads Spells source (tree_view front.tree)
+  pub constants : HasConstants source front.constants.items
+  pub program : program_view front.resolution.program
+      ≡ thread_program (tree_view front.tree) front.resolution.program.main
+  pub labels : front.resolution.labels.labels ≡ labels_of (tree_view front.tree)
+  pub graphs : AllZip (IsThreadGraph (tree_view front.tree)) (thread_places (tree_view front.tree)) front.graphs.items
 
 -- the graphs have the points of a source's threads, no more in all than a report may have
 pub record AreGraphsOf (t : FileTree) (graphs : List Graph) : Type 0 where

@@ -3,7 +3,7 @@
 ghost use Rattle.std.specs.Prelude.{◌≡◌, ◌++◌, count_by, map, IfOk, OnOk, string_bytes};
 ghost use Rattle.std.specs.Fmt.{decimal};
 ghost use Rattle.std.specs.List.{flat_map};
-ghost use Rattle.lra_report.specs.ReportText.{is_unknown};
+ghost use Rattle.lra_report.specs.ReportText.{flag_text, is_unknown};
 ghost use Rattle.lra_report.specs.View.{verdict_of};
 ghost use Rattle.lra_threaded.specs.ThreadsText as told;
 ghost use Rattle.lra_threaded.specs.ThreadsView.{threads_report_of, writes_of};
@@ -121,14 +121,24 @@ fn push_writes(text: &mut String, all: &[Writes]) -> Result<(), AllocError>
     Ok(())
 }
 
+/// Appends the lines before those of points.
+fn push_head(text: &mut String, report: &ThreadsReport) -> Result<(), AllocError>
+    ensures { OnOk result (string_bytes text.new ≡ string_bytes text.old ++
+        (told.threads_line report.now.count report.now.delay report.now.narrow ++
+        flag_text report.now.flagged)) }
+{
+    push_threads(text, report.count, report.delay, report.narrow)?;
+    push_flag(text, report.flagged)?;
+    Ok(())
+}
+
 /// The text of what is found of several threads.
 pub fn threads_text(alloc: Global, report: &ThreadsReport) -> Result<String, AllocError>
     ensures { IfOk result (λ shown. string_bytes shown ≡
         told.threads_text (threads_report_of report.now)) }
 {
     let mut text = String::new(alloc);
-    push_threads(&mut text, report.count, report.delay, report.narrow)?;
-    push_flag(&mut text, report.flagged)?;
+    push_head(&mut text, report)?;
     push_points(&mut text, alloc, report.points.as_slice())?;
     push_verdicts(&mut text, report.verdicts.as_slice())?;
     push_writes(&mut text, report.writes.as_slice())?;

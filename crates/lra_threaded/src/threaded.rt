@@ -1,11 +1,11 @@
 //! From the bytes of a source of several threads to what is found of them.
 
-ghost use Rattle.std.specs.Prelude.{◌≡◌, ◌<◌, ◌+◌, ◌^◌, length, IfOk};
+ghost use Rattle.std.specs.Prelude.{◌≡◌, ◌<◌, ◌+◌, ◌^◌, ℕ, List, length, IfOk};
 ghost use Rattle.std.specs.List.{AllZip};
 ghost use Rattle.lra_base.specs.Refused.{IfRefused};
 ghost use Rattle.lra_tree.specs.Grammar.{Spells};
 ghost use Rattle.lra_meaning.specs.RefuseThreads.{RefuseThreads};
-ghost use Rattle.lra_threaded.specs.Stages.{IsOpened};
+ghost use Rattle.lra_threaded.specs.Stages.{AreThreadsOpened, IsOpened, IsReadOf};
 ghost use Rattle.lra_threaded.specs.Threaded as threaded;
 ghost use Rattle.lra_threaded.specs.Threaded.{IsThreadsOf};
 ghost use Rattle.lra_threaded.specs.ThreadsView.{threads_report_of};
@@ -18,7 +18,7 @@ use lra_opened::opened_graph;
 use lra_operations::Graph;
 use lra_options::{Domain, Options, default_options};
 use lra_threads::analyse_threads;
-use lra_threads_front::read_threads;
+use lra_threads_front::{ThreadsFront, read_threads};
 use lra_woven::threads_hold;
 use std::alloc::{AllocError, Global};
 use std::mem;
@@ -46,6 +46,44 @@ fn open_graphs(alloc: Global, globals: usize, graphs: Vec<Graph>) -> Result<Vec<
     Ok(opened)
 }
 
+/// What was read, with what others do written into the trees.
+fn open_threads(alloc: Global, front: ThreadsFront) -> Result<ThreadsFront, AllocError>
+    ensures { IfOk result (λ f. AreThreadsOpened front f) }
+{
+    let mut front = front;
+    let globals = front.resolution.program.globals.len();
+    let read = mem::replace(&mut front.graphs, Vec::new(alloc));
+    front.graphs = open_graphs(alloc, globals, read)?;
+    Ok(front)
+}
+
+/// The report of what rounds with this plan find of the threads of what was read.
+fn report_threads(
+    alloc: Global,
+    plan: &Plan,
+    delay: u32,
+    narrow: u32,
+    front: ThreadsFront,
+) -> Result<ThreadsReport, AllocError>
+    requires planned { plan.now ≡ threaded.threads_plan delay narrow front.constants.items }
+    requires read { (source : List ℕ) × IsReadOf source front }
+    ensures { IfOk result (λ r. (source : List ℕ) → IsReadOf source front →
+        IsThreadsOf delay narrow source (threads_report_of r)) }
+{
+    threads_hold();
+    let opened = open_threads(alloc, front)?;
+    let globals = opened.resolution.program.globals.as_slice();
+    let graphs = opened.graphs.as_slice();
+    let end = analyse_threads(alloc, plan, globals, graphs)?;
+    let outline = Outline {
+        tree: &opened.tree,
+        labels: &opened.resolution.labels,
+        graphs,
+    };
+    let report = list(alloc, &outline, delay, narrow, &end)?;
+    Ok(report)
+}
+
 /// What rounds over boxes, with this delay and so many narrowings, find of the threads of a source, or its one refusal;
 /// memory may be wanting. A source past the limit of 65,536 bytes is refused by its first bytes, so that no more than
 /// one byte past the limit need be given.
@@ -59,18 +97,8 @@ pub fn threads_source(
     ensures answered { IfOk result (λ r. IsThreadsOf delay narrow bytes.now (threads_report_of r)) }
     ensures refused { IfRefused result (λ r. RefuseThreads Spells bytes.now r.cause r.place) }
 {
-    threads_hold();
-    let mut front = read_threads(alloc, bytes)?;
-    let read = mem::replace(&mut front.graphs, Vec::new(alloc));
-    let globals = front.resolution.program.globals.as_slice();
-    let graphs = open_graphs(alloc, globals.len(), read)?;
+    let front = read_threads(alloc, bytes)?;
     let plan = Plan::of(alloc, threads_options(delay, narrow), &front.constants)?;
-    let end = analyse_threads(alloc, &plan, globals, &graphs)?;
-    let outline = Outline {
-        tree: &front.tree,
-        labels: &front.resolution.labels,
-        graphs: &graphs,
-    };
-    let report = list(alloc, &outline, delay, narrow, &end)?;
+    let report = report_threads(alloc, &plan, delay, narrow, front)?;
     Ok(report)
 }
