@@ -1,10 +1,13 @@
-//! The analyser: words of a command line, a source on standard input, a report on standard output.
+//! The analyser: words of a command line, a source in a file or on standard input, a report on
+//! standard output. What goes wrong with words or files is told on standard error.
 #![tactic(auto)]
 
-use lra_edge::{RealSink, RealSource};
+use lra_edge::{RealSink, RealSource, write_whole};
 use lra_top::{Status, run};
+use lra_words::{Request, read_request};
 use std::env;
-use std::io::ErrorKind;
+use std::fs::File;
+use std::io::{Error, ErrorKind, Read};
 use std::process::ExitCode;
 use std::rt::Env;
 
@@ -24,16 +27,71 @@ fn words_of(rt: &(impl Env + AllocGlobal)) -> Result<Vec<String>, Status> {
     }
 }
 
-/// Ends with the exit number of the status. Nothing is written where there are no words.
-fn main(rt: HostRuntime) -> ExitCode {
-    let status = match words_of(&rt) {
-        Ok(words) => run(
-            rt.alloc(),
-            &words,
-            &mut RealSource::new(rt.stdin()),
-            &mut RealSink::new(rt.stdout()),
-        ),
-        Err(status) => status,
+/// Tells why the input of this name can't be read. Where that can't be told, the exit status still does.
+fn tell_fault(rt: &HostRuntime, name: &str, error: Error) {
+    let _ = eprintln!(rt; "lra: {name}: {error}");
+}
+
+/// Runs the words' command over the reader, and tells why it couldn't be read, where that is so.
+fn run_over<R: Read + Drop>(rt: &HostRuntime, words: &[String], name: &str, reader: R) -> Status {
+    let mut source = RealSource::new(reader);
+    let mut sink = RealSink::new(rt.stdout());
+    let status = run(rt.alloc(), words, &mut source, &mut sink);
+    if status == Status::ReadFault {
+        if let Some(error) = source.last_error() {
+            tell_fault(rt, name, error);
+        }
+    }
+    status
+}
+
+/// Runs the words' command over standard input.
+fn run_input(rt: &HostRuntime, words: &[String]) -> Status {
+    run_over(rt, words, "standard input", rt.stdin())
+}
+
+/// Runs the words' command over the file of this name.
+fn run_file(rt: &HostRuntime, words: &[String], name: &str) -> Status {
+    match File::open(rt, name) {
+        Ok(file) => run_over(rt, words, name, file),
+        Err(error) => {
+            tell_fault(rt, name, error);
+            Status::ReadFault
+        }
+    }
+}
+
+/// Shows help or the version.
+fn show(rt: &HostRuntime, text: &str) -> ExitCode {
+    match write_whole(&mut RealSink::new(rt.stdout()), text.as_bytes()) {
+        Ok(()) => ExitCode::SUCCESS,
+        Err(_) => ExitCode::from(Status::WriteFault.exit_number()),
+    }
+}
+
+/// Answers the words as `run` does, and tells why they aren't taken.
+fn refuse(rt: &HostRuntime, words: &[String], why: &str) -> Status {
+    let status = run_input(rt, words);
+    let _ = eprint!(rt; "{why}");
+    status
+}
+
+/// Does what the words ask for.
+fn answer(rt: &HostRuntime, words: &[String]) -> ExitCode {
+    let status = match read_request(rt.alloc(), words) {
+        Ok(Request::Show(text)) => return show(rt, &text),
+        Ok(Request::Run(Some(name))) => run_file(rt, words, name),
+        Ok(Request::Run(None)) => run_input(rt, words),
+        Ok(Request::Refuse(why)) => refuse(rt, words, &why),
+        Err(_) => Status::Memory,
     };
     ExitCode::from(status.exit_number())
+}
+
+/// Ends with the exit number of the status. Nothing is written where there are no words.
+fn main(rt: HostRuntime) -> ExitCode {
+    match words_of(&rt) {
+        Ok(words) => answer(&rt, &words),
+        Err(status) => ExitCode::from(status.exit_number()),
+    }
 }

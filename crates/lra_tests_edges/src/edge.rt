@@ -349,6 +349,25 @@ fn device_writes(mut writer: Device, told: &[Result<usize, Failed>], calls: u32)
     same && writer.calls == calls
 }
 
+/// Of such a device's first read, the error that is told, if there is one.
+fn told_error(interrupts: u32, failure: Option<ErrorKind>) -> Option<ErrorKind> {
+    let mut source = RealSource::new(make_device(interrupts, failure, 1));
+    if source.last_error().is_some() {
+        return None;
+    }
+    match source.read(&mut [0u8; 3]) {
+        Ok(_) | Err(Failed) => source.last_error().map(|error| error.kind()),
+    }
+}
+
+#[test]
+fn the_last_error_is_told(rt: HostRuntime) {
+    assert!(rt; told_error(0, None).is_none());
+    assert!(rt; told_error(0, Some(ErrorKind::IsADirectory)) == Some(ErrorKind::IsADirectory));
+    assert!(rt; told_error(3, Some(ErrorKind::TimedOut)) == Some(ErrorKind::TimedOut));
+    assert!(rt; told_error(9, None) == Some(ErrorKind::Interrupted));
+}
+
 #[test]
 fn interrupted_calls_are_tried_again_eight_times(rt: HostRuntime) {
     for (interrupts, failure, moves, given, taken, calls) in TRIES.iter() {

@@ -1,5 +1,8 @@
-use lra_options::{BEST_OPTIONS, DEFAULT_OPTIONS, Domain, Options};
-use lra_words::{Command, Format, PlainCommand, Refusal, find_command, parse_command};
+use lra_options::{BEST_OPTIONS, DEFAULT_OPTIONS, Domain, NUMBER_OPTIONS, Options};
+use lra_words::{
+    Command, Format, PLAIN_COMMANDS, PlainCommand, Refusal, Request, find_command, parse_command,
+    read_request,
+};
 use std::alloc::{AllocError, Global};
 use std::process::Abort;
 
@@ -325,6 +328,63 @@ static THREADS: [(&str, Command); 3] = [
     ),
 ];
 
+const CALC: Command = Command::Plain(PlainCommand::Calc);
+
+const VERIFY: Command = Command::Plain(PlainCommand::Verify);
+
+const CERTIFY: Command = Command::Plain(PlainCommand::Certify);
+
+const SAMPLE: Command = Command::Sample { seed: 1, size: 2 };
+
+const BACK_FROM_3: Command = Command::Back { point: 3 };
+
+const DEFAULT_THREADS: Command = Command::Threads {
+    delay: 1,
+    narrow: 1,
+};
+
+const ANALYSE_LIMITED: Command = Command::Analyse {
+    options: Options {
+        limited: true,
+        ..DEFAULTS
+    },
+    format: Format::Lines,
+};
+
+/// Lines, the commands that they ask for, and the files that they name; `-`, or none, is standard input.
+static FILES: [(&str, Command, Option<&str>); 26] = [
+    ("lra analyse", ANALYSE, None),
+    ("lra analyse --", ANALYSE, None),
+    ("lra analyse -", ANALYSE, None),
+    ("lra analyse -- -", ANALYSE, None),
+    ("lra analyse --domain box -", ANALYSE_BOXES, None),
+    ("lra analyse a.c", ANALYSE, Some("a.c")),
+    ("lra analyse ", ANALYSE, Some("")),
+    ("lra analyse analyse", ANALYSE, Some("analyse")),
+    (
+        "lra analyse --domain box ../a/b.c",
+        ANALYSE_BOXES,
+        Some("../a/b.c"),
+    ),
+    ("lra analyse a.c --domain=box", ANALYSE_BOXES, Some("a.c")),
+    ("lra analyse --limited yes", ANALYSE_LIMITED, Some("yes")),
+    ("lra analyse -- --limited", ANALYSE, Some("--limited")),
+    ("lra analyse --limited -- a.c", ANALYSE_LIMITED, Some("a.c")),
+    ("lra back --point 3 -", BACK_FROM_3, None),
+    ("lra back --point 3 4", BACK_FROM_3, Some("4")),
+    ("lra back a.c --point=3", BACK_FROM_3, Some("a.c")),
+    ("lra threads -", DEFAULT_THREADS, None),
+    ("lra threads a.c", DEFAULT_THREADS, Some("a.c")),
+    ("lra threads -- a.c", DEFAULT_THREADS, Some("a.c")),
+    ("lra calc -", CALC, None),
+    ("lra calc calc", CALC, Some("calc")),
+    ("lra verify -", VERIFY, None),
+    ("lra verify calc", VERIFY, Some("calc")),
+    ("lra certify -", CERTIFY, None),
+    ("lra certify a.c", CERTIFY, Some("a.c")),
+    ("lra sample --seed 1 --size 2", SAMPLE, None),
+];
+
 /// The words of a line, between single spaces.
 fn words_of(alloc: Global, line: &str) -> Result<Vec<String>, AllocError> {
     let mut words = Vec::new(alloc);
@@ -334,11 +394,22 @@ fn words_of(alloc: Global, line: &str) -> Result<Vec<String>, AllocError> {
     Ok(words)
 }
 
-/// Whether the words of the line ask for the command.
-fn asks(alloc: Global, line: &str, chosen: Command) -> Result<bool, AllocError> {
+/// Whether the words of the line ask for the command over the file.
+fn asks_over(
+    alloc: Global,
+    line: &str,
+    chosen: Command,
+    file: Option<&str>,
+) -> Result<bool, AllocError> {
     let words = words_of(alloc, line)?;
     let taken = parse_command(alloc, &words) == Ok(chosen);
-    Ok(taken && find_command(alloc, &words) == Ok(Some(chosen)))
+    let found = find_command(alloc, &words) == Ok(Some(chosen));
+    Ok(taken && found && read_request(alloc, &words) == Ok(Request::Run(file)))
+}
+
+/// Whether they ask for the command over standard input.
+fn asks(alloc: Global, line: &str, chosen: Command) -> Result<bool, AllocError> {
+    asks_over(alloc, line, chosen, None)
 }
 
 /// Checks lines that ask for commands.
@@ -359,11 +430,25 @@ fn commands_are_taken(rt: HostRuntime) {
     are_taken(&rt, rt.alloc(), &THREADS);
 }
 
-/// Whether the words of the line ask for no command.
+#[test]
+fn files_are_named(rt: HostRuntime) {
+    for (line, chosen, file) in FILES.iter() {
+        let named = asks_over(rt.alloc(), line, *chosen, *file);
+        assert!(rt; named == Ok(true), "{line}");
+    }
+}
+
+/// Whether the words ask for no command.
+fn are_none(alloc: Global, words: &[String]) -> bool {
+    let refused = parse_command(alloc, words) == Err(Refusal::Usage);
+    refused && find_command(alloc, words) == Ok(None)
+}
+
+/// Whether the words of the line ask for nothing that the program takes.
 fn asks_none(alloc: Global, line: &str) -> Result<bool, AllocError> {
     let words = words_of(alloc, line)?;
-    let refused = parse_command(alloc, &words) == Err(Refusal::Usage);
-    Ok(refused && find_command(alloc, &words) == Ok(None))
+    let told = matches!(read_request(alloc, &words)?, Request::Refuse(_));
+    Ok(told && are_none(alloc, &words))
 }
 
 /// Checks lines that ask for no command.
@@ -375,44 +460,32 @@ fn are_other(rt: &impl Abort, alloc: Global, lines: &[&str]) {
 }
 
 /// No subcommand, a stray word, an unknown one, an option in the wrong place.
-static STRAY: [&str; 23] = [
+static STRAY: [&str; 25] = [
     "lra",
     "",
     "lra ",
     "lra --",
+    "lra -",
     "lra -- calc",
     "lra an",
     "lra Analyse",
     "lra report",
     "lra --json analyse",
-    "lra calc calc",
-    "lra analyse extra",
-    "lra analyse -",
-    "lra analyse -- x",
-    "lra analyse -- --json",
-    "lra calc x",
-    "lra calc -- x",
+    "lra a.c analyse",
+    "lra analyse a.c b.c",
+    "lra analyse - -",
+    "lra analyse a.c -- b.c",
+    "lra analyse --version",
+    "lra calc a b",
     "lra calc --json",
-    "lra verify x",
-    "lra verify calc",
+    "lra certify a.c b.c",
+    "lra verify a b",
     "lra verify --json",
     "lra verify --domain box",
     "lra analyse --seed 1",
     "lra sample --seed 1 --size 1 --json",
-];
-
-/// Help and version.
-static HELP: [&str; 10] = [
-    "lra help",
-    "lra help analyse",
-    "lra --help",
-    "lra -h",
-    "lra analyse --help",
-    "lra analyse -h",
-    "lra calc --help",
-    "lra --version",
-    "lra -V",
-    "lra analyse --version",
+    "lra sample --seed 1 --size 1 a.c",
+    "lra sample --seed 1 --size 1 -",
 ];
 
 /// Domains and parts out of their range, without their value, twice.
@@ -433,7 +506,7 @@ static FORMS: [&str; 13] = [
 ];
 
 /// Delays, narrowings and switches out of their range, without their value, with one, twice.
-static COUNTS: [&str; 17] = [
+static COUNTS: [&str; 16] = [
     "lra analyse --delay",
     "lra analyse --delay=",
     "lra analyse --delay 9",
@@ -447,7 +520,6 @@ static COUNTS: [&str; 17] = [
     "lra analyse --narrow=-1",
     "lra analyse --narrow=1 --narrow 1",
     "lra analyse --limited=true",
-    "lra analyse --limited yes",
     "lra analyse --limited --limited",
     "lra analyse --json=false",
     "lra analyse --json --json",
@@ -455,7 +527,7 @@ static COUNTS: [&str; 17] = [
 
 /// What an analysis of threads isn't asked.
 static NOT_THREADS: [&str; 7] = [
-    "lra threads x",
+    "lra threads a.c b.c",
     "lra threads --delay 9",
     "lra threads --narrow 5",
     "lra threads --narrow",
@@ -520,7 +592,7 @@ static POINTS: [&str; 17] = [
     "lra back --point x",
     "lra back --point 18446744073709551617",
     "lra back --point 1 --point 1",
-    "lra back --point 1 1",
+    "lra back --point 1 a.c b.c",
     "lra back --point 1 --json",
     "lra back --point 1 --domain poly",
     "lra analyse --point 1",
@@ -529,7 +601,6 @@ static POINTS: [&str; 17] = [
 #[test]
 fn other_lines_ask_for_nothing(rt: HostRuntime) {
     are_other(&rt, rt.alloc(), &STRAY);
-    are_other(&rt, rt.alloc(), &HELP);
     are_other(&rt, rt.alloc(), &FORMS);
     are_other(&rt, rt.alloc(), &COUNTS);
     are_other(&rt, rt.alloc(), &APART);
@@ -542,4 +613,215 @@ fn other_lines_ask_for_nothing(rt: HostRuntime) {
 fn no_words_are_refused(rt: HostRuntime) {
     let refused = parse_command(rt.alloc(), &[]) == Err(Refusal::Usage);
     assert!(rt; refused);
+}
+
+/// Whether the text is of help, with an example and the exit statuses, and no line of it is over 100 columns.
+fn is_help(text: &str) -> bool {
+    text.contains("Usage: lra")
+        && text.contains("\nExample:\n  lra ")
+        && (0..7).all(|status| text.contains(STATUSES[status]))
+        && text.lines().all(|line| line.len() <= 100)
+}
+
+/// How the line of each exit status begins.
+static STATUSES: [&str; 7] = [
+    "\n  0  ", "\n  1  ", "\n  2  ", "\n  3  ", "\n  4  ", "\n  5  ", "\n  6  ",
+];
+
+/// Lines that ask for the program's help.
+static HELP: [&str; 4] = ["lra help", "lra --help", "lra -h", "lra -h calc"];
+
+/// Lines that ask for help on an analysis.
+static HELP_ON_ANALYSE: [&str; 4] = [
+    "lra help analyse",
+    "lra analyse --help",
+    "lra analyse -h",
+    "lra analyse --domain box a.c --help",
+];
+
+/// Lines that ask for help on another command, and parts of what it tells.
+static HELP_ON: [(&str, &[&str]); 7] = [
+    (
+        "lra help sample",
+        &["Usage: lra sample --seed <N> --size <N>"],
+    ),
+    ("lra sample -h", &["0 to 18446744073709551615", "0 to 400"]),
+    (
+        "lra back --help",
+        &["Usage: lra back --point <N> [FILE]", "1 to 2048"],
+    ),
+    (
+        "lra help threads",
+        &[
+            "Usage: lra threads [OPTIONS] [FILE]",
+            "--delay <N>",
+            "--narrow <N>",
+        ],
+    ),
+    ("lra calc --help", &["Usage: lra calc [FILE]"]),
+    ("lra verify --help", &["Usage: lra verify [FILE]"]),
+    ("lra help certify", &["Usage: lra certify [FILE]"]),
+];
+
+/// Parts of the program's help.
+static EACH_COMMAND: [&str; 11] = [
+    "Usage: lra <COMMAND>",
+    "\n  analyse  ",
+    "\n  sample   ",
+    "\n  back     ",
+    "\n  threads  ",
+    "\n  calc     ",
+    "\n  verify   ",
+    "\n  certify  ",
+    "\n  help     ",
+    "\n  -h, --help",
+    "\n  -V, --version",
+];
+
+/// Parts of the help on an analysis.
+static OF_ANALYSE: [&str; 11] = [
+    "Usage: lra analyse [OPTIONS] [FILE]",
+    "\n  [FILE]  ",
+    "--domain <DOMAIN>  ",
+    "[default: poly] [possible values: poly, box, oct]",
+    "--parts <N>  ",
+    "--delay <N>  ",
+    "--narrow <N>  ",
+    "--limited  ",
+    "--thresholds  ",
+    "--fits  ",
+    "--best  ",
+];
+
+/// What the words of the line are shown, and nothing where they ask for something else.
+fn shown(alloc: Global, line: &str) -> Result<String, AllocError> {
+    let words = words_of(alloc, line)?;
+    match read_request(alloc, &words)? {
+        Request::Show(text) if are_none(alloc, &words) => Ok(text),
+        _ => Ok(String::new(alloc)),
+    }
+}
+
+/// Whether the line is shown help with these parts.
+fn shows(alloc: Global, line: &str, parts: &[&str]) -> Result<bool, AllocError> {
+    let text = shown(alloc, line)?;
+    Ok(is_help(&text) && parts.iter().all(|part| text.contains(part)))
+}
+
+/// Whether the help of an analysis tells the range and the default of each number.
+fn tells_ranges(alloc: Global) -> Result<bool, AllocError> {
+    let text = shown(alloc, "lra analyse -h")?;
+    for option in NUMBER_OPTIONS {
+        let (least, greatest) = (option.least(), option.greatest());
+        let default = option.default_text();
+        let told = format!(in alloc; "{least} to {greatest} [default: {default}]\n")?;
+        if !text.contains(told.as_str()) {
+            return Ok(false);
+        }
+    }
+    Ok(true)
+}
+
+/// Checks lines that are shown help with these parts.
+fn are_shown(rt: &impl Abort, alloc: Global, lines: &[&str], parts: &[&str]) {
+    for line in lines {
+        let told = shows(alloc, line, parts);
+        assert!(rt; told == Ok(true), "{line}");
+    }
+}
+
+#[test]
+fn help_is_shown(rt: HostRuntime) {
+    are_shown(&rt, rt.alloc(), &HELP, &EACH_COMMAND);
+    are_shown(&rt, rt.alloc(), &HELP_ON_ANALYSE, &OF_ANALYSE);
+    for (line, parts) in HELP_ON.iter() {
+        are_shown(&rt, rt.alloc(), &[*line], parts);
+    }
+    assert!(rt; tells_ranges(rt.alloc()) == Ok(true));
+}
+
+/// Whether the line is shown the version.
+fn shows_version(alloc: Global, line: &str) -> Result<bool, AllocError> {
+    let text = shown(alloc, line)?;
+    Ok(text.starts_with("lra 0.9.0 (logic ") && text.ends_with(")\n"))
+}
+
+#[test]
+fn the_version_is_shown(rt: HostRuntime) {
+    for line in ["lra --version", "lra -V", "other -V"] {
+        let told = shows_version(rt.alloc(), line);
+        assert!(rt; told == Ok(true), "{line}");
+    }
+}
+
+/// Lines that aren't taken, and parts of what is told of them.
+static FAULTS: [(&str, &[&str]); 12] = [
+    (
+        "lra analyse --domian box",
+        &["error: unexpected argument '--domian' found", "'--domain'"],
+    ),
+    (
+        "lra analyze",
+        &["error: unrecognized subcommand 'analyze'", "'analyse'"],
+    ),
+    ("lra", &["error: 'lra' requires a subcommand", "Usage: lra"]),
+    (
+        "lra analyse --parts 17",
+        &["error: invalid value '17' for '--parts <N>': 17 is not in 1..=16"],
+    ),
+    (
+        "lra analyse --domain cube",
+        &[
+            "error: invalid value 'cube' for '--domain <DOMAIN>'",
+            "poly, box, oct",
+        ],
+    ),
+    (
+        "lra analyse --fits --fits",
+        &["error: the argument '--fits' cannot be used multiple times"],
+    ),
+    ("lra analyse a b", &["error: unexpected argument 'b' found"]),
+    (
+        "lra calc --json",
+        &["error: unexpected argument '--json' found"],
+    ),
+    (
+        "lra analyse --version",
+        &["error: unexpected argument '--version' found"],
+    ),
+    (
+        "lra back",
+        &[
+            "error: the following required arguments were not provided",
+            "--point <N>",
+        ],
+    ),
+    (
+        "lra analyse --best --limited",
+        &["error: these options can't be given together"],
+    ),
+    (
+        "lra analyse --thresholds --domain oct",
+        &["error: these options can't be given together"],
+    ),
+];
+
+/// Whether the line isn't taken, and these parts are told of it.
+fn tells(alloc: Global, line: &str, parts: &[&str]) -> Result<bool, AllocError> {
+    let words = words_of(alloc, line)?;
+    match read_request(alloc, &words)? {
+        Request::Refuse(why) => {
+            let ended = why.ends_with("For more information, try '--help'.\n");
+            Ok(ended && parts.iter().all(|part| why.contains(part)))
+        }
+        _ => Ok(false),
+    }
+}
+
+#[test]
+fn refusals_say_why(rt: HostRuntime) {
+    for (line, parts) in FAULTS.iter() {
+        let told = tells(rt.alloc(), line, parts);
+        assert!(rt; told == Ok(true), "{line}");
+    }
 }

@@ -10,7 +10,7 @@ use Rattle.clap.specs.Walk.{nothing_held}
 use Rattle.clap.specs.declared.builder.value_parser.ValueParser.{ValueParser}
 use Rattle.clap.specs.declared.builder.value_parser.ValueParser.TheVariants as vp
 use Rattle.clap.proofs.OnLiterals.{clap_on_literals}
-use Rattle.lra_words.specs.Chosen.{Asks, AsksNone, IsWithinRanges, command_of}
+use Rattle.lra_words.specs.Chosen.{Asks, AsksNone, AsksOver, IsWithinRanges, command_of, named_file}
 use Rattle.lra_words.specs.CommandLine.{TakesDomains, command_line}
 use Rattle.lra_words.specs.declared.chosen.Command.{Command}
 use Rattle.lra_words.proofs.SameWalk.{placed, in_app, entered_same, stop_same}
@@ -89,6 +89,10 @@ module _ (words : List Text) where
   one_asked c d asks other =
       let both : Some c ≡ Some d = sym asks.3 ∙ ap command_of (one_rows asks.0 other.0 asks.1 other.1) ∙ other.3 in
       ap (λ (o : Option Command). unwrap_or o c) both
+
+  -- over one file
+  pub one_named : (c d : Command) (file other : Option Text) → AsksOver words c file → AsksOver words d other → file ≡ other
+  one_named c d file other asks beside = sym asks.4 ∙ ap named_file (one_rows asks.0 beside.0 asks.1 beside.1) ∙ beside.4
 
   -- whose values lie in their ranges
   pub asks_within : (c : Command) → Asks words c → IsWithinRanges c

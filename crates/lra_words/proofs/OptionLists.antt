@@ -25,7 +25,7 @@ pub stays_local : (new old start own : Bool) → new ≡ (old || own) → own �
 stays_local _ true _ _ is _ before = is ∙ before
 stays_local _ false _ _ is local before = is ∙ local ∙ before
 
--- one command without options more
+-- one subcommand more
 pub commands_on : {A : Type 0} (shape : A → Shape) (now next start : App) (own : Shape) (xs : List A) (i : ℕ) (d : A) → i < length xs
     → now ≡ fold (λ so x. with_subcommand so (shape x)) start (take i xs) → next ≡ with_subcommand now own → own ≡ shape (get_or xs i d)
     → next ≡ fold (λ so x. with_subcommand so (shape x)) start (take (i + 1) xs)

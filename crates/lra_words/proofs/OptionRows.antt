@@ -1,14 +1,14 @@
--- What a walk without a fault leaves in the rows, where the command has options and flags alone, each
--- to be used once.
-use Rattle.std.proofs.Common.{◌≡◌, ◌∙◌, ◌++◌, ℕ, Bool, List, [], ◌∷◌, Option, Some, None, ap, codes, refl, sym, subst, true, false, zero, suc, append-nil, arith}
+-- What a walk without a fault leaves in the rows, where each argument of the command is to be used
+-- once.
+use Rattle.std.proofs.Common.{◌≡◌, ◌∙◌, ◌++◌, ◌&&◌, ℕ, Bool, List, [], ◌∷◌, Option, Some, None, ap, codes, refl, sym, subst, true, false, zero, suc, append-nil, arith}
 use Rattle.std.proofs.lemmas.Bool.{ne_eqb}
 use Rattle.std.specs.Prelude.{find, fold, is_some, length, slice_get, unwrap_or, if◌then◌else◌}
 use Rattle.std.specs.Option.{option_map_or}
 use Rattle.std.specs.Str.{bytes_eq, chars}
 use Rattle.std.proofs.lemmas.Slice.Eq.{bytes_eq-Decides}
 use Rattle.clap.specs.Facts.{parser_of_value, unwrap_or_range}
-use Rattle.clap.specs.Faults.{action_fault, bundle_step_fault, check_fault, default_fault, level_fault, defaults_fault, flags_fault, given_default_fault, long_fault, option_fault, react_fault}
-use Rattle.clap.specs.Faults.{repeat_fault, set_fault, settle_fault, short_fault, bundle_fault, flag_word_fault, other_fault, step_fault, turn_fault, use_fault, values_fault, walk_fault, word_fault}
+use Rattle.clap.specs.Faults.{action_fault, bundle_step_fault, check_fault, default_fault, level_fault, defaults_fault, flags_fault, given_default_fault, long_fault, option_fault, positional_fault, react_fault}
+use Rattle.clap.specs.Faults.{repeat_fault, set_fault, settle_fault, short_fault, stray_fault, bundle_fault, flag_word_fault, other_fault, step_fault, turn_fault, use_fault, values_fault, walk_fault, word_fault}
 use Rattle.clap.specs.Kinds.{Kinds, or_else, range_kinds}
 use Rattle.clap.specs.Lexer.{long_of, short_of}
 use Rattle.clap.specs.Simple.{Shape}
@@ -16,9 +16,9 @@ use Rattle.clap.specs.Takes.{is_given}
 use Rattle.clap.specs.ValueTests.{accepts}
 use Rattle.clap.specs.Values.{read_as}
 use Rattle.clap.specs.Walk.{Held, Names, Outcome, Row, Rule, Step, Text, Waiting, Walk, action_of, after_flag, after_step, arg_by_id, arg_by_index, arg_by_long, arg_by_short, at_row, attached_value}
-use Rattle.clap.specs.Walk.{bundle, bundle_met, bundle_step, done, finished, first_of, has_row, idle, is_empty, long_met, long_or_other, more_values, most_values, next, nothing_held, rows_after}
+use Rattle.clap.specs.Walk.{bundle, bundle_met, bundle_step, done, finished, first_of, has_row, idle, is_empty, is_pending, long_met, long_or_other, more_values, most_values, next, nothing_held, rows_after}
 use Rattle.clap.specs.Walk.{short_or_plain, subcommand_or_other, to_positional, one_of, option, option_met, option_word, plain, plain_word, positional, reacted, reading_by, refused, settled}
-use Rattle.clap.specs.Walk.{settled_rows, short_met, subcommand, subcommand_met, takes_values, trailing, used, value, values_or_missing, waits, walk, walk_from, walked, walked_from, with_default}
+use Rattle.clap.specs.Walk.{settled_rows, short_met, subcommand, subcommand_met, takes_several, takes_values, trailing, used, value, values_or_missing, waits, walk, walk_from, walked, walked_from, with_default}
 use Rattle.clap.specs.Walk.{with_values, without, word_met}
 use Rattle.clap.specs.declared.builder.action.ArgAction.TheVariants.{Help, Set, SetTrue}
 use Rattle.clap.specs.declared.error.kind.ErrorKind.TheVariants as kind
@@ -142,7 +142,7 @@ found_own c p (x ∷ xs) a h e = go (p x) refl (λ rest. found_own c p xs a h.1 
         subst (IsOwn c) (ap (λ (o : Option Rule). unwrap_or o x) same) h.0
     go false t rec = rec (rw t at e)
 
-module _ (s : Shape) (once : s.args_override_self ≡ false) (own : AllOwn s.rules s.rules) (no_place : (i : ℕ) → arg_by_index s.rules i ≡ None) where
+module _ (s : Shape) (once : s.args_override_self ≡ false) (own : AllOwn s.rules s.rules) where
   use_keeps : (a : Rule) → IsOwn s.rules a → (values : List Text) (rows : List Row) → use_fault s.args_override_self a values rows ≡ []
       → RowsFit s.rules rows → RowsFit s.rules (used a values rows)
   use_keeps a is values rows e fit =
@@ -257,11 +257,21 @@ module _ (s : Shape) (once : s.args_override_self ≡ false) (own : AllOwn s.rul
       go true t f = rw t fit
       go false t f = rw t (flag_word_keeps w word h (rw t at f) fit)
 
-  stepped_keeps : (word : Text) (w : Walk) (h : Held) (step : Step) → RowsFit s.rules h.rows → RowsFit s.rules (after_step s.rules word w h step).held.rows
-  stepped_keeps word w h (next waiting) fit = fit
-  stepped_keeps word w h (trailing position) fit = fit
-  stepped_keeps word w h (subcommand name) fit = fit
-  stepped_keeps word w h value fit = rw (no_place w.position) fit
+  stepped_keeps : (word : Text) (w : Walk) (h : Held) (step : Step) → step_fault s w.position h step ≡ [] → RowsFit s.rules h.rows
+      → RowsFit s.rules (after_step s.rules word w h step).held.rows
+  stepped_keeps word w h (next waiting) e fit = fit
+  stepped_keeps word w h (trailing position) e fit = fit
+  stepped_keeps word w h (subcommand name) e fit = fit
+  stepped_keeps word w h value e fit = at (arg_by_index s.rules w.position) e
+    where
+      at : (o : Option Rule) → option_map_or (λ a. positional_fault s.rules s.args_override_self a h) o (stray_fault s) ≡ []
+          → RowsFit s.rules (to_positional s.rules o word w h).held.rows
+      at None f = fit
+      at (Some a) f = more (is_pending a h.pending && takes_several a) refl
+        where
+          more : (b : Bool) → (is_pending a h.pending && takes_several a) ≡ b → RowsFit s.rules (to_positional s.rules (Some a) word w h).held.rows
+          more true t = rw t fit
+          more false t = rw t (settle_keeps h (rw t at f) fit)
 
   turn_keeps : (w : Walk) (word : Text) → turn_fault s [] w word ≡ [] → RowsFit s.rules w.held.rows → RowsFit s.rules (walked s.rules [] w word).held.rows
   unfolding walked
@@ -276,7 +286,7 @@ module _ (s : Shape) (once : s.args_override_self ≡ false) (own : AllOwn s.rul
       go (Some p) f = fit
       go None f =
           let parts = or_both (word_fault s [] w.is_trailing w.waiting word w.held) (step_fault s w.position met.0 met.1) f in
-          stepped_keeps word w met.0 met.1 (word_keeps w.is_trailing w.waiting w.position word w.held parts.0 fit)
+          stepped_keeps word w met.0 met.1 parts.1 (word_keeps w.is_trailing w.waiting w.position word w.held parts.0 fit)
 
   -- a walk over all the words
   pub walk_keeps : (words : List Text) (w : Walk) → walk_fault s [] w words ≡ [] → RowsFit s.rules w.held.rows → RowsFit s.rules (fold (walked s.rules []) w words).held.rows
@@ -438,13 +448,12 @@ level_parts s names words has_subcommand below e =
     (one.0, two.0, three.0, four.0, four.1)
 
 -- the rows of a level without a fault fit
-pub level_rows : (s : Shape) → s.args_override_self ≡ false → AllOwn s.rules s.rules → ((i : ℕ) → arg_by_index s.rules i ≡ None)
-    → (words : List Text) → level_fault s [] nothing_held words false [] ≡ [] → RowsFit s.rules (rows_after s.rules [] words)
-level_rows s once own no_place words e =
+pub level_rows : (s : Shape) → s.args_override_self ≡ false → AllOwn s.rules s.rules → (words : List Text) → level_fault s [] nothing_held words false [] ≡ [] → RowsFit s.rules (rows_after s.rules [] words)
+level_rows s once own words e =
     let parts = level_parts s [] words false [] e in
     let end = (walk s.rules [] nothing_held words).held in
-    let walked = walk_keeps s once own no_place words (walk_from nothing_held) parts.0 tt in
-    defaults_keep s.rules s.rules (settled s.rules end).rows own parts.3 (settle_keeps s once own no_place end parts.2 walked)
+    let walked = walk_keeps s once own words (walk_from nothing_held) parts.0 tt in
+    defaults_keep s.rules s.rules (settled s.rules end).rows own parts.3 (settle_keeps s once own end parts.2 walked)
 
 -- an option with a default has a value
 pub defaulted_value : (s : Shape) (words : List Text) (a : Rule) → RowsFit s.rules (rows_after s.rules [] words) → arg_by_id s.rules a.id ≡ Some a

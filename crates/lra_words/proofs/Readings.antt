@@ -1,6 +1,6 @@
 -- What the getters of the matches read, by the rows.
-use Rattle.std.proofs.Common.{◌≡◌, ◌≢◌, ◌∙◌, ◌^◌, ◌&&◌, ℕ, Bool, List, [], ◌∷◌, Option, Some, None, Result, Ok, Err, ap, codes, refl, true, false, nat_lt, length, lt-ltb}
-use Rattle.std.specs.Prelude.{option_and_then, option_map}
+use Rattle.std.proofs.Common.{◌≡◌, ◌≢◌, ◌∙◌, ◌^◌, ◌&&◌, ℕ, Bool, List, [], ◌∷◌, Option, Some, None, Result, Ok, Err, ap, codes, refl, sym, true, false, nat_lt, length, lt-ltb}
+use Rattle.std.specs.Prelude.{option_and_then, option_map, if◌then◌else◌}
 use Rattle.std.specs.List.{list_all}
 use Rattle.std.specs.Char.{digit_value}
 use Rattle.std.specs.Str.{bytes_eq}
@@ -12,7 +12,7 @@ use Rattle.clap.specs.ValueTests.{is_numeral}
 use Rattle.clap.specs.Words.{ReadsOne, Text, first_value, one_text, rows_of}
 use Rattle.clap.specs.declared.parser.matches.Found.{Found}
 use Rattle.clap.proofs.WalkLemmas.{both, first_value-rows, one_text-rows}
-use Rattle.lra_words.specs.Chosen.{domain_at, domain_named, flag_at, number_at, number_below, truth_of}
+use Rattle.lra_words.specs.Chosen.{domain_at, domain_named, file_of, flag_at, number_at, number_below, truth_of}
 
 digits_pass : (ds : List ℕ) → AllDigits 10 ds → list_all (λ d. nat_lt (digit_value d) 10) ds ≡ true
 digits_pass [] h = refl
@@ -71,6 +71,19 @@ flag_got E f id r none value = go (one_text f id) refl ∙ ap (option_and_then t
     go : (o : Option Text) → one_text f id ≡ o → r ≡ option_and_then truth_of (one_text f id)
     go None e = rw e (none e)
     go (Some t) e = rw e (truth_read E t r (value t e))
+
+-- `get_str`, of a file's name
+pub file_got : (f : Found) (r o : Option (Bor Text)) → option_map (λ s. s.now) r ≡ first_value f (codes "file") → r ≡ o
+    → option_and_then (λ name. if bytes_eq name (codes "-") then None else Some name) (option_map (λ s. s.now) o) ≡ file_of (rows_of f)
+file_got f r o e is =
+    ap (option_and_then (λ (name : Text). if bytes_eq name (codes "-") then None else Some name)) (ap (option_map (λ s. s.now)) (sym is) ∙ e ∙ first_value-rows f (codes "file"))
+
+module _ (f : Found) (r : Option (Bor Text)) (name : Bor Text) (e : option_map (λ s. s.now) r ≡ first_value f (codes "file")) (is : r ≡ Some name) where
+  pub dash_got : bytes_eq name.now (codes "-") ≡ true → None ≡ file_of (rows_of f)
+  dash_got t = rw t at (file_got f r (Some name) e is)
+
+  pub name_got : bytes_eq name.now (codes "-") ≡ false → Some name.now ≡ file_of (rows_of f)
+  name_got t = rw t at (file_got f r (Some name) e is)
 
 -- `get_str`, of a domain's name
 pub domain_got : (f : Found) (id : Text) (r : Option (Bor Text)) → option_map (λ s. s.now) r ≡ first_value f id

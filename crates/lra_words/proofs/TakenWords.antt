@@ -21,9 +21,9 @@ use Rattle.clap.specs.declared.builder.value_parser.ValueParser.TheVariants as v
 use Rattle.clap.proofs.WalkLemmas.{both, list_any-map}
 use Rattle.lra_words.specs.Chosen.{HasInRange, IsWithinRanges, best_of, domain_at, domain_named, flag_at, format_of, gives_any, number_at, number_below}
 use Rattle.lra_words.specs.Chosen.{back_of, options_of, sample_of, threads_of, truth_of}
-use Rattle.lra_words.specs.CommandLine.{plain, plain_commands, named_plain}
-use Rattle.lra_words.specs.CommandLine.{TakesDomains, best_rule, command_line, domain_rule, json_rule, flag, number_rule, point_option}
-use Rattle.lra_words.specs.CommandLine.{seed_option, size_option}
+use Rattle.lra_words.specs.CommandLine.{TakesDomains, best_rule, command_line, domain_rule, file_rule, json_rule, flag, named_plain, number_rule, plain_commands}
+use Rattle.lra_words.specs.CommandLine.{point_option, seed_option, size_option, subcommand_app}
+use Rattle.lra_words.specs.declared.command_line.Subcommand.TheVariants as sub
 use Rattle.lra_options.specs.declared.options.NumberOption.TheVariants.{Parts, Delay, Narrow}
 use Rattle.lra_options.specs.declared.options.FlagOption.TheVariants.{Limited, Thresholds, Fits}
 use Rattle.lra_options.specs.OptionRows.{NumberRow, IsInRange, agree, best_options, number_options, number_row, flag_row, default_options}
@@ -194,7 +194,10 @@ analyse_own parser = (
                 (refl, flag_adds (built_rule best_rule) (codes "true") refl refl),
                 (
                   (refl, flag_adds (built_rule json_rule) (codes "true") refl refl),
-                  ((refl, help_adds (built_rule help_rule) refl), tt),
+                  (
+                    (refl, option_adds (built_rule file_rule) refl refl),
+                    ((refl, help_adds (built_rule help_rule) refl), tt),
+                  ),
                 ),
               ),
             ),
@@ -210,7 +213,7 @@ analyse_taken : (parser : ValueParser) → TakesDomains parser → (words : List
 analyse_taken parser takes words e =
     let shape = sub_at parser 0 in
     let rows = rows_after shape.rules [] words in
-    let fit = level_rows shape refl (analyse_own parser) (λ i. refl) words e in
+    let fit = level_rows shape refl (analyse_own parser) words e in
     let domain_text = defaulted_value shape words (built_rule (domain_rule parser)) fit refl refl refl in
     let parts_text = defaulted_value shape words (built_rule (number_rule (number_row Parts))) fit refl refl refl in
     let delay_text = defaulted_value shape words (built_rule (number_rule (number_row Delay))) fit refl refl refl in
@@ -267,7 +270,7 @@ sample_taken : (parser : ValueParser) (words : List Text) → level_fault (sub_a
 sample_taken parser words e =
     let shape = sub_at parser 1 in
     let rows = rows_after shape.rules [] words in
-    let fit = level_rows shape refl (sample_own parser) (λ i. refl) words e in
+    let fit = level_rows shape refl (sample_own parser) words e in
     let checks = (level_parts shape [] words false [] e).4 in
     let wanted = nothing_wanted false false (not (is_given (codes "seed") rows) || (not (is_given (codes "size") rows) || false)) checks in
     let given = both_given (is_given (codes "seed") rows) (is_given (codes "size") rows) wanted.1 in
@@ -278,7 +281,13 @@ sample_taken parser words e =
     (Sample seed.0 size.0, sample_from rows seed.0 size.0 seed.1 size.1, (seed.2, size.2))
 
 back_own : (parser : ValueParser) → AllOwn (sub_at parser 2).rules (sub_at parser 2).rules
-back_own parser = ((refl, option_adds (built_rule (number_rule point_option)) refl refl), ((refl, help_adds (built_rule help_rule) refl), tt))
+back_own parser = (
+  (refl, option_adds (built_rule (number_rule point_option)) refl refl),
+  (
+    (refl, option_adds (built_rule file_rule) refl refl),
+    ((refl, help_adds (built_rule help_rule) refl), tt),
+  ),
+)
 
 one_given : (point : Bool) → (not point || false) ≡ false → point ≡ true
 one_given true e = refl
@@ -289,7 +298,7 @@ back_taken : (parser : ValueParser) (words : List Text) → level_fault (sub_at 
 back_taken parser words e =
     let shape = sub_at parser 2 in
     let rows = rows_after shape.rules [] words in
-    let fit = level_rows shape refl (back_own parser) (λ i. refl) words e in
+    let fit = level_rows shape refl (back_own parser) words e in
     let checks = (level_parts shape [] words false [] e).4 in
     let wanted = nothing_wanted false false (not (is_given (codes "point") rows) || false) checks in
     let given = one_given (is_given (codes "point") rows) wanted.1 in
@@ -302,7 +311,10 @@ threads_own parser = (
   (refl, option_adds (built_rule (number_rule (number_row Delay))) refl refl),
   (
     (refl, option_adds (built_rule (number_rule (number_row Narrow))) refl refl),
-    ((refl, help_adds (built_rule help_rule) refl), tt),
+    (
+      (refl, option_adds (built_rule file_rule) refl refl),
+      ((refl, help_adds (built_rule help_rule) refl), tt),
+    ),
   ),
 )
 
@@ -311,7 +323,7 @@ threads_taken : (parser : ValueParser) (words : List Text) → level_fault (sub_
 threads_taken parser words e =
     let shape = sub_at parser 3 in
     let rows = rows_after shape.rules [] words in
-    let fit = level_rows shape refl (threads_own parser) (λ i. refl) words e in
+    let fit = level_rows shape refl (threads_own parser) words e in
     let delay_text = defaulted_value shape words (built_rule (number_rule (number_row Delay))) fit refl refl refl in
     let narrow_text = defaulted_value shape words (built_rule (number_rule (number_row Narrow))) fit refl refl refl in
     let delay = number_of (number_row Delay) (2 ^ 32) rows delay_text.text (lit< tt) delay_text.one delay_text.passed in
@@ -337,7 +349,7 @@ plain_or C test shape (c ∷ cs) rest on_each later = first_or C test (shape c) 
 
 -- a command without options as a parse builds it
 abbrev plain_built : ValueParser → PlainCommand → Shape
-plain_built parser c = built_leaf (inherited (with_leaf_noted (marked_built (command_line parser).top)) (plain c).top)
+plain_built parser c = built_leaf (inherited (with_leaf_noted (marked_built (command_line parser).top)) (subcommand_app parser (sub.Plain c)).top)
 
 -- `help`
 abbrev last_sub : ValueParser → Shape

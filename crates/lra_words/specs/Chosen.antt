@@ -171,6 +171,14 @@ abbrev pub AsksNone : List Text → Type 0
 AsksNone words = (parser : ValueParser) × TakesDomains parser
     × (fault_of (command_line parser) words ≡ [] → Conflicting (subcommand_of (command_line parser) words))
 
+-- the file that the matches name: `-`, or none, is standard input
+abbrev pub file_of : List Row → Option Text
+file_of rows = option_and_then (λ name. if bytes_eq name (codes "-") then None else Some name)
+    (first_of (codes "file") rows)
+
+abbrev pub named_file : Option (Text × List Row) → Option Text
+named_file matched = option_and_then (λ chosen. file_of chosen.1) matched
+
 -- nor does the command line take them, unless their options conflict
 abbrev pub IsUntaken : List Text → Type 0
 IsUntaken words = (parser : ValueParser) × TakesDomains parser
@@ -182,11 +190,23 @@ Asks words chosen = (parser : ValueParser) × TakesDomains parser
     × (fault_of (command_line parser) words ≡ [])
     × (command_of (subcommand_of (command_line parser) words) ≡ Some chosen)
 
+-- the same, over this file
+abbrev pub AsksOver : List Text → Command → Option Text → Type 0
+AsksOver words chosen file = (parser : ValueParser) × TakesDomains parser
+    × (fault_of (command_line parser) words ≡ [])
+    × (command_of (subcommand_of (command_line parser) words) ≡ Some chosen)
+    × (named_file (subcommand_of (command_line parser) words) ≡ file)
+
 -- each list of words asks for no command, or for one, whose values lie in their ranges; never for both
 abbrev pub EachList : Type 0
 EachList = (words : List Text)
     → (AsksNone words ⊎ ((c : Command) × Asks words c × IsWithinRanges c × ((d : Command) → Asks words d → d ≡ c)))
     × ((c : Command) → Asks words c → AsksNone words → ⊥)
+
+-- words that ask for a command do so over one file, or over standard input
+abbrev pub OneFile : Type 0
+OneFile = (words : List Text) (c d : Command) (file other : Option Text) → AsksOver words c file → AsksOver words d other
+    → file ≡ other
 
 -- the command that the words ask for, or none
 abbrev pub AsksFor : List Text → Option Command → Type 0

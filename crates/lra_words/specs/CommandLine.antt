@@ -1,5 +1,5 @@
 -- The command line, as a parse reads it.
-use Rattle.std.specs.Prelude.{◌≡◌, refl, ◌^◌, ◌-◌, ℕ, map, fold, find, codes, Option, None, Some, List, [], ◌∷◌, true}
+use Rattle.std.specs.Prelude.{◌≡◌, ◌++◌, refl, ◌^◌, ◌-◌, ℕ, map, fold, find, codes, Option, None, Some, List, [], ◌∷◌, true}
 use Rattle.std.specs.Borrow.{Bor}
 use Rattle.std.specs.Str.{bytes_eq}
 use Rattle.clap.specs.Words.{App, Rule, Text, new_app, new_rule, with_rule, with_subcommand}
@@ -11,10 +11,14 @@ use Rattle.clap.specs.declared.builder.action.ArgAction.TheVariants.{SetTrue}
 use Rattle.lra_options.specs.declared.options.NumberOption.TheVariants.{Delay, Narrow}
 use Rattle.lra_words.specs.declared.chosen.PlainCommand.{PlainCommand}
 use Rattle.lra_words.specs.declared.chosen.PlainCommand.TheVariants.{Calc, Verify, Certify}
+use Rattle.lra_words.specs.declared.command_line.Argument.{Argument}
+use Rattle.lra_words.specs.declared.command_line.Argument.TheVariants as arg
+use Rattle.lra_words.specs.declared.command_line.Subcommand.{Subcommand}
+use Rattle.lra_words.specs.declared.command_line.Subcommand.TheVariants as sub
 
--- `--name VALUE` with this parser
+-- `--name VALUE` with this parser; help has one name for the value
 abbrev pub valued : Text → ValueParser → Rule
-valued name parser = record (new_rule name) { long = Some name; parser = Some parser }
+valued name parser = record (new_rule name) { long = Some name; value_names = 1; parser = Some parser }
 
 -- the same with a default
 abbrev pub defaulted : Text → ValueParser → Text → Rule
@@ -60,27 +64,24 @@ best_rule = flag (codes "best")
 abbrev pub json_rule : Rule
 json_rule = flag (codes "json")
 
--- with the options of an analysis: its numbers, its flags
-abbrev pub with_numbers : App → App
-with_numbers a = fold (λ so option. with_rule so (number_rule (number_row option))) a number_options
+-- a word that is no option, and needn't be there
+abbrev pub file_rule : Rule
+file_rule = record (new_rule (codes "file")) { value_names = 1 }
 
-abbrev pub with_flags : App → App
-with_flags a = fold (λ so option. with_rule so (flag (flag_row option).name)) a flag_options
+-- the rule of each argument, where the domains have this parser
+abbrev pub argument_rule : ValueParser → Argument → Rule
+argument_rule parser arg.Domain = domain_rule parser
+argument_rule parser (arg.Number option) = number_rule (number_row option)
+argument_rule parser (arg.Flag option) = flag (flag_row option).name
+argument_rule parser arg.Best = best_rule
+argument_rule parser arg.Json = json_rule
+argument_rule parser arg.Seed = number_rule seed_option
+argument_rule parser arg.Size = number_rule size_option
+argument_rule parser arg.Point = number_rule point_option
+argument_rule parser arg.File = file_rule
 
-abbrev pub analyse : ValueParser → App
-analyse parser = with_rule (with_rule (with_flags (with_numbers (with_rule (new_app (codes "analyse"))
-    (domain_rule parser)))) best_rule) json_rule
-
-abbrev pub sample : App
-sample = with_rule (with_rule (new_app (codes "sample")) (number_rule seed_option)) (number_rule size_option)
-
-abbrev pub back : App
-back = with_rule (new_app (codes "back")) (number_rule point_option)
-
--- with two of the numbers of an analysis
-abbrev pub threads : App
-threads = with_rule (with_rule (new_app (codes "threads")) (number_rule (number_row Delay)))
-    (number_rule (number_row Narrow))
+abbrev pub with_arguments : ValueParser → List Argument → App → App
+with_arguments parser arguments a = fold (λ so argument. with_rule so (argument_rule parser argument)) a arguments
 
 -- commands without options of their own: their names, in the order of the command line; each is the one of its name
 abbrev pub plain_name : PlainCommand → Text
@@ -99,30 +100,46 @@ named_plain Calc = refl
 named_plain Verify = refl
 named_plain Certify = refl
 
-abbrev pub plain : PlainCommand → App
-plain c = new_app (plain_name c)
+abbrev pub subcommand_name : Subcommand → Text
+subcommand_name sub.Analyse = codes "analyse"
+subcommand_name sub.Sample = codes "sample"
+subcommand_name sub.Back = codes "back"
+subcommand_name sub.Threads = codes "threads"
+subcommand_name (sub.Plain c) = plain_name c
 
-abbrev pub with_plain : App → App
-with_plain a = fold (λ so c. with_subcommand so (plain c).top) a plain_commands
+-- what each subcommand takes: all of the options of an analysis, two of its numbers, or none; all but a sample a file
+abbrev pub arguments_of : Subcommand → List Argument
+arguments_of sub.Analyse = arg.Domain ∷ (map arg.Number number_options
+    ++ map arg.Flag flag_options ++ arg.Best ∷ arg.Json ∷ arg.File ∷ [])
+arguments_of sub.Sample = arg.Seed ∷ arg.Size ∷ []
+arguments_of sub.Back = arg.Point ∷ arg.File ∷ []
+arguments_of sub.Threads = arg.Number Delay ∷ arg.Number Narrow ∷ arg.File ∷ []
+arguments_of (sub.Plain c) = arg.File ∷ []
 
--- a subcommand has to be named
-abbrev pub requiring : App → App
-requiring a = record a { top = record a.top { subcommand_required = true } }
+abbrev pub subcommand_app : ValueParser → Subcommand → App
+subcommand_app parser s = with_arguments parser (arguments_of s) (new_app (subcommand_name s))
+
+-- in the order of help
+abbrev pub subcommands : List Subcommand
+subcommands = sub.Analyse ∷ sub.Sample ∷ sub.Back ∷ sub.Threads
+    ∷ map sub.Plain plain_commands
+
+-- the program, of which a subcommand has to be named, and which tells its version
+abbrev pub begun : App
+begun =
+    let a = new_app (codes "lra") in
+    record a { top = record a.top { has_version = true; subcommand_required = true } }
+
+abbrev pub with_subcommands : ValueParser → List Subcommand → App → App
+with_subcommands parser named a = fold (λ so s. with_subcommand so (subcommand_app parser s).top) a named
 
 abbrev pub command_line : ValueParser → App
-command_line parser = with_plain (with_subcommand (with_subcommand (with_subcommand
-    (with_subcommand (requiring (new_app (codes "lra"))) (analyse parser).top) sample.top) back.top) threads.top)
+command_line parser = with_subcommands parser subcommands begun
 
 -- the parser takes the domains' names
 abbrev pub TakesDomains : ValueParser → Type 0
 TakesDomains parser = (names : Bor (List (Bor Text))) × (parser ≡ vp.Names names)
     × (map (λ name. name.now) names.now ≡ map domain_name domains)
-
-abbrev pub DeclaresDomain : Rule → Type 0
-DeclaresDomain r = (parser : ValueParser) × TakesDomains parser × (r ≡ domain_rule parser)
-
-abbrev pub DeclaresAnalyse : App → Type 0
-DeclaresAnalyse a = (parser : ValueParser) × TakesDomains parser × (a ≡ analyse parser)
 
 abbrev pub DeclaresCommandLine : App → Type 0
 DeclaresCommandLine a =

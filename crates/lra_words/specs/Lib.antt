@@ -1,3 +1,3 @@
 pub mod CommandLine
 pub mod Chosen
-pub mod Refusals
+pub mod Requests

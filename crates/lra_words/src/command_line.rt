@@ -1,51 +1,144 @@
 //! The command line, declared to `clap` as a simple command: one level of subcommands, one of them
-//! required, and options that stand once each, in any order.
+//! required, options that stand once each, in any order, and at most one file.
 //!
 //! Each number is declared as a `u64` with its range, so that all numbers are written alike: decimal
-//! digits after at most one plus.
+//! digits after at most one plus. Which subcommand takes what is a table; what help tells of it
+//! stands in `texts`.
 ghost use Rattle.std.specs.Prelude.{◌≡◌, IfOk, false};
-ghost use Rattle.lra_options.specs.OptionRows.{number_row, flag_row};
-ghost use Rattle.clap.specs.Words.{app_of, rule_of, with_subcommand};
+ghost use Rattle.lra_options.specs.OptionRows.{flag_row, number_row};
+ghost use Rattle.clap.specs.Words.{app_of, rule_of};
 ghost use Rattle.clap.specs.declared.builder.command.Command.TheViews.{out-Command};
-ghost use Rattle.lra_words.specs.CommandLine.{DeclaresAnalyse, DeclaresCommandLine, DeclaresDomain};
-ghost use Rattle.lra_words.specs.CommandLine.{back, defaulted, flag, number, number_rule, required, sample, valued};
-ghost use Rattle.lra_words.specs.CommandLine.{threads, with_flags, with_numbers, with_plain};
+ghost use Rattle.lra_words.specs.CommandLine.{DeclaresCommandLine, TakesDomains, argument_rule, arguments_of, begun};
+ghost use Rattle.lra_words.specs.CommandLine.{flag, number, number_rule, subcommand_app, subcommand_name, valued};
+ghost use Rattle.lra_words.specs.CommandLine.{with_arguments};
 
-use crate::chosen::PLAIN_COMMANDS;
+use crate::chosen::PlainCommand;
+use crate::texts::{ABOUT, AFTER_HELP, VERSION};
 use clap::builder::ValueParser;
 use clap::{Arg, ArgAction, Command, value_parser};
-use lra_options::{FLAG_OPTIONS, NUMBER_OPTIONS, NumberOption};
+use lra_options::{FlagOption, NumberOption};
 use std::alloc::{AllocError, Global};
 
 static DOMAIN_NAMES: [&str; 3] = ["poly", "box", "oct"];
 
+/// What may stand among the words of a subcommand.
+#[derive(Clone, Copy)]
+pub(crate) enum Argument {
+    /// The domain of an analysis.
+    Domain,
+    /// A number of an analysis.
+    Number(NumberOption),
+    /// A flag of an analysis.
+    Flag(FlagOption),
+    /// The flag for whoever doesn't want to choose.
+    Best,
+    /// The flag for a report as JSON.
+    Json,
+    /// The number from which a sample is made.
+    Seed,
+    /// How large it is.
+    Size,
+    /// The point of the assertion from which an analysis goes back.
+    Point,
+    /// The file that is read, in place of standard input.
+    File,
+}
+
+static OF_ANALYSE: [Argument; 10] = [
+    Argument::Domain,
+    Argument::Number(NumberOption::Parts),
+    Argument::Number(NumberOption::Delay),
+    Argument::Number(NumberOption::Narrow),
+    Argument::Flag(FlagOption::Limited),
+    Argument::Flag(FlagOption::Thresholds),
+    Argument::Flag(FlagOption::Fits),
+    Argument::Best,
+    Argument::Json,
+    Argument::File,
+];
+
+static OF_SAMPLE: [Argument; 2] = [Argument::Seed, Argument::Size];
+
+static OF_BACK: [Argument; 2] = [Argument::Point, Argument::File];
+
+static OF_THREADS: [Argument; 3] = [
+    Argument::Number(NumberOption::Delay),
+    Argument::Number(NumberOption::Narrow),
+    Argument::File,
+];
+
+static OF_PLAIN: [Argument; 1] = [Argument::File];
+
+/// A subcommand.
+#[derive(Clone, Copy)]
+pub(crate) enum Subcommand {
+    /// Analyse a source.
+    Analyse,
+    /// Analyse a source that is made from a number.
+    Sample,
+    /// Go back from an assertion.
+    Back,
+    /// Analyse a source of several threads.
+    Threads,
+    /// One without options.
+    Plain(PlainCommand),
+}
+
+/// These subcommands, in the order in which help has them.
+const SUBCOMMANDS: [Subcommand; 7] = [
+    Subcommand::Analyse,
+    Subcommand::Sample,
+    Subcommand::Back,
+    Subcommand::Threads,
+    Subcommand::Plain(PlainCommand::Calc),
+    Subcommand::Plain(PlainCommand::Verify),
+    Subcommand::Plain(PlainCommand::Certify),
+];
+
+impl Subcommand {
+    /// Its name among the words.
+    fn name(self) -> &'static str
+        ensures { result.now ≡ subcommand_name self }
+    {
+        match self {
+            Subcommand::Analyse => "analyse",
+            Subcommand::Sample => "sample",
+            Subcommand::Back => "back",
+            Subcommand::Threads => "threads",
+            Subcommand::Plain(command) => command.name(),
+        }
+    }
+
+    /// What may stand among its words.
+    fn arguments(self) -> &'static [Argument]
+        ensures { result.now ≡ arguments_of self }
+    {
+        match self {
+            Subcommand::Analyse => OF_ANALYSE.as_slice(),
+            Subcommand::Sample => OF_SAMPLE.as_slice(),
+            Subcommand::Back => OF_BACK.as_slice(),
+            Subcommand::Threads => OF_THREADS.as_slice(),
+            Subcommand::Plain(_) => OF_PLAIN.as_slice(),
+        }
+    }
+}
+
+/// The names of the domains.
+fn domain_parser<'a>() -> ValueParser<'a>
+    ensures { TakesDomains result }
+{
+    ValueParser::Names(DOMAIN_NAMES.as_slice())
+}
+
 /// `--name VALUE`, by this parser.
-fn valued_arg<'a>(alloc: Global, name: &'a str, parser: ValueParser<'a>) -> Arg<'a>
+fn valued_arg<'a>(alloc: Global, name: &'a str, value: &'a str, parser: ValueParser<'a>) -> Arg<'a>
     ensures rule { rule_of result ≡ valued name.now parser.entry }
     ensures local { result.global ≡ false }
 {
-    Arg::new(alloc, name).long(name).value_parser(parser)
-}
-
-/// The same with a default.
-fn defaulted_arg<'a>(
-    alloc: Global,
-    name: &'a str,
-    parser: ValueParser<'a>,
-    default: &'a str,
-) -> Arg<'a>
-    ensures rule { rule_of result ≡ defaulted name.now parser.entry default.now }
-    ensures local { result.global ≡ false }
-{
-    valued_arg(alloc, name, parser).default_value(default)
-}
-
-/// The same without one, to be given.
-fn required_arg<'a>(alloc: Global, name: &'a str, parser: ValueParser<'a>) -> Arg<'a>
-    ensures rule { rule_of result ≡ required name.now parser.entry }
-    ensures local { result.global ≡ false }
-{
-    valued_arg(alloc, name, parser).required(true)
+    Arg::new(alloc, name)
+        .long(name)
+        .value_name(value)
+        .value_parser(parser)
 }
 
 /// `--name`.
@@ -63,16 +156,6 @@ fn between<'a>(least: u32, greatest: u32) -> ValueParser<'a>
     value_parser!(u64).range(i64::from(least)..=i64::from(greatest))
 }
 
-fn domain_arg<'a>(alloc: Global) -> Arg<'a>
-    ensures rule { DeclaresDomain (rule_of result) }
-    ensures local { result.global ≡ false }
-{
-    Arg::new(alloc, "domain")
-        .long("domain")
-        .value_parser(DOMAIN_NAMES.as_slice())
-        .default_value("poly")
-}
-
 /// An option of an analysis that is a number, by its row.
 fn number_arg<'a>(alloc: Global, option: NumberOption) -> Arg<'a>
     ensures rule { rule_of result ≡ number_rule (number_row option) }
@@ -81,118 +164,98 @@ fn number_arg<'a>(alloc: Global, option: NumberOption) -> Arg<'a>
     let range = between(option.least(), option.greatest());
     let name: &'a str = option.name();
     let default: &'a str = option.default_text();
-    defaulted_arg(alloc, name, range, default)
+    valued_arg(alloc, name, "N", range).default_value(default)
 }
 
-/// The command so far, and the options of an analysis that are numbers.
-fn add_numbers<'a>(alloc: Global, command: Command<'a>) -> Result<Command<'a>, AllocError>
-    ensures app { IfOk result (λ c. app_of c ≡ with_numbers (app_of command.entry)) }
+/// An option of an analysis that is a flag, by its row.
+fn option_arg<'a>(alloc: Global, option: FlagOption) -> Arg<'a>
+    ensures rule { rule_of result ≡ flag (flag_row option).name }
+    ensures local { result.global ≡ false }
+{
+    let name: &'a str = option.name();
+    flag_arg(alloc, name)
+}
+
+/// The argument without its help, with the parser of the domains.
+fn bare_arg<'a>(alloc: Global, domains: ValueParser<'a>, argument: Argument) -> Arg<'a>
+    ensures rule { rule_of result ≡ argument_rule domains.entry argument }
+    ensures local { result.global ≡ false }
+{
+    match argument {
+        Argument::Domain => valued_arg(alloc, "domain", "DOMAIN", domains).default_value("poly"),
+        Argument::Number(option) => number_arg(alloc, option),
+        Argument::Flag(option) => option_arg(alloc, option),
+        Argument::Best => flag_arg(alloc, "best"),
+        Argument::Json => flag_arg(alloc, "json"),
+        Argument::Seed => valued_arg(alloc, "seed", "N", value_parser!(u64)).required(true),
+        Argument::Size => valued_arg(alloc, "size", "N", between(0, 400)).required(true),
+        Argument::Point => valued_arg(alloc, "point", "N", between(1, 2048)).required(true),
+        Argument::File => Arg::new(alloc, "file").value_name("FILE"),
+    }
+}
+
+/// The argument with its line of help.
+fn make_arg<'a>(alloc: Global, domains: ValueParser<'a>, argument: Argument) -> Arg<'a>
+    ensures rule { rule_of result ≡ argument_rule domains.entry argument }
+    ensures local { result.global ≡ false }
+{
+    let help: &'a str = argument.help();
+    bare_arg(alloc, domains, argument).help(help)
+}
+
+/// The command so far, and these arguments.
+fn add_arguments<'a>(
+    alloc: Global,
+    domains: ValueParser<'a>,
+    arguments: &[Argument],
+    command: Command<'a>,
+) -> Result<Command<'a>, AllocError>
+    ensures app { IfOk result (λ c.
+        app_of c ≡ with_arguments domains.entry arguments.now (app_of command.entry)) }
     ensures local { IfOk result (λ c.
         (out-Command c).has_globals ≡ (out-Command command.entry).has_globals) }
 {
     let mut declared = command;
-    for option in NUMBER_OPTIONS.iter() {
-        declared = declared.arg(number_arg(alloc, *option))?;
+    for argument in arguments.iter() {
+        declared = declared.arg(make_arg(alloc, domains, *argument))?;
     }
     Ok(declared)
 }
 
-/// The command so far, and the options of an analysis that are flags.
-fn add_flags<'a>(alloc: Global, command: Command<'a>) -> Result<Command<'a>, AllocError>
-    ensures app { IfOk result (λ c. app_of c ≡ with_flags (app_of command.entry)) }
-    ensures local { IfOk result (λ c.
-        (out-Command c).has_globals ≡ (out-Command command.entry).has_globals) }
-{
-    let mut declared = command;
-    for option in FLAG_OPTIONS.iter() {
-        let name: &'a str = option.name();
-        declared = declared.arg(flag_arg(alloc, name))?;
-    }
-    Ok(declared)
-}
-
-fn analyse_command<'a>(alloc: Global) -> Result<Command<'a>, AllocError>
-    ensures app { IfOk result (λ c. DeclaresAnalyse (app_of c)) }
+fn make_subcommand<'a>(
+    alloc: Global,
+    domains: ValueParser<'a>,
+    named: Subcommand,
+) -> Result<Command<'a>, AllocError>
+    ensures app { IfOk result (λ c. app_of c ≡ subcommand_app domains.entry named) }
     ensures local { IfOk result (λ c. (out-Command c).has_globals ≡ false) }
 {
-    let command = Command::new(alloc, "analyse").arg(domain_arg(alloc))?;
-    let command = add_numbers(alloc, command)?;
-    let command = add_flags(alloc, command)?;
-    let command = command.arg(flag_arg(alloc, "best"))?;
-    let command = command.arg(flag_arg(alloc, "json"))?;
-    Ok(command)
+    let name: &'a str = named.name();
+    let about: &'a str = named.about();
+    let ending: &'a str = named.after_help();
+    let command = Command::new(alloc, name).about(about).after_help(ending);
+    add_arguments(alloc, domains, named.arguments(), command)
 }
 
-fn sample_command<'a>(alloc: Global) -> Result<Command<'a>, AllocError>
-    ensures app { IfOk result (λ c. app_of c ≡ sample) }
-    ensures local { IfOk result (λ c. (out-Command c).has_globals ≡ false) }
+/// The program's own words: its name, its version, and that a subcommand has to be named.
+fn begin<'a>(alloc: Global) -> Command<'a>
+    ensures { app_of result ≡ begun }
 {
-    let command = Command::new(alloc, "sample").arg(required_arg(
-        alloc,
-        "seed",
-        value_parser!(u64),
-    ))?;
-    let command = command.arg(required_arg(alloc, "size", between(0, 400)))?;
-    Ok(command)
+    Command::new(alloc, "lra")
+        .version(VERSION)
+        .about(ABOUT)
+        .after_help(AFTER_HELP)
+        .subcommand_required(true)
 }
 
-/// The command line so far, and the subcommand `sample`.
-fn add_sample<'a>(alloc: Global, app: Command<'a>) -> Result<Command<'a>, AllocError>
-    ensures { IfOk result (λ c. app_of c ≡ with_subcommand (app_of app.entry) sample.top) }
-{
-    app.subcommand(sample_command(alloc)?)
-}
-
-fn back_command<'a>(alloc: Global) -> Result<Command<'a>, AllocError>
-    ensures app { IfOk result (λ c. app_of c ≡ back) }
-    ensures local { IfOk result (λ c. (out-Command c).has_globals ≡ false) }
-{
-    Command::new(alloc, "back").arg(required_arg(alloc, "point", between(1, 2048)))
-}
-
-/// The command line so far, and the subcommand `back`.
-fn add_back<'a>(alloc: Global, app: Command<'a>) -> Result<Command<'a>, AllocError>
-    ensures { IfOk result (λ c. app_of c ≡ with_subcommand (app_of app.entry) back.top) }
-{
-    app.subcommand(back_command(alloc)?)
-}
-
-fn threads_command<'a>(alloc: Global) -> Result<Command<'a>, AllocError>
-    ensures app { IfOk result (λ c. app_of c ≡ threads) }
-    ensures local { IfOk result (λ c. (out-Command c).has_globals ≡ false) }
-{
-    let command = Command::new(alloc, "threads").arg(number_arg(alloc, NumberOption::Delay))?;
-    let command = command.arg(number_arg(alloc, NumberOption::Narrow))?;
-    Ok(command)
-}
-
-/// The command line so far, and the subcommand `threads`.
-fn add_threads<'a>(alloc: Global, app: Command<'a>) -> Result<Command<'a>, AllocError>
-    ensures { IfOk result (λ c. app_of c ≡ with_subcommand (app_of app.entry) threads.top) }
-{
-    app.subcommand(threads_command(alloc)?)
-}
-
-/// The command line so far, and the commands without options.
-fn add_plain<'a>(alloc: Global, app: Command<'a>) -> Result<Command<'a>, AllocError>
-    ensures { IfOk result (λ c. app_of c ≡ with_plain (app_of app.entry)) }
-{
-    let mut declared = app;
-    for command in PLAIN_COMMANDS.iter() {
-        let name: &'a str = command.name();
-        declared = declared.subcommand(Command::new(alloc, name))?;
-    }
-    Ok(declared)
-}
-
-/// The command line with its subcommands `analyse`, `sample`, `back` and `threads`, and with those without options.
+/// The command line with its subcommands.
 pub(crate) fn declare<'a>(alloc: Global) -> Result<Command<'a>, AllocError>
     ensures { IfOk result (λ c. DeclaresCommandLine (app_of c)) }
 {
-    let analyse = analyse_command(alloc)?;
-    let app = Command::new(alloc, "lra").subcommand_required(true);
-    let app = add_sample(alloc, app.subcommand(analyse)?)?;
-    let app = add_back(alloc, app)?;
-    let app = add_threads(alloc, app)?;
-    add_plain(alloc, app)
+    let domains = domain_parser();
+    let mut declared = begin(alloc);
+    for named in SUBCOMMANDS.iter() {
+        declared = declared.subcommand(make_subcommand(alloc, domains, *named)?)?;
+    }
+    Ok(declared)
 }

@@ -1,8 +1,13 @@
-//! A law: the function does nothing, and its contract is the theorem.
+//! Laws: the functions do nothing, and their contracts are the theorems.
 
-ghost use Rattle.lra_words.specs.Chosen.{EachList};
+ghost use Rattle.lra_words.specs.Chosen.{EachList, OneFile};
 
 /// Every list of words asks for exactly one command, or for none.
 pub fn each_list()
     ensures { EachList }
+{}
+
+/// Words that ask for a command name one file for it, or standard input.
+pub fn one_file()
+    ensures { OneFile }
 {}

@@ -1,15 +1,16 @@
 //! The command that a list of words gives.
-ghost use Rattle.std.specs.Prelude.{◌≡◌, ◌^◌, Err, IfOk, IfSome, Some, codes, fold, map, string_bytes};
+ghost use Rattle.std.specs.Prelude.{◌≡◌, ◌^◌, Err, IfErr, IfOk, IfSome, Some, codes, fold, map, option_map, string_bytes};
+ghost use Rattle.clap.specs.Simple.{subcommand_rows_of};
 ghost use Rattle.clap.specs.Takes.{is_given};
 ghost use Rattle.clap.specs.Words.{found_of, kind_of, rows_of};
-ghost use Rattle.lra_words.specs.Chosen.{Asks, AsksFor, AsksNone, IsUntaken, IsWithinRanges, command_of, domain_at};
+ghost use Rattle.lra_words.specs.Chosen.{Asks, AsksFor, AsksNone, AsksOver, IsUntaken, IsWithinRanges, command_of, domain_at};
 ghost use Rattle.lra_words.specs.Chosen.{agreeing, analyse_of, back_of, best_of, chosen_options, domain_named, flag_at};
 ghost use Rattle.lra_words.specs.Chosen.{format_at, format_of, gives_any, gives_flag, gives_number, gives_settled};
 ghost use Rattle.lra_words.specs.Chosen.{number_at, optioned_command, options_of, sample_of, with_beside, with_domain};
-ghost use Rattle.lra_words.specs.Chosen.{threads_of, with_flag, with_number};
+ghost use Rattle.lra_words.specs.Chosen.{file_of, named_file, threads_of, with_flag, with_number};
 ghost use Rattle.lra_options.specs.OptionRows.{best_options, number_options, flag_options};
 ghost use Rattle.lra_words.specs.CommandLine.{plain_named};
-ghost use Rattle.lra_words.specs.Refusals.{refusal};
+ghost use Rattle.lra_words.specs.Requests.{IsTakenAs, IsUnasked, refusal, unasked_by};
 
 use crate::chosen::{Command, Format, PLAIN_COMMANDS, PlainCommand};
 use crate::command_line::declare;
@@ -31,12 +32,48 @@ pub enum Refusal {
     Memory,
 }
 
-fn refusal_of(error: &clap::Error) -> Refusal
-    ensures { result ≡ refusal (kind_of error.now) }
+/// What words ask for: a command, and the file that it is to read in place of standard input.
+#[derive(Clone, Copy)]
+pub(crate) struct Asked<'a> {
+    command: Command,
+    pub(crate) file: Option<&'a str>,
+}
+
+/// Why they ask for no command.
+#[derive(Drop)]
+pub(crate) enum Unasked {
+    /// Memory ran out.
+    Memory,
+    /// They ask for help, or for the version, which the text has.
+    Shown(clap::Error),
+    /// The command line doesn't take them; the text says why.
+    Refused(clap::Error),
+    /// Their options conflict.
+    Conflict,
+}
+
+impl Unasked {
+    /// The same without the text.
+    fn refusal(&self) -> Refusal
+        ensures { result ≡ refusal self.now }
+    {
+        match self {
+            Unasked::Memory => Refusal::Memory,
+            Unasked::Shown(_) => Refusal::Usage,
+            Unasked::Refused(_) => Refusal::Usage,
+            Unasked::Conflict => Refusal::Usage,
+        }
+    }
+}
+
+/// What an error of the parse is.
+fn explain(error: clap::Error) -> Unasked
+    ensures { result ≡ unasked_by (kind_of error) error }
 {
     match error.kind() {
-        ErrorKind::OutOfMemory => Refusal::Memory,
-        _ => Refusal::Usage,
+        ErrorKind::OutOfMemory => Unasked::Memory,
+        ErrorKind::DisplayHelp | ErrorKind::DisplayVersion => Unasked::Shown(error),
+        _ => Unasked::Refused(error),
     }
 }
 
@@ -291,6 +328,53 @@ fn choose_command(name: &str, matches: &ArgMatches) -> Option<Command>
     }
 }
 
+/// The file that is named, `None` for standard input.
+fn read_file<'a>(matches: &ArgMatches<'a>) -> Option<&'a str>
+    ensures { option_map (λ name. name.now) result ≡ file_of (rows_of (found_of matches.now)) }
+{
+    let name = matches.get_str("file")?;
+    if name == "-" { None } else { Some(name) }
+}
+
+/// What the matches ask for, `None` where their options conflict.
+fn choose<'a>(matches: &ArgMatches<'a>) -> Option<Asked<'a>>
+    ensures command { option_map (λ a. a.command) result ≡ command_of (subcommand_rows_of matches.now) }
+    ensures file { IfSome result (λ a.
+        option_map (λ name. name.now) a.file ≡ named_file (subcommand_rows_of matches.now)) }
+{
+    let (name, inner) = matches.subcommand()?;
+    let command = choose_command(name, inner)?;
+    let file = read_file(inner);
+    Some(Asked { command, file })
+}
+
+/// The matches of words that the command line takes.
+fn match_words<'a>(alloc: Global, words: &'a [String]) -> Result<ArgMatches<'a>, clap::Error>
+    ensures taken { IfOk result (IsTakenAs (map string_bytes words.now)) }
+    ensures fault { IfErr result (λ e.
+        IsUnasked (map string_bytes words.now) (unasked_by (kind_of e) e)) }
+{
+    let app = declare(alloc)?;
+    app.try_get_matches_from(words)
+}
+
+/// What the words ask for.
+pub(crate) fn ask<'a>(alloc: Global, words: &'a [String]) -> Result<Asked<'a>, Unasked>
+    ensures asked { IfOk result (λ a.
+        AsksOver (map string_bytes words.now) a.command (option_map (λ name. name.now) a.file)) }
+    ensures ranges { IfOk result (λ a. IsWithinRanges a.command) }
+    ensures none { IfErr result (IsUnasked (map string_bytes words.now)) }
+{
+    let matches = match match_words(alloc, words) {
+        Ok(matches) => matches,
+        Err(error) => return Err(explain(error)),
+    };
+    match choose(&matches) {
+        Some(asked) => Ok(asked),
+        None => Err(Unasked::Conflict),
+    }
+}
+
 /// The command that the words give; the first word is the program's name.
 ///
 /// `Usage` comes exactly where the command line doesn't take the words, or where options are among them that can't be
@@ -301,19 +385,9 @@ pub fn parse_command(alloc: Global, words: &[String]) -> Result<Command, Refusal
     ensures taken { IfOk result (λ c. Asks (map string_bytes words.now) c) }
     ensures ranges { IfOk result (λ c. IsWithinRanges c) }
 {
-    let Ok(app) = declare(alloc) else {
-        return Err(Refusal::Memory);
-    };
-    let matches = match app.try_get_matches_from(words) {
-        Ok(matches) => matches,
-        Err(error) => return Err(refusal_of(&error)),
-    };
-    let Some((name, inner)) = matches.subcommand() else {
-        return Err(Refusal::Usage);
-    };
-    match choose_command(name, inner) {
-        Some(command) => Ok(command),
-        None => Err(Refusal::Usage),
+    match ask(alloc, words) {
+        Ok(asked) => Ok(asked.command),
+        Err(why) => Err(why.refusal()),
     }
 }
 
