@@ -13,14 +13,15 @@ use std::rt::Env;
 
 /// The words of the command line, the program's name first.
 ///
-/// Without memory for them there is [`Status::Memory`]; a word that isn't UTF-8 is [`Status::Usage`].
-fn words_of(rt: &(impl Env + AllocGlobal)) -> Result<Vec<String>, Status> {
+/// Without memory for them there is [`Status::Memory`]; a word that isn't UTF-8 is [`Status::Usage`], and it is told.
+fn words_of(rt: &(impl Env + AllocGlobal + Eprint)) -> Result<Vec<String>, Status> {
     match env::args(rt) {
         Ok(words) => words.collect(rt.alloc()).map_err(|_| Status::Memory),
         Err(error) => {
             if error.kind() == ErrorKind::OutOfMemory {
                 Err(Status::Memory)
             } else {
+                let _ = eprintln!(rt; "error: a word isn't UTF-8");
                 Err(Status::Usage)
             }
         }
