@@ -47,7 +47,7 @@ def joined(mark, count, sign):
 # words
 SMALL = asserted('x>0')
 for more in ('', '--point', '--point 0', '--point 2049', '--point -1', '--point 1x', '2', '--point 2 --point 2',
-             '--point 2 --json', '--point 2 2', '--points 2', '--point 2 --best', '--point 18446744073709551618',
+             '--point 2 --json', '--point 2 a.c b.c', '--points 2', '--point 2 --best', '--point 18446744073709551618',
              '--point ' + '9' * 1000):
     case(f'back {more[:40]}', f'back {more}', SMALL, 3, whole='refused usage\n')
 case('a word with its number', 'back --point=2', SMALL, 1, begins='back point 2\nflagged 0\n')

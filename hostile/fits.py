@@ -25,7 +25,7 @@ def fits(name, source, lines, limit=1.0):
 
 
 # words
-for words in ('analyse --fits --fits', 'analyse --fits=yes', 'analyse --fits no', 'sample --seed 1 --size 1 --fits',
+for words in ('analyse --fits --fits', 'analyse --fits=yes', 'analyse --fits a.c b.c', 'sample --seed 1 --size 1 --fits',
               'calc --fits'):
     case(words, words, 'int main(void){}', 3, whole='refused usage\n')
 

@@ -83,7 +83,7 @@ denied('a name that is unknown, and no thread', 'int main(void){ x=1; }', 'refus
 denied('a thread twice', beside('', '') + ' void t1(void){}', f'refused 8 DuplicateName at 1:{len(beside("", "")) + 7}')
 case('no main', 'analyse', beside('', ''), 2, whole='refused 6 NoMain at 1:32\n')
 for words in ('threads --delay 9', 'threads --narrow 5', 'threads --delay', 'threads --domain box', 'threads --json',
-              'threads --parts 2', 'threads --best', 'threads threads', 'threads --delay 1 --delay 1'):
+              'threads --parts 2', 'threads --best', 'threads a.c b.c', 'threads --delay 1 --delay 1'):
     case(words, words, beside('', ''), 3, whole='refused usage\n')
 case('threads --narrow=0 --delay=8', 'threads --narrow=0 --delay=8', beside('', ''), 0,
      begins='threads box count 2 delay 8 narrow 0\nflagged 0\n')
