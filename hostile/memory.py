@@ -67,7 +67,7 @@ def count_allocations(words, source):
     """How many allocations the run has."""
     run = subprocess.run([PROGRAM] + words.split(), input=source.encode(), capture_output=True, preexec_fn=bounded,
                          env=dict(os.environ, LD_PRELOAD=LIBRARY, COUNTED='1'))
-    return int(run.stderr.split()[-1])
+    return int(run.stderr.split()[-3])
 
 
 def refuse_each(words, source, status, told, most=None):
