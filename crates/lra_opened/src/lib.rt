@@ -2,8 +2,6 @@
 #![tactic(auto)]
 
 mod places;
-#[cfg(test)]
-mod tests;
 mod trees;
 
 pub use trees::{open_tree, opened_graph};

@@ -1,12 +1,3 @@
-//! Worked examples of the iteration over boxes: as lemmas on its definitions, in `proofs/`, and as tests of the
-//! analysis.
+//! Worked examples of the iteration over boxes, as lemmas on its definitions, in `proofs/`. Laws alone: the same
+//! iteration in code is tried by tests in a crate of their own.
 #![tactic(auto)]
-
-#[cfg(test)]
-mod accessing;
-#[cfg(test)]
-mod fitting;
-#[cfg(test)]
-mod steps;
-#[cfg(test)]
-mod tests;

@@ -1,7 +1,7 @@
 //! A small tree, opened.
 
-use crate::open_tree;
 use lra_base::NumberType;
+use lra_opened::open_tree;
 use lra_operations::forms::put_in_turn;
 use lra_operations::{Aside, Node, Op};
 use lra_program::Receiver;

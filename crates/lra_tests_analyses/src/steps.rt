@@ -3,7 +3,7 @@
 ghost use Rattle.std.specs.Prelude.{◌≡◌, map, IfOk};
 ghost use Rattle.lra_operations.specs.GraphViews.{node_view, op_view, site_view};
 ghost use Rattle.lra_program.specs.ProgramViews.{expr_view};
-ghost use Rattle.lra_walks.specs.Steps.{acted, steps_sites, plain_site, tree_of, x};
+ghost use Rattle.lra_tests_analyses.specs.Steps.{acted, steps_sites, plain_site, tree_of, x};
 
 use lra_base::NumberType;
 use lra_operations::forms::{declare, put_in_turn, put_point};

@@ -3,7 +3,7 @@
 ghost use Rattle.std.specs.Prelude.{◌≡◌, [], map, false, IfOk};
 ghost use Rattle.lra_base.specs.OperatorViews.{operator_view};
 ghost use Rattle.lra_operations.specs.GraphViews.{node_view, op_view, site_view};
-ghost use Rattle.lra_walks.specs.Steps.{steps_tree, steps_sites, stepped};
+ghost use Rattle.lra_tests_analyses.specs.Steps.{steps_tree, steps_sites, stepped};
 
 use crate::steps::{read_x, steps};
 use lra_base::{NumberType, Operator};

@@ -1,9 +1,9 @@
 -- Goals of `judge_tree`: the tree fits the iteration, and its values what is judged.
 use Rattle.std.proofs.Common.{length, refl, true}
 use Rattle.lra_program.specs.Step.{test}
-use Rattle.lra_walks.specs.Steps.{is_inside, written}
-use Rattle.lra_walks.proofs.StepsTree.{tree_fits, steps_numbered, as_many, steps_few, accesses_below}
-use Rattle.lra_walks.proofs.accessing.judge_tree.Goals as goal
+use Rattle.lra_tests_analyses.specs.Steps.{is_inside, written}
+use Rattle.lra_tests_analyses.proofs.StepsTree.{tree_fits, steps_numbered, as_many, steps_few, accesses_below}
+use Rattle.lra_tests_analyses.proofs.accessing.judge_tree.Goals as goal
 
 pub analyse-requires-clause-fits : goal.analyse-requires-clause-fits
 analyse-requires-clause-fits g c = rw c.in_ok-graph.ensures.tree (tree_fits (test 0 is_inside true) written refl refl tt tt)

@@ -18,7 +18,7 @@ use Rattle.lra_iter.specs.Lives.{PointsHave, AreWide}
 use Rattle.lra_iter.specs.Numbers.{one_if, values_in, checks_in, asserts_of, IsNumbered}
 use Rattle.lra_iter.proofs.Counting.{one_other}
 use Rattle.lra_fits.specs.Judged.{AreBelow}
-use Rattle.lra_walks.specs.Steps.{accesses_tree, steps_tree, steps_sites, tree_of}
+use Rattle.lra_tests_analyses.specs.Steps.{accesses_tree, steps_tree, steps_sites, tree_of}
 
 one_at_most : (k : ℕ) → k < 4 → (s : Site) × (slice_get steps_sites k ≡ Some s) × (s.live ≤ 1)
 one_at_most zero h = (_, refl, omega arith)

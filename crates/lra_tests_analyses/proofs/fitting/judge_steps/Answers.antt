@@ -1,9 +1,9 @@
 -- Goals of `judge_steps`: the tree fits the iteration, and its values what is judged.
 use Rattle.std.proofs.Common.{length, refl, arith, ◌<◌}
 use Rattle.lra_base.specs.Operators.{plus, minus}
-use Rattle.lra_walks.specs.Steps.{stepped}
-use Rattle.lra_walks.proofs.StepsTree.{tree_fits, steps_numbered, as_many, steps_few, steps_below}
-use Rattle.lra_walks.proofs.fitting.judge_steps.Goals as goal
+use Rattle.lra_tests_analyses.specs.Steps.{stepped}
+use Rattle.lra_tests_analyses.proofs.StepsTree.{tree_fits, steps_numbered, as_many, steps_few, steps_below}
+use Rattle.lra_tests_analyses.proofs.fitting.judge_steps.Goals as goal
 
 pub analyse-requires-clause-fits : goal.analyse-requires-clause-fits
 analyse-requires-clause-fits g c =

@@ -12,7 +12,7 @@ use Rattle.lra_program.specs.Sites.{Site}
 use Rattle.lra_operations.specs.declared.graph.Site as coded
 use Rattle.lra_operations.specs.GraphViews.{site_view}
 use Rattle.lra_iter.specs.Numbers.{one_if, values_in, checks_in, asserts_of, IsNumbered}
-use Rattle.lra_walks.specs.Sample.{sample_asserts}
+use Rattle.lra_tests_analyses.specs.Sample.{sample_asserts}
 use Rattle.lra_iter.proofs.Counting.{one_other}
 
 abbrev pub sample_tree : NumberType → Expr → Cond → Cond → Cond → Node

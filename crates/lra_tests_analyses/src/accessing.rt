@@ -5,7 +5,7 @@ ghost use Rattle.std.specs.Prelude.{◌≡◌, map, true, IfOk};
 ghost use Rattle.lra_program.specs.ProgramViews.{cond_view, expr_view};
 ghost use Rattle.lra_program.specs.Step.{test};
 ghost use Rattle.lra_operations.specs.GraphViews.{node_view, op_view, site_view};
-ghost use Rattle.lra_walks.specs.Steps.{a, a_at, accesses_tree, is_inside, place, steps_sites, written};
+ghost use Rattle.lra_tests_analyses.specs.Steps.{a, a_at, accesses_tree, is_inside, place, steps_sites, written};
 
 use crate::steps::{read_x, steps};
 use lra_base::{Comparison, NumberType, Place};

@@ -7,7 +7,7 @@ ghost use Rattle.lra_program.specs.ProgramViews.{cond_view};
 ghost use Rattle.lra_operations.specs.GraphViews.{op_view, node_view, site_view};
 ghost use Rattle.lra_outcomes.specs.Fits.{TreeFits};
 ghost use Rattle.lra_iter.specs.Numbers.{IsNumbered};
-ghost use Rattle.lra_walks.specs.Sample.{sample_asserts};
+ghost use Rattle.lra_tests_analyses.specs.Sample.{sample_asserts};
 
 use lra_base::{Comparison, NumberType};
 use lra_box::Boxes;

@@ -7,8 +7,8 @@ use Rattle.lra_operations.specs.Graph.{Node, point, act, check, seq, choose}
 use Rattle.lra_program.specs.declared.program.Expr.TheVariants.{Input}
 use Rattle.lra_program.specs.ProgramViews.{cond_view, expr_view}
 use Rattle.lra_operations.specs.GraphViews.{node_view, site_view}
-use Rattle.lra_walks.proofs.SampleTree.{sample_numbered, asserts_seen}
-use Rattle.lra_walks.proofs.tests.sample.Goals as goal
+use Rattle.lra_tests_analyses.proofs.SampleTree.{sample_numbered, asserts_seen}
+use Rattle.lra_tests_analyses.proofs.branches.sample.Goals as goal
 
 pub returns-clause-numbered : goal.returns-clause-numbered
 returns-clause-numbered c =

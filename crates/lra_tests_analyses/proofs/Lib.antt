@@ -1,0 +1,4 @@
+-- The tree of the program with two branches.
+mod SampleTree
+-- The tree whose steps are judged.
+mod StepsTree
