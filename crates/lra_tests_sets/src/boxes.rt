@@ -73,6 +73,7 @@ pub fn compares_by<D: Domain>(alloc: Global, value: &mut D) -> Result<[bool; 5],
 /// A dimension more and one less, through the bound; how many there were between.
 pub fn resizes_by<D: Domain>(value: &mut D) -> Result<usize, AllocError>
     requires { D.meaning.dims value.old ≡ 2 }
+    ensures { IfOk result (λ n. D.meaning.dims value.new ≡ 2) }
 {
     value.embed(1)?;
     let dims = value.dims();
@@ -168,16 +169,17 @@ pub fn answers_by<D: Domain>(alloc: Global) -> Result<bool, AllocError> {
     Ok(compared && shown && resizes_by(&mut value)? == 3)
 }
 
-/// A head keeps its lower bound and loses its upper one by widening; its rank falls from 2 to 1.
-fn has_head(alloc: Global) -> Result<bool, AllocError> {
-    let (value, ranks) = head_by::<Boxes>(alloc)?;
-    Ok(ranks == [2, 2, 1] && counts_by(alloc, &value)? == (1, 1))
+/// Whether that head has these ranks, and one row in the end, through the bound.
+pub fn has_head_by<D: Domain>(alloc: Global, want: [u64; 3]) -> Result<bool, AllocError> {
+    let (value, ranks) = head_by::<D>(alloc)?;
+    Ok(ranks == want && counts_by(alloc, &value)? == (1, 1))
 }
 
+/// A head keeps its lower bound and loses its upper one by widening: its rank falls from 2 to 1.
 #[test]
 fn boxes_by_hand(rt: HostRuntime) {
     assert!(rt; answers_by::<Boxes>(rt.alloc()) == Ok(true));
-    assert!(rt; has_head(rt.alloc()) == Ok(true));
+    assert!(rt; has_head_by::<Boxes>(rt.alloc(), [2, 2, 1]) == Ok(true));
 }
 
 /// A coordinate, the constant and factors of the form that is assigned to it, and whether that is exact. x is without
