@@ -259,6 +259,8 @@ def command():
     words.add_argument('--runs', type=int, default=20)
     words.add_argument('--guided', action='store_true')
     asked = words.parse_args()
+    if not os.access(asked.program, os.X_OK):
+        sys.exit(f"hostile/runs.py: {os.path.normpath(asked.program)} isn't there; ./prove builds it")
     faults = [*known_reports(), *known_backs(), *known_threads(), *known_ends()]
     alone, beside = drawn(asked.seed, asked.count, program_of), drawn(asked.seed, asked.threads, threads_of)
     sources = [read(name) for name in asked.files] or alone + beside

@@ -397,7 +397,7 @@ def analyse(source: Source, program: str, words: list[str]) -> Answer:
             [program, 'analyse', '--json', *words], input=source.data, capture_output=True, check=False
         )
     except OSError:
-        raise Fault(f'{program} is no program that runs; ./lra builds it, --lra names another one') from None
+        raise Fault(f'{program} is no program that runs; ./prove builds it, --lra names another one') from None
     if run.returncode == 2 and (refusal := read_refusal(run.stdout.decode('utf-8', 'replace'), source)):
         return refusal
     if run.returncode not in (0, 1):
