@@ -32,7 +32,10 @@ files() {
 
 # sum_of FOLDER: a sum of all that the program of that copy of the repository is made of.
 sum_of() {
-  (set -o pipefail && cd "$1" && { cat HANDLES && closure && files | xargs -0 sha256sum; } | sha256sum | cut -d ' ' -f 1)
+  (
+    set -o pipefail
+    cd "$1" && { cat HANDLES && closure && files | xargs -0 sha256sum; } | sha256sum | cut -d ' ' -f 1
+  )
 }
 
 # sum_of_program PROGRAM: a sum of its bytes, or `none`.
