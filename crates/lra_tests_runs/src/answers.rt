@@ -101,20 +101,23 @@ static OUTPUTS: [Answer; 5] = [
 ];
 
 /// Words that ask for no command.
-static OTHER: [&str; 13] = [
+static OTHER: [&str; 16] = [
     "",
     "lra",
-    "lra calc calc",
+    "lra calc a.calc b.calc",
     "lra analyse --parts 17",
     "lra analyse --json --json",
     "lra analyse --domain cube",
     "lra --domain analyse box",
-    "lra analyse --domain box box",
+    "lra analyse --domain box a.c b.c",
     "lra analyse --domain box --delay 9",
     "lra analyse --domain box --parts 0",
-    "lra analyse --domain box --json yes",
+    "lra analyse --domain box --json=yes",
     "lra sample --seed 1 --size 401",
+    "lra sample --seed 1 --size 1 a.c",
     "lra help",
+    "lra analyse --help",
+    "lra --version",
 ];
 
 #[test]
