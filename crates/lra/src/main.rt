@@ -1,5 +1,5 @@
 //! The analyser: words of a command line, a source in a file or on standard input, a report on
-//! standard output. What goes wrong with words or files is told on standard error.
+//! standard output. What goes wrong with words or files is reported on standard error.
 #![tactic(auto)]
 
 use lra_edge::{RealSink, RealSource, write_whole};

@@ -754,7 +754,7 @@ fn the_version_is_shown(rt: HostRuntime) {
     }
 }
 
-/// Lines that aren't taken, and parts of what is told of them.
+/// Lines that aren't taken, and parts of what is reported of them.
 static FAULTS: [(&str, &[&str]); 12] = [
     (
         "lra analyse --domian box",
@@ -806,7 +806,7 @@ static FAULTS: [(&str, &[&str]); 12] = [
     ),
 ];
 
-/// Whether the line isn't taken, and these parts are told of it.
+/// Whether the line isn't taken, and these parts are reported of it.
 fn tells(alloc: Global, line: &str, parts: &[&str]) -> Result<bool, AllocError> {
     let words = words_of(alloc, line)?;
     match read_request(alloc, &words)? {
