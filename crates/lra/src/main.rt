@@ -2,7 +2,7 @@
 //! standard output. What goes wrong with words or files is reported on standard error.
 #![tactic(auto)]
 
-use lra_edge::{RealSink, RealSource, write_whole};
+use lra_io::{RealSink, RealSource, write_whole};
 use lra_top::{Status, run};
 use lra_words::{Request, read_request};
 use std::env;

@@ -1,7 +1,7 @@
 ghost use Rattle.std.specs.Prelude.{◌≤◌, IfOk};
 
-use lra_edge::{
-    Failed, MemSink, MemSource, QuietSink, QuietSource, ReadEnd, RealSink, RealSource, Sink,
+use lra_io::{
+    Failed, MemSink, MemSource, QuietSink, QuietSource, ReadError, RealSink, RealSource, Sink,
     Source, read_whole, write_whole,
 };
 use std::alloc::{AllocError, Global};
@@ -163,10 +163,10 @@ static LENGTHS: [(usize, usize, usize, bool); 3] = [
 ];
 
 /// Whether so many bytes of the front are read, and that is all or not.
-fn ends_so(end: &Result<Vec<u8>, ReadEnd>, bytes: &[u8], count: usize, fits: bool) -> bool {
+fn ends_so(end: &Result<Vec<u8>, ReadError>, bytes: &[u8], count: usize, fits: bool) -> bool {
     match end {
         Ok(whole) => fits && whole.len() == count && bytes.starts_with(whole),
-        Err(ReadEnd::TooLong(first)) => !fits && first.len() == count && bytes.starts_with(first),
+        Err(ReadError::TooLong(first)) => !fits && first.len() == count && bytes.starts_with(first),
         Err(_) => false,
     }
 }
@@ -211,7 +211,7 @@ fn inputs_are_read_up_to_the_limit(rt: HostRuntime) {
 /// A fault ends reading at once.
 fn fault_ends_reading(alloc: Global) -> Result<bool, AllocError> {
     let mut source = MemSource::new(alloc, b"abcdef", 2, &[2])?;
-    let failed = matches!(read_whole(alloc, &mut source, 9), Err(ReadEnd::Failed));
+    let failed = matches!(read_whole(alloc, &mut source, 9), Err(ReadError::Failed));
     Ok(failed && reads(&mut source, &mut [0u8; 4], &[b"cd", b"ef", b""]))
 }
 

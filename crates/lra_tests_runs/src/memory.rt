@@ -1,6 +1,6 @@
 //! Runs over memory: a source and a sink move ten bytes a call, and some call of each may fail.
 
-use lra_edge::{MemSink, MemSource};
+use lra_io::{MemSink, MemSource};
 use lra_top::{Status, run};
 use std::alloc::{AllocError, Global};
 

@@ -2,7 +2,7 @@
 use Rattle.std.proofs.Common.{◌≡◌, ◌≢◌, ◌≤◌, ◌<◌, ℕ, List, length, refl, sym, ap, subst, inl, inr, ◌⊎◌, arith}
 use Rattle.std.specs.Prelude.{Option, Some, None, Result, Ok, Err, IfOk, IsOk}
 use Rattle.std.specs.Io.KnownBytes.{Appends, Keeps}
-use Rattle.lra_edge.specs.Causes.{AppendsPart, Rose}
+use Rattle.lra_io.specs.Causes.{AppendsPart, Rose}
 use Rattle.lra_options.specs.declared.options.Options.{Options}
 use Rattle.lra_words.specs.Chosen.{Asks, AsksNone, IsUntaken}
 use Rattle.lra_words.specs.declared.chosen.Command.{Command}

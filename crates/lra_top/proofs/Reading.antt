@@ -2,7 +2,7 @@
 use Rattle.std.proofs.Common.{◌≡◌, ◌∙◌, ◌<◌, ◌+◌, ◌^◌, ℕ, List, [], ◌++◌, length, refl, sym, arith, append-nil, subst, inl, inr}
 use Rattle.std.specs.Prelude.{Option, Some, None, Result, Ok, Err, IfOk}
 use Rattle.std.specs.Io.KnownBytes.{Consumes, IsAtEnd}
-use Rattle.lra_edge.specs.ReadEnd.{LosesFront, IsWhole, IsPastLimit}
+use Rattle.lra_io.specs.ReadErrors.{LosesPrefix, IsWhole, IsPastLimit}
 use Rattle.lra_words.specs.declared.chosen.Command.{Command}
 use Rattle.lra_top.specs.Commands.{limit_of}
 use Rattle.lra_top.specs.Run.{IsInput, IsRead, TakesBytes}
@@ -33,7 +33,7 @@ reads_whole old new limit bytes r w = reads_taken old new limit bytes r (takes_w
 pub reads_past : {T : Type 0} (old new : Option (List ℕ)) (limit : ℕ) (bytes : List ℕ) (r : Result T NoAnswer) → IsPastLimit old new limit bytes → IsReadBy (Some limit) old new r
 reads_past old new limit bytes r p = reads_taken old new limit bytes r (takes_past old new limit bytes p)
 
-pub reads_front : (T : Type 0) (old new : Option (List ℕ)) (limit : ℕ) (e : NoAnswer) → LosesFront old new limit → let r : Result T NoAnswer = Err e in IsReadBy (Some limit) old new r
+pub reads_front : (T : Type 0) (old new : Option (List ℕ)) (limit : ℕ) (e : NoAnswer) → LosesPrefix old new limit → let r : Result T NoAnswer = Err e in IsReadBy (Some limit) old new r
 reads_front T old new limit e front = (front, λ done. absurd (let wrong : ⊥ = cc in wrong))
 
 pub few_whole : (old new : Option (List ℕ)) (limit : ℕ) (bytes : List ℕ) → IsWhole old new limit bytes → limit + 2 < 2 ^ 32 → length bytes + 1 < 2 ^ 32

@@ -1,7 +1,7 @@
 -- What the parts of `run` do: the one before the writing, and the whole.
 use Rattle.std.specs.Prelude.{◌≡◌, ◌⊎◌, ◌<◌, ℕ, List, length, Option, None, Some, Result, Ok, Err, IfOk, IsOk, IsErrOf}
 use Rattle.std.specs.Io.KnownBytes.{Appends, Keeps}
-use Rattle.lra_edge.specs.Causes.{AppendsPart, Rose}
+use Rattle.lra_io.specs.Causes.{AppendsPart, Rose}
 use Rattle.lra_words.specs.declared.chosen.Command.{Command}
 use Rattle.lra_top.specs.Commands.{DeservesInput, asked_limit}
 use Rattle.lra_top.specs.Run.{IsInput, IsAsked, IsDeserved, IsRead, TakesBytes}

@@ -1,8 +1,8 @@
 -- What a call of `run` does, by its status.
 use Rattle.std.specs.Prelude.{◌≡◌, ◌≢◌, ◌≤◌, ◌<◌, ◌⊎◌, ◌+◌, ℕ, List, length, codes, Option, None, Some}
 use Rattle.std.specs.Io.KnownBytes.{Appends, Consumes, IsAtEnd}
-use Rattle.lra_edge.specs.Causes.{AppendsPart, Rose}
-use Rattle.lra_edge.specs.ReadEnd.{LosesFront}
+use Rattle.lra_io.specs.Causes.{AppendsPart, Rose}
+use Rattle.lra_io.specs.ReadErrors.{LosesPrefix}
 use Rattle.lra_show.specs.Texts.{text_line}
 use Rattle.lra_words.specs.Chosen.{Asks, AsksFor, AsksNone}
 use Rattle.lra_words.specs.declared.chosen.Command.{Command}
@@ -61,7 +61,7 @@ pub record TakesBytes (limit : ℕ) (old new : Option (List ℕ)) (bytes : List 
 abbrev pub IsRead : Option ℕ → Option (List ℕ) → Option (List ℕ) → Type 0 → Type 0 → Type 0
 IsRead None old new failed done = (new ≡ old) × (failed → ⊥)
 IsRead (Some limit) old new failed done =
-    LosesFront old new limit × (done → (bytes : List ℕ) × TakesBytes limit old new bytes)
+    LosesPrefix old new limit × (done → (bytes : List ℕ) × TakesBytes limit old new bytes)
 
 -- a count of faults rose where the fault is the status, and stays at every other
 pub record IsCounted (fault : Status) (before now : ℕ) (status : Status) : Type 0 where

@@ -2,7 +2,7 @@
 ghost use Rattle.std.specs.Prelude.{◌≡◌, ◌≢◌, ◌≤◌, ◌<◌, ◌+◌, ◌^◌, ◌⊎◌, ℕ, List, Option, length, map, string_bytes};
 ghost use Rattle.std.specs.Prelude.{IfOk, Some};
 ghost use Rattle.std.specs.Io.KnownBytes.{Keeps};
-ghost use Rattle.lra_edge.specs.Causes.{AppendsPart, Rose};
+ghost use Rattle.lra_io.specs.Causes.{AppendsPart, Rose};
 ghost use Rattle.lra_words.specs.declared.chosen.Command.{Command};
 ghost use Rattle.lra_words.specs.declared.chosen.Command.TheVariants.{Analyse, Sample, Back, Threads, Plain};
 ghost use Rattle.lra_words.specs.declared.chosen.PlainCommand.TheVariants.{Certify, Verify};
@@ -20,7 +20,7 @@ ghost use Rattle.lra_top.specs.Prepared.{IsInputText, IsTaken, IsReadBy, Prepare
 
 use crate::commands::{answer_command, limit_of};
 use lra_answers::{Answer, Status};
-use lra_edge::{ReadEnd, Sink, Source, read_whole, write_whole};
+use lra_io::{ReadError, Sink, Source, read_whole, write_whole};
 use lra_words::{Command, find_command};
 use std::alloc::{AllocError, Global};
 
@@ -64,9 +64,9 @@ fn read_within<S: Source>(alloc: Global, limit: usize, source: &mut S) -> Result
 {
     match read_whole(alloc, source, limit) {
         Ok(bytes) => Ok(bytes),
-        Err(ReadEnd::TooLong(bytes)) => Ok(bytes),
-        Err(ReadEnd::Failed) => Err(NoAnswer::ReadFault),
-        Err(ReadEnd::Memory) => Err(NoAnswer::Memory),
+        Err(ReadError::TooLong(bytes)) => Ok(bytes),
+        Err(ReadError::Failed) => Err(NoAnswer::ReadFault),
+        Err(ReadError::Memory) => Err(NoAnswer::Memory),
     }
 }
 

@@ -2,7 +2,7 @@
 use Rattle.std.proofs.Common.{◌≡◌, ◌<◌, length, refl, arith, rules}
 use Rattle.std.proofs.lemmas.Grind.{common_steps}
 use Rattle.std.specs.Io.KnownBytes.{Appends}
-use Rattle.lra_edge.specs.Causes.{AppendsPart, Rose}
+use Rattle.lra_io.specs.Causes.{AppendsPart, Rose}
 use Rattle.lra_top.proofs.Ending.{unread, unstored, whole, cut}
 use Rattle.lra_top.proofs.top_call.answer_words.Goals as goal
 
