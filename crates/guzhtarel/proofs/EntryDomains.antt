@@ -6,8 +6,8 @@ use Rattle.std.specs.Cmp.Lexicographic.{pointwise}
 use Rattle.std.proofs.Math.Bool.{or-not_self}
 use Rattle.std.proofs.lemmas.List.{length-replicate}
 use Rattle.lra_lin.specs.Form.{form_value}
-use Rattle.lra_linear.specs.Vectors.{entry}
-use Rattle.lra_linear.specs.declared.ConKind.TheVariants.{Ge}
+use Rattle.lra_linear_spec.specs.Vectors.{entry}
+use Rattle.lra_linear_spec.specs.declared.ConKind.TheVariants.{Ge}
 use Rattle.lra_domain.specs.Actions.{Action, ActionFits, Leads, assign, forget, test, embed, remove_last}
 use Rattle.lra_domain.specs.Laws.{PartsTell}
 use Rattle.lra_domain.specs.Parts.{SomePartHolds}

@@ -1,10 +1,10 @@
 -- Calls on the polyhedra of two sets, told of the sets. (That sets which are the same have the same polyhedron is
 -- `same_polyhedron`.)
 use Rattle.std.proofs.Common.{◌≡◌, ℕ, subst}
-use Rattle.lra_linear.specs.Descriptions.{Con}
-use Rattle.lra_linear.specs.Points.{PointSet, IsWithin}
-use Rattle.lra_linear.specs.Polyhedra.{Polyhedron, IsPolyhedronOf}
-use Rattle.lra_linear.specs.SetOperations.{Meet, Union, Hull}
+use Rattle.lra_linear_spec.specs.Descriptions.{Con}
+use Rattle.lra_linear_spec.specs.Points.{PointSet, IsWithin}
+use Rattle.lra_linear_spec.specs.Polyhedra.{Polyhedron, IsPolyhedronOf}
+use Rattle.lra_linear_spec.specs.SetOperations.{Meet, Union, Hull}
 use Rattle.lra_poly.specs.Outcomes.{IfExact}
 use Rattle.lra_poly.specs.declared.outcome.Outcome.{Outcome}
 use Rattle.lra_poly.specs.declared.outcome.Outcome.TheVariants.{Exact, Flagged}

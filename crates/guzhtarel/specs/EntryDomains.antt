@@ -6,9 +6,9 @@ use Rattle.std.specs.Prelude.{◌++◌}
 use Rattle.std.specs.Prelude.{length, replicate, slice_set, take, IsTrue}
 use Rattle.std.specs.Cmp.Lexicographic.{pointwise}
 use Rattle.lra_lin.specs.Form.{Form, form_value}
-use Rattle.lra_linear.specs.Vectors.{entry}
-use Rattle.lra_linear.specs.declared.ConKind.{ConKind}
-use Rattle.lra_linear.specs.declared.ConKind.TheVariants.{Ge}
+use Rattle.lra_linear_spec.specs.Vectors.{entry}
+use Rattle.lra_linear_spec.specs.declared.ConKind.{ConKind}
+use Rattle.lra_linear_spec.specs.declared.ConKind.TheVariants.{Ge}
 use Rattle.lra_sys.specs.Listed.{Listed}
 use Rattle.lra_domain.specs.Actions.{Action, assign, forget, test, embed, remove_last}
 use Rattle.guzhtarel.specs.Entries.{AllHave, AllHold, join_each, rows_from, total}

@@ -1,9 +1,9 @@
 -- Closed polyhedra: what a value shows, what its operations tell, widenings, and where they strain.
-pub use Rattle.lra_linear.specs.Polyhedra
-pub use Rattle.lra_linear.specs.Formed
-pub use Rattle.lra_linear.specs.Widening
-pub use Rattle.lra_linear.specs.Strain
-pub use Rattle.lra_linear.specs.OperationStrain
+pub use Rattle.lra_linear_spec.specs.Polyhedra
+pub use Rattle.lra_linear_spec.specs.Representable
+pub use Rattle.lra_linear_spec.specs.Widening
+pub use Rattle.lra_linear_spec.specs.Strain
+pub use Rattle.lra_linear_spec.specs.OperationStrain
 pub use Rattle.lra_pair.specs.KeptRows
 pub use Rattle.lra_duality.specs.Rows as TestRows
 pub use Rattle.lra_poly.specs.Outcomes

@@ -1,6 +1,6 @@
 -- The step of the proof on the tests of an index.
 use Rattle.std.proofs.Common.{◌≡◌, ℕ, Some, refl}
-use Rattle.lra_linear.specs.declared.ConKind.TheVariants.{Ge}
+use Rattle.lra_linear_spec.specs.declared.ConKind.TheVariants.{Ge}
 use Rattle.lra_lin.specs.Form.{Form}
 use Rattle.lra_lin.specs.declared.test.Test.{Test}
 use Rattle.lra_base.specs.Operators.{below}

@@ -6,7 +6,7 @@ ghost use Rattle.lra_flow.specs.Accesses.{outside};
 use lra_base::Comparison;
 use lra_forms::{less_by, test_of};
 use lra_lin::{LinExpr, Test};
-use lra_linear::ConKind;
+use lra_linear_spec::ConKind;
 use std::alloc::{AllocError, Global};
 
 /// The tests that an index of this form is below 0, and that it is at least the array's length; `None` exactly where a

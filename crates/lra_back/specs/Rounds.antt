@@ -2,7 +2,7 @@
 use Rattle.std.specs.Prelude.{◌≡◌, ◌&&◌, ℕ, zero, suc, ◌⊎◌, List, [], ◌∷◌, Option, None, Some, Bool, true, false, nat_eq}
 use Rattle.std.specs.Prelude.{cond, slice_get, slice_set}
 use Rattle.lra_sys.specs.Listed.{Listed}
-use Rattle.lra_linear.specs.declared.ConKind.{ConKind}
+use Rattle.lra_linear_spec.specs.declared.ConKind.{ConKind}
 use Rattle.lra_domain.specs.Actions.{Action}
 use Rattle.lra_domain.specs.Meaning.{worse}
 use Rattle.lra_domain.specs.declared.Exactness.{Exactness}

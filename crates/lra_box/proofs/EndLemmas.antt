@@ -1,7 +1,7 @@
 -- The end of a form's values, product by product.
 use Rattle.std.proofs.Common.{◌≡◌, ◌∙◌, zero, suc, ℤ, pos, negsuc, ◌+ℤ◌, List, [], ◌∷◌, Option, None, Some, inl, inr, refl, sym, subst}
 use Rattle.std.specs.Prelude.{◌⊎◌, IsSomeAnd}
-use Rattle.lra_linear.specs.Range.{InRange}
+use Rattle.lra_linear_spec.specs.Range.{InRange}
 use Rattle.lra_box.specs.declared.interval.Interval.{Interval}
 use Rattle.lra_box.specs.declared.interval.Side.{Side}
 use Rattle.lra_box.specs.declared.interval.Side.TheVariants.{Low, High}

@@ -6,15 +6,15 @@ use Rattle.std.specs.List.{All}
 use Rattle.std.proofs.lemmas.Int.{ints}
 use Rattle.std.proofs.lemmas.List.Elements.{All-cons}
 use Rattle.std.proofs.Math.Seq.{drop-cons}
-use Rattle.lra_linear.specs.Range.{InRange}
-use Rattle.lra_linear.specs.Vectors.{product}
-use Rattle.lra_linear.specs.declared.ConKind.{ConKind}
-use Rattle.lra_linear.specs.declared.ConKind.TheVariants.{Ge, Eq}
+use Rattle.lra_linear_spec.specs.Range.{InRange}
+use Rattle.lra_linear_spec.specs.Vectors.{product}
+use Rattle.lra_linear_spec.specs.declared.ConKind.{ConKind}
+use Rattle.lra_linear_spec.specs.declared.ConKind.TheVariants.{Ge, Eq}
 use Rattle.lra_sys.specs.Listed.{given_by}
-use Rattle.lra_linear.specs.Kinds.{is_equality}
-use Rattle.lra_linear.specs.Descriptions.{Given, Holds, Con}
-use Rattle.lra_linear.proofs.UnitRows.{set_in_range, zeros_in_range}
-use Rattle.lra_linear.proofs.Membership.{contains_none, contains_head, contains_tail, contains_cases}
+use Rattle.lra_linear_spec.specs.Kinds.{is_equality}
+use Rattle.lra_linear_spec.specs.Descriptions.{LinearRow, Holds, Con}
+use Rattle.lra_linear_spec.proofs.UnitRows.{set_in_range, zeros_in_range}
+use Rattle.lra_linear_spec.proofs.Membership.{contains_none, contains_head, contains_tail, contains_cases}
 use Rattle.lra_domain.specs.Parts.{SomePartHolds}
 use Rattle.lra_box.specs.declared.interval.Interval.{Interval}
 use Rattle.lra_box.specs.declared.interval.Side.TheVariants.{Low, High}
@@ -70,7 +70,7 @@ row_value n k c f s h e = let p = product_place n k f s h e in let o = times_one
 -- ---- lists of rows of one kind
 
 -- a list of constraints holds where the first and the rest hold
-con_cons : (g : Given) (gs : List Given) (x : List ℤ) → Con (g ∷ gs) x ↔ (Holds g x × Con gs x)
+con_cons : (g : LinearRow) (gs : List LinearRow) (x : List ℤ) → Con (g ∷ gs) x ↔ (Holds g x × Con gs x)
 con_cons g gs x = (
   λ h. (h g (contains_head g gs), λ k m. h k (contains_tail g k gs m)),
   λ h k m. elim (contains_cases g k gs m) [ inl e ↦ subst (λ r. Holds r x) e h.0 | inr d ↦ h.1 k d ],

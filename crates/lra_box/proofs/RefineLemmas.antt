@@ -1,7 +1,7 @@
 -- A tightened interval keeps each number for which the form may pass.
 use Rattle.std.proofs.Common.{◌≡◌, ℕ, zero, suc, ◌+◌, ◌*◌, ◌/◌, ◌<◌, ◌≤◌, ℤ, pos, negsuc, List, [], ◌∷◌, length, Option, None, Some, refl, ap, ◌∙◌, ◌⊎◌, inl, inr, zero-add, arith}
 use Rattle.std.specs.Prelude.{◌+ℤ◌, ◌*ℤ◌, ◌≤ℤ◌, neg_ℤ, slice_set, slice_index_or}
-use Rattle.lra_linear.specs.Vectors.{product}
+use Rattle.lra_linear_spec.specs.Vectors.{product}
 use Rattle.std.specs.Int.{int_div_euclid}
 use Rattle.std.proofs.lemmas.Int.{ints, clamps}
 use Rattle.std.proofs.Math.Nat.{le-div_iff_mul-le, div-lt_iff_lt-mul, mul_comm}

@@ -12,13 +12,13 @@ use Rattle.std.proofs.lemmas.Int.{ints}
 use Rattle.std.proofs.lemmas.List.{length-replicate}
 use Rattle.std.proofs.lemmas.List.Elements.{Contains-append_cases, Contains-append_left, Contains-append_right}
 use Rattle.std.proofs.lemmas.Option.{slice_get_within}
-use Rattle.lra_linear.specs.Echelon.{Before, IsEchelon, Leads, lead_from, pivot}
-use Rattle.lra_linear.specs.LowestTerms.{IsPrimitive}
-use Rattle.lra_linear.specs.RowOrder.{Ascends, inequality_cmp}
-use Rattle.lra_linear.specs.Vectors.{entry}
-use Rattle.lra_linear.proofs.LowestTerms.{primitive_at}
-use Rattle.lra_linear.proofs.Membership.{contains_cases, contains_head, contains_none, contains_tail}
-use Rattle.lra_linear.proofs.Products.{entry_set_other, entry_set_same}
+use Rattle.lra_linear_spec.specs.Echelon.{Before, IsEchelon, HasPivot, lead_from, pivot}
+use Rattle.lra_linear_spec.specs.LowestTerms.{IsPrimitive}
+use Rattle.lra_linear_spec.specs.RowOrder.{Ascends, inequality_cmp}
+use Rattle.lra_linear_spec.specs.Vectors.{entry}
+use Rattle.lra_linear_spec.proofs.LowestTerms.{primitive_at}
+use Rattle.lra_linear_spec.proofs.Membership.{contains_cases, contains_head, contains_none, contains_tail}
+use Rattle.lra_linear_spec.proofs.Products.{entry_set_other, entry_set_same}
 use Rattle.lra_box.specs.declared.interval.Interval.{Interval}
 use Rattle.lra_box.specs.ExactRows.{IsEqualityRow, IsInequalityRow, IsOfEnd}
 use Rattle.lra_box.specs.Parts.{bound_row, equal_rows, high_rows, is_single, low_rows, unequal_rows}
@@ -43,7 +43,7 @@ entry_elsewhere n k (suc j) c f p h =
 before_apart : (j k : ℕ) → Before j (suc k) → j ≢ suc k
 before_apart j k b e = elim b.1 [ inl l ↦ omega (arith, l, e) | inr z ↦ absurd (omega (arith, b.0, z)) ]
 
-row_leads : (n k : ℕ) (c : ℤ) → k < n → Leads (bound_row n k c (pos 1)) (suc k)
+row_leads : (n k : ℕ) (c : ℤ) → k < n → HasPivot (bound_row n k c (pos 1)) (suc k)
 row_leads n k c h = record {
   before = λ j b. entry_elsewhere n k j c (pos 1) b.0 (before_apart j k b);
   here = subst (λ (z : ℤ). pos 0 <ℤ z) (sym (entry_here n k c (pos 1) h)) (omega (arith, ints));

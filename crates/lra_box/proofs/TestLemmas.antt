@@ -3,9 +3,9 @@ use Rattle.std.proofs.Common.{◌≡◌, ℕ, zero, suc, ℤ, pos, negsuc, List,
 use Rattle.std.specs.Prelude.{◌+ℤ◌, ◌*ℤ◌, ◌≤ℤ◌, neg_ℤ, int_lt}
 use Rattle.std.proofs.lemmas.Int.{ints}
 use Rattle.std.proofs.lemmas.Bool.{false≢true}
-use Rattle.lra_linear.specs.Vectors.{product}
+use Rattle.lra_linear_spec.specs.Vectors.{product}
 use Rattle.lra_lin.specs.Form.{Form, form_value, HoldsAt}
-use Rattle.lra_linear.specs.declared.ConKind.TheVariants.{Eq}
+use Rattle.lra_linear_spec.specs.declared.ConKind.TheVariants.{Eq}
 use Rattle.lra_lin.proofs.FormLemmas.{product_negated}
 use Rattle.lra_domain.specs.declared.Exactness.{Exactness}
 use Rattle.lra_domain.specs.declared.Exactness.TheVariants.{Exact, Flagged}

@@ -4,7 +4,7 @@ use Rattle.std.specs.Prelude.{◌<ℤ◌, ◌-ℤ◌, neg_ℤ, int_lt, IfSome}
 use Rattle.std.specs.Int.{w128, cast_signed, cast_unsigned, int_div_euclid}
 use Rattle.std.proofs.lemmas.Int.{ints, clamps, to_z-of_z}
 use Rattle.std.proofs.Math.Nat.{div-le_self}
-use Rattle.lra_linear.specs.Range.{InRange}
+use Rattle.lra_linear_spec.specs.Range.{InRange}
 use Rattle.lra_box.specs.declared.interval.Interval.{Interval}
 use Rattle.lra_box.specs.Bounds.{EndsInRange}
 use Rattle.lra_box.specs.Refine.{lowered, raised, tightened}

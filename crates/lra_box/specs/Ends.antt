@@ -1,7 +1,7 @@
 -- What a box tells of the least and the greatest value of a form: the ends by which an assignment of the form sets the
 -- bounds, and none where a number passes the range on the way.
 use Rattle.std.specs.Prelude.{◌≡◌, ◌⊎◌, ℤ, ◌+ℤ◌, List, Option, None, Some}
-use Rattle.lra_linear.specs.Range.{InRange}
+use Rattle.lra_linear_spec.specs.Range.{InRange}
 use Rattle.lra_lin.specs.Form.{Form}
 use Rattle.lra_box.specs.declared.interval.Interval.{Interval}
 use Rattle.lra_box.specs.declared.interval.Side.{Side}

@@ -2,7 +2,7 @@
 
 ghost use Rattle.std.specs.Prelude.{◌≡◌, length, IfSome};
 ghost use Rattle.lra_domain.specs.declared.Exactness.TheVariants.{Exact};
-ghost use Rattle.lra_linear.specs.Range.{InRange};
+ghost use Rattle.lra_linear_spec.specs.Range.{InRange};
 ghost use Rattle.lra_box.specs.Bounds.{times, TimesPasses, end_product, ProductPasses, end_sum, SumPasses, IsBound};
 ghost use Rattle.lra_box.specs.Ends.{IsEnd, PlusEnd};
 

@@ -2,8 +2,8 @@
 
 ghost use Rattle.std.specs.Prelude.{◌↔◌, ℕ, ℤ, List, length};
 ghost use Rattle.std.specs.List.{Contains};
-ghost use Rattle.lra_linear.specs.Echelon.{IsEchelon};
-ghost use Rattle.lra_linear.specs.RowOrder.{Ascends, inequality_cmp};
+ghost use Rattle.lra_linear_spec.specs.Echelon.{IsEchelon};
+ghost use Rattle.lra_linear_spec.specs.RowOrder.{Ascends, inequality_cmp};
 ghost use Rattle.lra_box.specs.declared.interval.Interval.{Interval};
 ghost use Rattle.lra_box.specs.ExactRows.{IsEqualityRow, IsInequalityRow};
 ghost use Rattle.lra_box.specs.Parts.{equal_rows, unequal_rows};

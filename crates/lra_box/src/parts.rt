@@ -2,8 +2,8 @@
 
 ghost use Rattle.std.specs.Prelude.{◌≡◌, ◌^◌, ◌≤◌, ◌<◌, ◌+◌, ◌++◌, [], All, replicate, length, IfOk, OnOk, IfSome};
 ghost use Rattle.std.specs.Prelude.{if◌then◌else◌};
-ghost use Rattle.lra_linear.specs.Range.{InRange};
-ghost use Rattle.lra_linear.specs.declared.ConKind.TheVariants.{Ge, Eq};
+ghost use Rattle.lra_linear_spec.specs.Range.{InRange};
+ghost use Rattle.lra_linear_spec.specs.declared.ConKind.TheVariants.{Ge, Eq};
 ghost use Rattle.lra_box.specs.Bounds.{AllSound, EndsInRange};
 ghost use Rattle.lra_box.specs.Parts.{bound_row, is_single, low_rows, high_rows, equal_rows, unequal_rows, box_system};
 

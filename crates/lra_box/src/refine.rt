@@ -3,8 +3,8 @@
 ghost use Rattle.std.specs.Prelude.{◌≡◌, ◌≢◌, ◌↔◌, pos, ◌<◌, length, IsTrue, None, Some, All, if◌then◌else◌, ◌+ℤ◌};
 ghost use Rattle.std.specs.Prelude.{◌≤ℤ◌, slice_index_or};
 ghost use Rattle.lra_domain.specs.declared.Exactness.TheVariants.{Exact};
-ghost use Rattle.lra_linear.specs.Range.{InRange};
-ghost use Rattle.lra_linear.specs.Vectors.{product};
+ghost use Rattle.lra_linear_spec.specs.Range.{InRange};
+ghost use Rattle.lra_linear_spec.specs.Vectors.{product};
 ghost use Rattle.lra_box.specs.Bounds.{AllSound, EndsInRange, open_interval};
 ghost use Rattle.lra_box.specs.Refine.{refined, some_occurs, RefinePasses, TightAt};
 ghost use Rattle.lra_box.specs.Answers.{TestedTo};

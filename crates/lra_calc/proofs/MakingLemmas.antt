@@ -4,14 +4,14 @@ use Rattle.std.proofs.Common.{Option, Some, None}
 use Rattle.std.specs.List.{All}
 use Rattle.std.proofs.lemmas.Bool.Decides.{nat_tests}
 use Rattle.std.proofs.lemmas.List.Elements.{All-nil, All-cons}
-use Rattle.lra_linear.specs.Points.{PointSet}
-use Rattle.lra_linear.specs.Descriptions.{Given}
-use Rattle.lra_linear.specs.Formed.{IsFormed}
-use Rattle.lra_linear.specs.Polyhedra.{Polyhedron}
-use Rattle.lra_linear.specs.Strain.{Loss}
-use Rattle.lra_linear.specs.declared.GenKind.{GenKind}
-use Rattle.lra_linear.specs.declared.GenKind.TheVariants as gen
-use Rattle.lra_linear.specs.Kinds.{is_line}
+use Rattle.lra_linear_spec.specs.Points.{PointSet}
+use Rattle.lra_linear_spec.specs.Descriptions.{LinearRow}
+use Rattle.lra_linear_spec.specs.Representable.{IsRepresentable}
+use Rattle.lra_linear_spec.specs.Polyhedra.{Polyhedron}
+use Rattle.lra_linear_spec.specs.Strain.{Loss}
+use Rattle.lra_linear_spec.specs.declared.GenKind.{GenKind}
+use Rattle.lra_linear_spec.specs.declared.GenKind.TheVariants as gen
+use Rattle.lra_linear_spec.specs.Kinds.{is_line}
 use Rattle.lra_sys.specs.Listed.{Listed, given_by, FitsKind, FitKinds}
 use Rattle.lra_script.specs.LineForms as form
 use Rattle.lra_poly.specs.Outcomes.{Becomes}
@@ -56,16 +56,16 @@ given_by-append : {K : Type 0} (equal : K → Bool) (rows : List (List ℤ)) (ki
 given_by-append equal [] [] row kind e = refl
 given_by-append equal [] (k ∷ ks) row kind e = cc
 given_by-append equal (r ∷ rs) [] row kind e = cc
-given_by-append equal (r ∷ rs) (k ∷ ks) row kind e = ap (λ (gs : List Given). record { row = r; equal = equal k } ∷ gs) (given_by-append equal rs ks row kind (cc))
+given_by-append equal (r ∷ rs) (k ∷ ks) row kind e = ap (λ (gs : List LinearRow). record { row = r; equal = equal k } ∷ gs) (given_by-append equal rs ks row kind (cc))
 
-pub made_later : {K : Type 0} (equal : K → Bool) (s t : Listed K) (row : List ℤ) (kind : K) (rest all : List Given) → length s.rows ≡ length s.kinds → t.rows ≡ s.rows ++ row ∷ [] →
+pub made_later : {K : Type 0} (equal : K → Bool) (s t : Listed K) (row : List ℤ) (kind : K) (rest all : List LinearRow) → length s.rows ≡ length s.kinds → t.rows ≡ s.rows ++ row ∷ [] →
     t.kinds ≡ s.kinds ++ kind ∷ []
     → given_by equal s.rows s.kinds ++ record { row = row; equal = equal kind } ∷ rest ≡ all → given_by equal t.rows t.kinds ++ rest ≡ all
 made_later equal s t row kind rest all same rows kinds before =
-    let g : Given = record { row = row; equal = equal kind } in
+    let g : LinearRow = record { row = row; equal = equal kind } in
     let pushed : given_by equal t.rows t.kinds ≡ given_by equal s.rows s.kinds ++ g ∷ [] =
     ap (λ (rs : List (List ℤ)). given_by equal rs t.kinds) rows ∙ ap (given_by equal (s.rows ++ row ∷ [])) kinds ∙ given_by-append equal s.rows s.kinds row kind same in
-    ap (λ (gs : List Given). gs ++ rest) pushed ∙ append_assoc (given_by equal s.rows s.kinds) (g ∷ []) rest ∙ before
+    ap (λ (gs : List LinearRow). gs ++ rest) pushed ∙ append_assoc (given_by equal s.rows s.kinds) (g ∷ []) rest ∙ before
 
 pub all_tail : {X : Type 0} (P : X → Type 0) (x : X) (xs : List X) → All P (x ∷ xs) → All P xs
 all_tail P x xs a = λ k d h. a (suc k) d (omega arith)
@@ -77,13 +77,13 @@ pub row_fits : (n : ℕ) (kind : GenKind) (numbers row : List ℤ) → form.as_g
     → (length row ≡ suc n) × FitsKind kind row
 row_fits n gen.Point [] row e w d = cc
 row_fits n gen.Point (z ∷ zs) row e w d =
-    let same : (z ∷ zs) ≡ row = ap (λ (g : Given). g.row) e in
+    let same : (z ∷ zs) ≡ row = ap (λ (g : LinearRow). g.row) e in
     (ap (λ (r : List ℤ). length r) (sym same) ∙ w, subst (λ (r : List ℤ). FitsKind gen.Point r) same d)
 row_fits n gen.Ray numbers row e w d =
-    let same : (pos 0 ∷ numbers) ≡ row = ap (λ (g : Given). g.row) e in
+    let same : (pos 0 ∷ numbers) ≡ row = ap (λ (g : LinearRow). g.row) e in
     (ap (λ (r : List ℤ). length r) (sym same) ∙ ap suc w, subst (λ (r : List ℤ). FitsKind gen.Ray r) same refl)
 row_fits n gen.Line numbers row e w d =
-    let same : (pos 0 ∷ numbers) ≡ row = ap (λ (g : Given). g.row) e in
+    let same : (pos 0 ∷ numbers) ≡ row = ap (λ (g : LinearRow). g.row) e in
     (ap (λ (r : List ℤ). length r) (sym same) ∙ ap suc w, subst (λ (r : List ℤ). FitsKind gen.Line r) same refl)
 
 fit-append : (rows : List (List ℤ)) (kinds : List GenKind) (row : List ℤ) (kind : GenKind) → length rows ≡ length kinds → FitKinds rows kinds → FitsKind kind row →
@@ -116,22 +116,23 @@ pub generator_fits : (n : ℕ) (gs : List Generator) (i : ℕ) (x : Generator) (
 generator_fits n gs i x row widths divided h e is =
     row_fits n x.kind x.numbers row is (subst (IsWide n) (sym e) (all_generators_wide n gs widths i x h)) (subst (λ (g : Generator). IsDivided g.kind g.numbers) (sym e) (divided i x h))
 
-pub pushed_here : {K X : Type 0} (equal : K → Bool) (v : X → Given) (s t : Listed K) (row : List ℤ) (kind : K) (items : List X) (i : ℕ) (x : X) (all : List Given) → length s.rows ≡ length s.kinds →
+pub pushed_here : {K X : Type 0} (equal : K → Bool) (v : X → LinearRow) (s t : Listed K) (row : List ℤ) (kind : K) (items : List X) (i : ℕ) (x : X) (all : List LinearRow) →
+    length s.rows ≡ length s.kinds →
     t.rows ≡ s.rows ++ row ∷ [] → t.kinds ≡ s.kinds ++ kind ∷ [] → i < length items → x ≡ get_or items i x → v x ≡ record { row = row; equal = equal kind }
     → given_by equal s.rows s.kinds ++ map v (drop i items) ≡ all → given_by equal t.rows t.kinds ++ map v (drop (i + 1) items) ≡ all
 pushed_here equal v s t row kind items i x all same rows kinds h e is before =
     made_later equal s t row kind (map v (drop (i + 1) items)) all same rows kinds
-    (ap (λ (g : Given). given_by equal s.rows s.kinds ++ g ∷ map v (drop (i + 1) items)) (sym is)
-    ∙ ap (λ (gs : List Given). given_by equal s.rows s.kinds ++ gs) (sym (rest_at v items i x x h e)) ∙ before)
+    (ap (λ (g : LinearRow). given_by equal s.rows s.kinds ++ g ∷ map v (drop (i + 1) items)) (sym is)
+    ∙ ap (λ (gs : List LinearRow). given_by equal s.rows s.kinds ++ gs) (sym (rest_at v items i x x h e)) ∙ before)
 
 -- ---- a polyhedron, flagged where something was lost
-pub made_of : (n : ℕ) (P : PointSet) (Strains : Loss → Type 0) (p : Polyhedron) (outcome : Outcome) → IsFormed p → Becomes n P Strains p outcome →
+pub made_of : (n : ℕ) (P : PointSet) (Strains : Loss → Type 0) (p : Polyhedron) (outcome : Outcome) → IsRepresentable p → Becomes n P Strains p outcome →
     IsMadeOf n P Strains (is_flagged outcome) p
 made_of n P Strains p Exact fine b = b.exact
 made_of n P Strains p (Flagged loss) fine b = record { dimensions = b.dims; formed = fine; within = b.within; loss = loss; strains = b.flagged }
 
 -- as the code tells it
-pub made_as_told : (n : ℕ) (P : PointSet) (Strains : Loss → Type 0) (p q : Polyhedron) (outcome : Outcome) (flagged : Bool) → q ≡ p → flagged ≡ is_flagged outcome → IsFormed p →
+pub made_as_told : (n : ℕ) (P : PointSet) (Strains : Loss → Type 0) (p q : Polyhedron) (outcome : Outcome) (flagged : Bool) → q ≡ p → flagged ≡ is_flagged outcome → IsRepresentable p →
     Becomes n P Strains p outcome → IsMadeOf n P Strains flagged q
 made_as_told n P Strains p q outcome flagged same tells fine b =
     subst (λ (x : Polyhedron). IsMadeOf n P Strains flagged x) (sym same)

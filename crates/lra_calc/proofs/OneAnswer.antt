@@ -2,12 +2,12 @@
 use Rattle.std.proofs.Common.{◌≡◌, ◌<◌, ◌+◌, ℕ, zero, suc, ℤ, pos, negsuc, ◌+ℤ◌, neg_ℤ, ◌*ℤ◌, ◌<ℤ◌, ◌≤ℤ◌, List, [], ◌∷◌, ◌++◌, length, length-append, refl, ap, sym, ◌∙◌, subst, arith}
 use Rattle.std.specs.List.{All}
 use Rattle.std.proofs.lemmas.Int.{ints}
-use Rattle.lra_linear.specs.Descriptions.{Given}
-use Rattle.lra_linear.specs.LowestTerms.{IsPrimitive}
-use Rattle.lra_linear.specs.Vectors.{entry, product}
-use Rattle.lra_linear.proofs.LowestTerms.{same_multiple}
-use Rattle.lra_linear.proofs.Ring.{mul_nonnegative, ring, v, ⊖, ◌⊕◌, ◌⊗◌}
-use Rattle.lra_linear.proofs.Signs.{cancel_same, divide_nonnegative}
+use Rattle.lra_linear_spec.specs.Descriptions.{LinearRow}
+use Rattle.lra_linear_spec.specs.LowestTerms.{IsPrimitive}
+use Rattle.lra_linear_spec.specs.Vectors.{entry, product}
+use Rattle.lra_linear_spec.proofs.LowestTerms.{same_multiple}
+use Rattle.lra_linear_spec.proofs.Ring.{mul_nonnegative, ring, v, ⊖, ◌⊕◌, ◌⊗◌}
+use Rattle.lra_linear_spec.proofs.Signs.{cancel_same, divide_nonnegative}
 use Rattle.lra_sys.specs.FirstPlaces.{FirstAt}
 use Rattle.lra_duality.specs.Inclusions.{Meets, Violates, Passes, MeetsAll, ViolatesFirst, IsInclusion}
 use Rattle.lra_duality.specs.Maxima.{StaysInRange, PassesRange, Improves, DoesNotImprove, HasValue, IsAtMost, IsBelow, OfPoint, IsGreatest, IsMaximum}
@@ -48,39 +48,39 @@ not_all : {A : Type 0} (P Q : A → Type 0) (list : List A) (i : ℕ) → ((x : 
 not_all P Q list i apart a f = apart f.member (at_first P Q P list i a f) f.here
 
 -- ---- inclusion
-violates_apart : (g r : Given) → Meets g r → Violates g r → ⊥
+violates_apart : (g r : LinearRow) → Meets g r → Violates g r → ⊥
 violates_apart g r m x = let t = m.1 in let f = x.1 in cc
 
-passes_apart : (g r : Given) → Meets g r → Passes g r → ⊥
+passes_apart : (g r : LinearRow) → Meets g r → Passes g r → ⊥
 passes_apart g r m x = never_both _ x m.0
 
-meets_all_apart : (rows : List Given) (g : Given) → MeetsAll rows g → ViolatesFirst rows g → ⊥
+meets_all_apart : (rows : List LinearRow) (g : LinearRow) → MeetsAll rows g → ViolatesFirst rows g → ⊥
 meets_all_apart rows g m x = not_all (Meets g) (Violates g) rows x.place (violates_apart g) m x.first
 
-meets_all_passes : (rows : List Given) (row : ℕ) (g : Given) → MeetsAll rows g → FirstAt (Meets g) (Passes g) rows row → ⊥
+meets_all_passes : (rows : List LinearRow) (row : ℕ) (g : LinearRow) → MeetsAll rows g → FirstAt (Meets g) (Passes g) rows row → ⊥
 meets_all_passes rows row g m x = not_all (Meets g) (Passes g) rows row (passes_apart g) m x
 
-not_both : (rows : List Given) (row : ℕ) (g : Given) → ViolatesFirst rows g → FirstAt (Meets g) (Passes g) rows row → ⊥
+not_both : (rows : List LinearRow) (row : ℕ) (g : LinearRow) → ViolatesFirst rows g → FirstAt (Meets g) (Passes g) rows row → ⊥
 not_both rows row g x p =
     let same = first_once (Meets g) (Violates g) (Passes g) rows x.place row (violates_apart g) (passes_apart g) x.first p in
-    never_both _ p.here (subst (λ (r : Given). Violates g r) same.1 x.first.here).0
+    never_both _ p.here (subst (λ (r : LinearRow). Violates g r) same.1 x.first.here).0
 
-no_and_wide : (rows generators : List Given) (i j row : ℕ) → IsInclusion rows generators (inclusion.No i) → IsInclusion rows generators (inclusion.Wide j row) → ⊥
+no_and_wide : (rows generators : List LinearRow) (i j row : ℕ) → IsInclusion rows generators (inclusion.No i) → IsInclusion rows generators (inclusion.Wide j row) → ⊥
 no_and_wide rows generators i j row a b =
     let same = first_once (MeetsAll rows) (ViolatesFirst rows) (λ g. FirstAt (Meets g) (Passes g) rows row) generators i j (meets_all_apart rows) (meets_all_passes rows row) a b in
     not_both rows row b.member (subst (ViolatesFirst rows) same.1 a.here) b.here
 
-wide_once : (rows generators : List Given) (i row j other : ℕ) → IsInclusion rows generators (inclusion.Wide i row) → IsInclusion rows generators (inclusion.Wide j other) →
+wide_once : (rows generators : List LinearRow) (i row j other : ℕ) → IsInclusion rows generators (inclusion.Wide i row) → IsInclusion rows generators (inclusion.Wide j other) →
     inclusion.Wide i row ≡ inclusion.Wide j other
 wide_once rows generators i row j other a b =
-    let P : Given → Type 0 = λ g. FirstAt (Meets g) (Passes g) rows row in
-    let Q : Given → Type 0 = λ g. FirstAt (Meets g) (Passes g) rows other in
+    let P : LinearRow → Type 0 = λ g. FirstAt (Meets g) (Passes g) rows row in
+    let Q : LinearRow → Type 0 = λ g. FirstAt (Meets g) (Passes g) rows other in
     let same = first_once (MeetsAll rows) P Q generators i j (meets_all_passes rows row) (meets_all_passes rows other) a b in
     let g = b.member in
     let rest = first_once (Meets g) (Passes g) (Passes g) rows row other (passes_apart g) (passes_apart g) (subst P same.1 a.here) b.here in
     ap (λ (k : ℕ). inclusion.Wide k row) same.0 ∙ ap (inclusion.Wide j) rest.0
 
-pub one_inclusion : (rows generators : List Given) (a b : Inclusion) → IsInclusion rows generators a → IsInclusion rows generators b → a ≡ b
+pub one_inclusion : (rows generators : List LinearRow) (a b : Inclusion) → IsInclusion rows generators a → IsInclusion rows generators b → a ≡ b
 one_inclusion rows generators inclusion.Yes inclusion.Yes h k = refl
 one_inclusion rows generators inclusion.Yes (inclusion.No j) h k = absurd (not_all (MeetsAll rows) (ViolatesFirst rows) generators j (meets_all_apart rows) h k)
 one_inclusion rows generators inclusion.Yes (inclusion.Wide j row) h k =
@@ -95,10 +95,10 @@ one_inclusion rows generators (inclusion.Wide i row) (inclusion.No j) h k = absu
 one_inclusion rows generators (inclusion.Wide i row) (inclusion.Wide j other) h k = wide_once rows generators i row j other h k
 
 -- ---- the greatest value
-in_range_apart : (form : List ℤ) (g : Given) → StaysInRange form g → PassesRange form g → ⊥
+in_range_apart : (form : List ℤ) (g : LinearRow) → StaysInRange form g → PassesRange form g → ⊥
 in_range_apart form g s p = never_both _ p s
 
-flat_apart : (form : List ℤ) (g : Given) → DoesNotImprove form g → Improves form g → ⊥
+flat_apart : (form : List ℤ) (g : LinearRow) → DoesNotImprove form g → Improves form g → ⊥
 flat_apart form g d i = d i
 
 none_first : {A : Type 0} (P Q : A → Type 0) (list : List A) (i : ℕ) → list ≡ [] → FirstAt P Q list i → ⊥
@@ -137,19 +137,19 @@ same_value n m d c above e p q =
     at_each n m d c e (suc (suc j)) = ring (v (pos c) ⊗ v (pos 0)) (v (pos d) ⊗ v (pos 0)) (omega arith)
 
 -- a greatest value is at most any other that is told
-at_most : (form : List ℤ) (generators : List Given) (n d m c : ℤ) (i j : ℕ) → IsGreatest form generators n d i → IsGreatest form generators m c j → (n *ℤ c) ≤ℤ (m *ℤ d)
+at_most : (form : List ℤ) (generators : List LinearRow) (n d m c : ℤ) (i j : ℕ) → IsGreatest form generators n d i → IsGreatest form generators m c j → (n *ℤ c) ≤ℤ (m *ℤ d)
 at_most form generators n d m c i j h k =
     let g = h.first.member in
     cross (product form g.row) (entry g.row 0) n d m c h.first.here.0 h.positive h.first.here.1
     (at_first (OfPoint (IsBelow form n d)) (λ x. (pos 0 <ℤ entry x.row 0) × HasValue form n d x.row) (OfPoint (IsAtMost form m c)) generators i k.others h.first h.first.here.0)
 
-below_apart : (form : List ℤ) (n d : ℤ) (g : Given) → OfPoint (IsBelow form n d) g → (pos 0 <ℤ entry g.row 0) × HasValue form n d g.row → ⊥
+below_apart : (form : List ℤ) (n d : ℤ) (g : LinearRow) → OfPoint (IsBelow form n d) g → (pos 0 <ℤ entry g.row 0) × HasValue form n d g.row → ⊥
 below_apart form n d g b h = apart_at (product form g.row *ℤ d) (n *ℤ entry g.row 0) (b h.0) h.1
   where
     apart_at : (a b : ℤ) → a <ℤ b → a ≡ b → ⊥
     apart_at a b h e = absurd (omega (arith, ints, h, e))
 
-at_once : (form : List ℤ) (generators : List Given) (n m : ℤ) (d c : ℕ) (i j : ℕ) → IsMaximum form generators (maximum.At n (pos d) i) → IsMaximum form generators (maximum.At m (pos c) j) →
+at_once : (form : List ℤ) (generators : List LinearRow) (n m : ℤ) (d c : ℕ) (i j : ℕ) → IsMaximum form generators (maximum.At n (pos d) i) → IsMaximum form generators (maximum.At m (pos c) j) →
     maximum.At n (pos d) i ≡ maximum.At m (pos c) j
 at_once form generators n m d c i j (s, f, h, p) (t, g, k, q) =
     let even : n *ℤ pos c ≡ m *ℤ pos d =
@@ -162,22 +162,22 @@ at_once form generators n m d c i j (s, f, h, p) (t, g, k, q) =
     ap (λ (z : ℤ). maximum.At z (pos d) i) same.0 ∙ ap (λ (e : ℕ). maximum.At m (pos e) i) (sym same.1) ∙ ap (maximum.At m (pos c)) place.0
 
 -- divisors are above 0
-at_by_sign : (form : List ℤ) (generators : List Given) (n d m c : ℤ) (i j : ℕ) → IsMaximum form generators (maximum.At n d i) → IsMaximum form generators (maximum.At m c j) →
+at_by_sign : (form : List ℤ) (generators : List LinearRow) (n d m c : ℤ) (i j : ℕ) → IsMaximum form generators (maximum.At n d i) → IsMaximum form generators (maximum.At m c j) →
     maximum.At n d i ≡ maximum.At m c j
 at_by_sign form generators n (pos d) m (pos c) i j h k = at_once form generators n m d c i j h k
 at_by_sign form generators n (negsuc d) m c i j h k = absurd (let a = h.2.positive in omega (arith, ints, a))
 at_by_sign form generators n (pos d) m (negsuc c) i j h k = absurd (let a = k.2.positive in omega (arith, ints, a))
 
-some_there : (form : List ℤ) (generators : List Given) (n d : ℤ) (i : ℕ) → generators ≡ [] → IsGreatest form generators n d i → ⊥
+some_there : (form : List ℤ) (generators : List LinearRow) (n d : ℤ) (i : ℕ) → generators ≡ [] → IsGreatest form generators n d i → ⊥
 some_there form generators n d i e h = none_first (OfPoint (IsBelow form n d)) (λ x. (pos 0 <ℤ entry x.row 0) × HasValue form n d x.row) generators i e h.first
 
-wide_apart : (form : List ℤ) (generators : List Given) (i : ℕ) → All (StaysInRange form) generators → IsMaximum form generators (maximum.Wide i) → ⊥
+wide_apart : (form : List ℤ) (generators : List LinearRow) (i : ℕ) → All (StaysInRange form) generators → IsMaximum form generators (maximum.Wide i) → ⊥
 wide_apart form generators i a w = not_all (StaysInRange form) (PassesRange form) generators i (in_range_apart form) a w
 
-growth_apart : (form : List ℤ) (generators : List Given) (i : ℕ) → All (DoesNotImprove form) generators → FirstAt (DoesNotImprove form) (Improves form) generators i → ⊥
+growth_apart : (form : List ℤ) (generators : List LinearRow) (i : ℕ) → All (DoesNotImprove form) generators → FirstAt (DoesNotImprove form) (Improves form) generators i → ⊥
 growth_apart form generators i a w = not_all (DoesNotImprove form) (Improves form) generators i (flat_apart form) a w
 
-pub one_maximum : (form : List ℤ) (generators : List Given) (a b : Maximum) → IsMaximum form generators a → IsMaximum form generators b → a ≡ b
+pub one_maximum : (form : List ℤ) (generators : List LinearRow) (a b : Maximum) → IsMaximum form generators a → IsMaximum form generators b → a ≡ b
 one_maximum form generators maximum.Empty maximum.Empty h k = refl
 one_maximum form generators maximum.Empty (maximum.Wide j) h k = absurd (none_first (StaysInRange form) (PassesRange form) generators j h k)
 one_maximum form generators maximum.Empty (maximum.Unbounded j) h k = absurd (none_first (DoesNotImprove form) (Improves form) generators j h k.1)
@@ -203,12 +203,12 @@ place_inside {A = A} P Q list i f =
     let counted : length list ≡ length f.earlier + suc (length f.later) = ap (λ (l : List A). length l) f.is ∙ length-append f.earlier (f.member ∷ f.later) in
     let at = f.at in omega (arith, counted, at)
 
-pub inclusion_placed : (rows generators : List Given) (a : Inclusion) → IsInclusion rows generators a → IsPlacedInclusion (length generators) a
+pub inclusion_placed : (rows generators : List LinearRow) (a : Inclusion) → IsInclusion rows generators a → IsPlacedInclusion (length generators) a
 inclusion_placed rows generators inclusion.Yes h = tt
 inclusion_placed rows generators (inclusion.No i) h = place_inside (MeetsAll rows) (ViolatesFirst rows) generators i h
 inclusion_placed rows generators (inclusion.Wide i row) h = tt
 
-pub maximum_placed : (form : List ℤ) (generators : List Given) (a : Maximum) → IsMaximum form generators a → IsPlacedMaximum (length generators) a
+pub maximum_placed : (form : List ℤ) (generators : List LinearRow) (a : Maximum) → IsMaximum form generators a → IsPlacedMaximum (length generators) a
 maximum_placed form generators maximum.Empty h = tt
 maximum_placed form generators (maximum.Wide i) h = tt
 maximum_placed form generators (maximum.Unbounded i) h = place_inside (DoesNotImprove form) (Improves form) generators i h.1

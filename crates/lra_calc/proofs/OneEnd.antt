@@ -1,12 +1,12 @@
 -- A script that isn't flagged has one end: each of its sets is then made exactly, by its one pair of canonical lists.
 use Rattle.std.proofs.Common.{◌≡◌, ◌+◌, ℕ, suc, Bool, true, false, List, [], ◌∷◌, length, map, refl, ap, sym, ◌∙◌, subst, ◌⊎◌, inl, inr, Option, Some, None, Result, Ok, Err}
-use Rattle.lra_linear.specs.Points.{PointSet}
-use Rattle.lra_linear.specs.Descriptions.{Con as points_of, Gen as generated_by}
-use Rattle.lra_linear.specs.Strain.{Loss}
-use Rattle.lra_linear.specs.OperationStrain.{FromRowsStrains, FromGeneratorsStrains, ForgetStrains}
-use Rattle.lra_linear.specs.SetOperations as sets
-use Rattle.lra_linear.specs.Polyhedra.{Polyhedron}
-use Rattle.lra_linear.proofs.Polyhedra.{polyhedron_unique}
+use Rattle.lra_linear_spec.specs.Points.{PointSet}
+use Rattle.lra_linear_spec.specs.Descriptions.{Con as points_of, Gen as generated_by}
+use Rattle.lra_linear_spec.specs.Strain.{Loss}
+use Rattle.lra_linear_spec.specs.OperationStrain.{FromRowsStrains, FromGeneratorsStrains, ForgetStrains}
+use Rattle.lra_linear_spec.specs.SetOperations as sets
+use Rattle.lra_linear_spec.specs.Polyhedra.{Polyhedron}
+use Rattle.lra_linear_spec.proofs.Polyhedra.{polyhedron_unique}
 use Rattle.lra_script.specs.ScriptText.{is_skipped, words}
 use Rattle.lra_script.specs.LineForms.{given_of, Line, Dims, Make, Ask, Recipe, Con, Gen, Combine, Widen, Limited, Map, Forget, Question, Show, Holds, Include, Maximise, line_of}
 use Rattle.lra_duality.specs.Inclusions.{IsInclusion}
@@ -18,8 +18,8 @@ use Rattle.lra_calc.specs.Script.{Fault, Session, flagged_by, Unless, WithSet, w
 use Rattle.lra_calc.specs.Script.{shown, held, AnswerTo}
 use Rattle.lra_calc.specs.Script.{made_as, printed_by, behind}
 use Rattle.lra_calc.specs.Script.{AfterLine, AfterForm, End, GoesOn, Performs, CarriesOut, stopped, last_session, IsUnflagged, AgreesWith}
-use Rattle.lra_linear.specs.Widening as widening
-use Rattle.lra_linear.specs.OperationStrain.{StandardStrains, LimitedStrains}
+use Rattle.lra_linear_spec.specs.Widening as widening
+use Rattle.lra_linear_spec.specs.OperationStrain.{StandardStrains, LimitedStrains}
 use Rattle.lra_duality.specs.declared.inclusion.Inclusion.{Inclusion}
 use Rattle.lra_duality.specs.declared.inclusion.Inclusion.TheVariants as inclusion
 use Rattle.lra_calc.proofs.OneRefusal.{AlikeResults, agrees_by, alike_by, alike_refl, line_alike_by, skip_alike, skip_told, WideningsAgree}
@@ -125,12 +125,12 @@ made_once s (Combine how first second) m l clear_m clear_l h k =
 made_once s (Widen first second) m l clear_m clear_l h k =
     both_sets (λ p. WithSet second (s.made second) (λ q. Widens s.dims p q (IsWidened s.dims p q))) first (s.made first) m l (m ≡ l)
     (λ p x y. both_sets (λ q. Widens s.dims p q (IsWidened s.dims p q)) second (s.made second) m l (m ≡ l)
-    (λ q x1 y1. widened_once s.dims p q (widening.Standard p q) (StandardStrains p q) m l clear_m clear_l x1 y1) x y) h k
+    (λ q x1 y1. widened_once s.dims p q (widening.StandardWidening p q) (StandardStrains p q) m l clear_m clear_l x1 y1) x y) h k
 made_once s (Limited first second given) m l clear_m clear_l h k =
     both_sets (λ p. WithSet second (s.made second) (λ q. Unless (wrong_row s.dims given) (Widens s.dims p q (IsLimited s.dims given p q)))) first (s.made first) m l (m ≡ l)
     (λ p x y. both_sets (λ q. Unless (wrong_row s.dims given) (Widens s.dims p q (IsLimited s.dims given p q))) second (s.made second) m l (m ≡ l)
     (λ q x1 y1. both_unless (Widens s.dims p q (IsLimited s.dims given p q)) (wrong_row s.dims given) m l (m ≡ l)
-    (λ x2 y2. widened_once s.dims p q (widening.Limited p q given) (LimitedStrains p q given) m l clear_m clear_l x2 y2) x1 y1) x y) h k
+    (λ x2 y2. widened_once s.dims p q (widening.LimitedWidening p q given) (LimitedStrains p q given) m l clear_m clear_l x2 y2) x1 y1) x y) h k
 made_once s (Map how from n form) m l clear_m clear_l h k =
     both_unless (WithSet from (s.made from) (λ p. Unless (wrong_width (length form) (suc s.dims)) (IsMade (IsMapped how s.dims n form p)))) (wrong_coordinate s.dims n) m l (m ≡ l)
     (λ x y. both_sets (λ p. Unless (wrong_width (length form) (suc s.dims)) (IsMade (IsMapped how s.dims n form p))) from (s.made from) m l (m ≡ l)

@@ -4,8 +4,8 @@ use Rattle.std.proofs.Common.{Ok, Err}
 use Rattle.std.specs.Prelude.{is_some, IfSome}
 use Rattle.std.specs.List.{All}
 use Rattle.lra_base.specs.Places.{greatest_length}
-use Rattle.lra_linear.specs.Descriptions.{Given}
-use Rattle.lra_linear.specs.Polyhedra.{Polyhedron}
+use Rattle.lra_linear_spec.specs.Descriptions.{LinearRow}
+use Rattle.lra_linear_spec.specs.Polyhedra.{Polyhedron}
 use Rattle.lra_duality.specs.Inclusions.{IsInclusion}
 use Rattle.lra_duality.specs.Maxima.{IsMaximum}
 use Rattle.lra_duality.specs.declared.inclusion.Inclusion.{Inclusion}
@@ -247,7 +247,7 @@ width_told : (b : Bool) (count needed : ℕ) (o : Option Fault) → IfSome o IsT
 width_told true count needed o h = h
 width_told false count needed o h = tt
 
-rows_told : (n : ℕ) (rows : List Given) → IfSome (wrong_row n rows) IsToldByWords
+rows_told : (n : ℕ) (rows : List LinearRow) → IfSome (wrong_row n rows) IsToldByWords
 rows_told n [] = tt
 rows_told n (g ∷ gs) = width_told (nat_eq (length g.row) (suc n)) (length g.row) (suc n) (wrong_row n gs) (rows_told n gs)
 

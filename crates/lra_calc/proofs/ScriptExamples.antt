@@ -3,12 +3,12 @@ use Rattle.std.proofs.Common.{◌≡◌, ℕ, pos, negsuc, List, [], ◌∷◌, 
 use Rattle.std.specs.Prelude.{codes}
 use Rattle.std.specs.List.{flat_map}
 use Rattle.std.specs.Fmt.{digits}
-use Rattle.lra_linear.specs.Points.{IsWithin}
-use Rattle.lra_linear.specs.Descriptions.{Given, inequality, equality, generator, line, Con as points_of}
-use Rattle.lra_linear.specs.Formed.{IsFormed}
-use Rattle.lra_linear.specs.Polyhedra.{Polyhedron, falsity}
-use Rattle.lra_linear.proofs.SpellingExamples.{quadrant, plain_is_quadrant}
-use Rattle.lra_linear.proofs.StrainExamples.{third_row_strains}
+use Rattle.lra_linear_spec.specs.Points.{IsWithin}
+use Rattle.lra_linear_spec.specs.Descriptions.{LinearRow, inequality, equality, generator, line, Con as points_of}
+use Rattle.lra_linear_spec.specs.Representable.{IsRepresentable}
+use Rattle.lra_linear_spec.specs.Polyhedra.{Polyhedron, falsity}
+use Rattle.lra_linear_spec.proofs.SpellingExamples.{quadrant, plain_is_quadrant}
+use Rattle.lra_linear_spec.proofs.StrainExamples.{third_row_strains}
 use Rattle.lra_base.specs.Places.{greatest_length}
 use Rattle.lra_show.specs.Texts.{text_line}
 use Rattle.lra_script.specs.ScriptText.{lines}
@@ -90,7 +90,7 @@ unfolding digits
 shown_texts = (refl, refl)
 
 -- a list that strains: catches a flag that is forgotten
-strained_line : (p : Polyhedron) → p.dims ≡ 1 → IsFormed p
+strained_line : (p : Polyhedron) → p.dims ≡ 1 → IsRepresentable p
     → IsWithin 1 (points_of (inequality (pos 170141183460469231731687303715884105727 ∷ pos 1 ∷ []) ∷ inequality (pos 0 ∷ pos 2 ∷ []) ∷ [])) (points_of p.rows)
     → Gives (codes "dims 1" ∷ codes "con P >= 170141183460469231731687303715884105727 1 ; >= 0 2" ∷ []) (Ok (text (codes "flagged at line 2" ∷ [])))
 unfolding digits
@@ -136,10 +136,10 @@ some_answers = (
 )
 
 -- catches a script that stops at its first wide point, and the last flag in place of the first
-abbrev ray_from : List Given → Polyhedron
+abbrev ray_from : List LinearRow → Polyhedron
 ray_from generators = record { dims = 1; rows = inequality (pos 2 ∷ pos 1 ∷ []) ∷ []; generators = generators }
 
-wide_points : (generators : List Given) → IsMadeOfRows 1 (inequality (pos 2 ∷ pos 1 ∷ []) ∷ []) false (ray_from generators) → Gives (
+wide_points : (generators : List LinearRow) → IsMadeOfRows 1 (inequality (pos 2 ∷ pos 1 ∷ []) ∷ []) false (ray_from generators) → Gives (
     codes "dims 1"
     ∷ codes "con P >= 2 1"
     ∷ []

@@ -8,13 +8,13 @@ use Rattle.std.proofs.lemmas.Bool.Decides.{nat_tests}
 use Rattle.std.proofs.lemmas.Int.{ints}
 use Rattle.std.proofs.lemmas.List.{take_rest}
 use Rattle.std.proofs.lemmas.List.Elements.{All-nil, All-cons}
-use Rattle.lra_linear.specs.declared.Excess.{Excess}
-use Rattle.lra_linear.specs.Vectors.{product}
-use Rattle.lra_linear.specs.CheckedArithmetic.{checked_product}
-use Rattle.lra_linear.specs.Descriptions.{Given, Holds, HoldsWith, Con as points_of}
-use Rattle.lra_linear.specs.Polyhedra.{Polyhedron}
-use Rattle.lra_linear.proofs.CheckedArithmetic.{checked_product_value}
-use Rattle.lra_linear.proofs.Membership.{contains_none, contains_head, contains_tail, contains_cases}
+use Rattle.lra_linear_spec.specs.declared.Excess.{Excess}
+use Rattle.lra_linear_spec.specs.Vectors.{product}
+use Rattle.lra_linear_spec.specs.CheckedArithmetic.{checked_product}
+use Rattle.lra_linear_spec.specs.Descriptions.{LinearRow, Holds, HoldsWith, Con as points_of}
+use Rattle.lra_linear_spec.specs.Polyhedra.{Polyhedron}
+use Rattle.lra_linear_spec.proofs.CheckedArithmetic.{checked_product_value}
+use Rattle.lra_linear_spec.proofs.Membership.{contains_none, contains_head, contains_tail, contains_cases}
 use Rattle.lra_sys.specs.declared.membership.Holds as H
 use Rattle.lra_sys.specs.declared.membership.Holds.TheVariants.{Yes, No, Wide}
 use Rattle.lra_sys.specs.Membership.{HoldsInRange, IsAnswer}
@@ -49,35 +49,35 @@ unmet true (negsuc n) h = refl
 unmet false (pos n) h = absurd (h (omega (arith, ints)))
 unmet false (negsuc n) h = refl
 
-decided_yes : (g : Given) (x : List ℤ) (q : Result ℤ Excess) (later : Option Bool) → q ≡ checked_product g.row x → IsOk q → Holds g x → script.decided g.equal q later ≡ later
+decided_yes : (g : LinearRow) (x : List ℤ) (q : Result ℤ Excess) (later : Option Bool) → q ≡ checked_product g.row x → IsOk q → Holds g x → script.decided g.equal q later ≡ later
 decided_yes g x (Ok p) later e ok h =
     let value : p ≡ product g.row x = checked_product_value g.row x (Ok p) e in
     ap (λ (b : Bool). cond b later (Some false)) (met g.equal p (subst (λ (z : ℤ). HoldsWith g.equal z) (sym value) h))
 decided_yes g x (Err f) later e ok h = absurd (cc)
 
-decided_no : (g : Given) (x : List ℤ) (q : Result ℤ Excess) (later : Option Bool) → q ≡ checked_product g.row x → IsOk q → (Holds g x → ⊥) → script.decided g.equal q later ≡ Some false
+decided_no : (g : LinearRow) (x : List ℤ) (q : Result ℤ Excess) (later : Option Bool) → q ≡ checked_product g.row x → IsOk q → (Holds g x → ⊥) → script.decided g.equal q later ≡ Some false
 decided_no g x (Ok p) later e ok h =
     let value : p ≡ product g.row x = checked_product_value g.row x (Ok p) e in
     ap (λ (b : Bool). cond b later (Some false)) (unmet g.equal p (λ k. h (subst (λ (z : ℤ). HoldsWith g.equal z) value k)))
 decided_no g x (Err f) later e ok h = absurd (cc)
 
-decided_wide : (g : Given) (q : Result ℤ Excess) (later : Option Bool) → IsErr q → script.decided g.equal q later ≡ None
+decided_wide : (g : LinearRow) (q : Result ℤ Excess) (later : Option Bool) → IsErr q → script.decided g.equal q later ≡ None
 decided_wide g (Ok p) later err = absurd (cc)
 decided_wide g (Err f) later err = refl
 
-behind : (x : List ℤ) (earlier rest : List Given) → All (HoldsInRange x) earlier → script.membership (earlier ++ rest) x ≡ script.membership rest x
+behind : (x : List ℤ) (earlier rest : List LinearRow) → All (HoldsInRange x) earlier → script.membership (earlier ++ rest) x ≡ script.membership rest x
 behind x [] rest a = refl
 behind x (g ∷ gs) rest a =
     let here = a 0 g (omega arith) in
     decided_yes g x (checked_product g.row x) (script.membership (gs ++ rest) x) refl here.0 here.1 ∙ behind x gs rest (all_tail (HoldsInRange x) g gs a)
 
-pub answer_is : (rows : List Given) (x : List ℤ) (a : H.Holds) → IsAnswer rows x a → script.membership rows x ≡ answered a
-answer_is rows x Yes a = ap (λ (gs : List Given). script.membership gs x) (sym (append-nil rows)) ∙ behind x rows [] a
+pub answer_is : (rows : List LinearRow) (x : List ℤ) (a : H.Holds) → IsAnswer rows x a → script.membership rows x ≡ answered a
+answer_is rows x Yes a = ap (λ (gs : List LinearRow). script.membership gs x) (sym (append-nil rows)) ∙ behind x rows [] a
 answer_is rows x (No place) a =
-    ap (λ (gs : List Given). script.membership gs x) a.is ∙ behind x a.earlier (a.member ∷ a.later) a.before
+    ap (λ (gs : List LinearRow). script.membership gs x) a.is ∙ behind x a.earlier (a.member ∷ a.later) a.before
     ∙ decided_no a.member x (checked_product a.member.row x) (script.membership a.later x) refl a.here.0 a.here.1
 answer_is rows x (Wide place) a =
-    ap (λ (gs : List Given). script.membership gs x) a.is ∙ behind x a.earlier (a.member ∷ a.later) a.before
+    ap (λ (gs : List LinearRow). script.membership gs x) a.is ∙ behind x a.earlier (a.member ∷ a.later) a.before
     ∙ decided_wide a.member (checked_product a.member.row x) (script.membership a.later x) a.here
 
 pub point_is : (x : List ℤ) (n : ℕ) → length x ≡ suc n → get_or x 0 (pos 0) ∷ take (length x - 1) (drop 1 x) ≡ x
@@ -86,27 +86,27 @@ point_is (d ∷ ds) n e = ap (λ (t : List ℤ). d ∷ t) (take_rest (d ∷ ds) 
 
 -- ---- the set of points
 -- what an answer says of it, and that a row passes where it is wide
-abbrev Tells : List Given → List ℤ → Option Bool → Type 0
+abbrev Tells : List LinearRow → List ℤ → Option Bool → Type 0
 Tells rows x (Some true) = points_of rows x
 Tells rows x (Some false) = points_of rows x → ⊥
 Tells rows x None = script.PassesFirst rows x
 
-passes_later : (g : Given) (gs : List Given) (x : List ℤ) → HoldsInRange x g → script.PassesFirst gs x → script.PassesFirst (g ∷ gs) x
+passes_later : (g : LinearRow) (gs : List LinearRow) (x : List ℤ) → HoldsInRange x g → script.PassesFirst gs x → script.PassesFirst (g ∷ gs) x
 passes_later g gs x h w = (
   suc w.0,
   record {
     earlier = g ∷ w.1.earlier;
     member = w.1.member;
     later = w.1.later;
-    is = ap (λ (fs : List Given). g ∷ fs) w.1.is;
+    is = ap (λ (fs : List LinearRow). g ∷ fs) w.1.is;
     at = let a = w.1.at in omega (arith, a);
     before = All-cons (HoldsInRange x) g w.1.earlier h w.1.before;
     here = w.1.here;
   },
 )
 
-later_tells : (g : Given) (gs : List Given) (x : List ℤ) (m : Option Bool) → HoldsInRange x g → Tells gs x m → Tells (g ∷ gs) x m
-later_tells g gs x (Some true) h told = λ f k. elim (contains_cases g f gs k) [ inl e ↦ subst (λ (f : Given). Holds f x) e h.1 | inr k ↦ told f k ]
+later_tells : (g : LinearRow) (gs : List LinearRow) (x : List ℤ) (m : Option Bool) → HoldsInRange x g → Tells gs x m → Tells (g ∷ gs) x m
+later_tells g gs x (Some true) h told = λ f k. elim (contains_cases g f gs k) [ inl e ↦ subst (λ (f : LinearRow). Holds f x) e h.1 | inr k ↦ told f k ]
 later_tells g gs x (Some false) h told = λ all. told (λ f k. all f (contains_tail g f gs k))
 later_tells g gs x None h told = passes_later g gs x h told
 
@@ -117,7 +117,7 @@ met_holds true (negsuc n) h = cc
 met_holds false (pos n) h = omega (arith, ints)
 met_holds false (negsuc n) h = cc
 
-decided_tells : (g : Given) (gs : List Given) (x : List ℤ) (p : ℤ) (b : Bool) (m : Option Bool) → IsOk (checked_product g.row x) → p ≡ product g.row x → script.is_met g.equal p ≡ b →
+decided_tells : (g : LinearRow) (gs : List LinearRow) (x : List ℤ) (p : ℤ) (b : Bool) (m : Option Bool) → IsOk (checked_product g.row x) → p ≡ product g.row x → script.is_met g.equal p ≡ b →
     Tells gs x m → Tells (g ∷ gs) x (cond b m (Some false))
 decided_tells g gs x p true m ok value e told = later_tells g gs x m (ok, subst (λ (z : ℤ). HoldsWith g.equal z) value (met_holds g.equal p e)) told
 decided_tells g gs x p false m ok value e told = λ all.
@@ -125,7 +125,7 @@ decided_tells g gs x p false m ok value e told = λ all.
     let t = met g.equal p (subst (λ (z : ℤ). HoldsWith g.equal z) (sym value) h) in
     absurd (cc)
 
-first_tells : (g : Given) (gs : List Given) (x : List ℤ) (q : Result ℤ Excess) (m : Option Bool) → q ≡ checked_product g.row x → Tells gs x m → Tells (g ∷ gs) x (script.decided g.equal q m)
+first_tells : (g : LinearRow) (gs : List LinearRow) (x : List ℤ) (q : Result ℤ Excess) (m : Option Bool) → q ≡ checked_product g.row x → Tells gs x m → Tells (g ∷ gs) x (script.decided g.equal q m)
 first_tells g gs x (Ok p) m e told =
     decided_tells g gs x p (script.is_met g.equal p) m (subst (λ (z : Result ℤ Excess). IsOk z) e refl) (checked_product_value g.row x (Ok p) e) refl told
 first_tells g gs x (Err f) m e told = (
@@ -141,19 +141,19 @@ first_tells g gs x (Err f) m e told = (
   },
 )
 
-all_tell : (rows : List Given) (x : List ℤ) → Tells rows x (script.membership rows x)
+all_tell : (rows : List LinearRow) (x : List ℤ) → Tells rows x (script.membership rows x)
 all_tell [] x = λ f k. absurd (contains_none f k)
 all_tell (g ∷ gs) x = first_tells g gs x (checked_product g.row x) (script.membership gs x) refl (all_tell gs x)
 
-wide_answer : (rows : List Given) (x : List ℤ) (b : Bool) → Some b ≡ script.membership rows x → script.PassesFirst rows x → ⊥
+wide_answer : (rows : List LinearRow) (x : List ℤ) (b : Bool) → Some b ≡ script.membership rows x → script.PassesFirst rows x → ⊥
 wide_answer rows x b e w = let n : script.membership rows x ≡ None = answer_is rows x (Wide w.0) w.1 in cc
 
-with_wide : (rows : List Given) (x : List ℤ) (m : Option Bool) → m ≡ script.membership rows x → Tells rows x m → script.TellsPoints rows x m
+with_wide : (rows : List LinearRow) (x : List ℤ) (m : Option Bool) → m ≡ script.membership rows x → Tells rows x m → script.TellsPoints rows x m
 with_wide rows x (Some true) e told = (told, wide_answer rows x true e)
 with_wide rows x (Some false) e told = (told, wide_answer rows x false e)
 with_wide rows x None e told = told
 
-pub membership_tells : (rows : List Given) (x : List ℤ) → script.TellsPoints rows x (script.membership rows x)
+pub membership_tells : (rows : List LinearRow) (x : List ℤ) → script.TellsPoints rows x (script.membership rows x)
 membership_tells rows x = with_wide rows x (script.membership rows x) refl (all_tell rows x)
 
 -- ---- names

@@ -4,15 +4,15 @@ use Rattle.std.specs.Prelude.{codes}
 use Rattle.std.specs.Fmt.{decimal}
 use Rattle.std.specs.List.{flat_map}
 use Rattle.std.proofs.lemmas.Int.{ints}
-use Rattle.lra_linear.specs.Vectors.{entry}
-use Rattle.lra_linear.specs.Descriptions.{Given, line}
-use Rattle.lra_linear.specs.Polyhedra.{Polyhedron}
-use Rattle.lra_linear.specs.declared.ConKind.{ConKind}
-use Rattle.lra_linear.specs.declared.ConKind.TheVariants as con
-use Rattle.lra_linear.specs.declared.GenKind.{GenKind}
-use Rattle.lra_linear.specs.declared.GenKind.TheVariants as gen
+use Rattle.lra_linear_spec.specs.Vectors.{entry}
+use Rattle.lra_linear_spec.specs.Descriptions.{LinearRow, line}
+use Rattle.lra_linear_spec.specs.Polyhedra.{Polyhedron}
+use Rattle.lra_linear_spec.specs.declared.ConKind.{ConKind}
+use Rattle.lra_linear_spec.specs.declared.ConKind.TheVariants as con
+use Rattle.lra_linear_spec.specs.declared.GenKind.{GenKind}
+use Rattle.lra_linear_spec.specs.declared.GenKind.TheVariants as gen
 use Rattle.lra_sys.specs.Listed.{Listed, given_by, constraints, generators, FitsKind, FitKinds}
-use Rattle.lra_linear.specs.Kinds.{is_equality, is_line}
+use Rattle.lra_linear_spec.specs.Kinds.{is_equality, is_line}
 use Rattle.lra_show.specs.Shown.{report_row, report_generator}
 use Rattle.lra_show.specs.ShownDescriptions.{generator_kind, shown_constraint, shown_generator}
 use Rattle.lra_show.specs.Rows.{Row}
@@ -53,7 +53,7 @@ generators_are (r ∷ rows) (k ∷ kinds) f =
 pub no_point : (p : Polyhedron) (g : Listed GenKind) → generators g ≡ p.generators → g.rows ≡ [] → polyhedron_text p ≡ text_line (codes "  empty")
 no_point p g e none =
     let nothing : p.generators ≡ [] = sym e ∙ ap (λ (rs : List (List ℤ)). given_by is_line rs g.kinds) none in
-    ap (λ (gs : List Given). empty_or gs (generators_text (variables p.dims) (map shown_generator gs) (rows_text (variables p.dims) (map shown_constraint p.rows)))) nothing
+    ap (λ (gs : List LinearRow). empty_or gs (generators_text (variables p.dims) (map shown_generator gs) (rows_text (variables p.dims) (map shown_constraint p.rows)))) nothing
 
 some_point : (names : List (List ℕ)) (rows : List ℕ) (rs : List (List ℤ)) (ks : List GenKind) → 0 < length rs → length ks ≡ length rs → FitKinds rs ks
     → empty_or (given_by is_line rs ks) (generators_text names (map shown_generator (given_by is_line rs ks)) rows) ≡ rows ++ flat_map (generator_line names) (shown_generators rs ks)
@@ -66,7 +66,7 @@ pub shown_whole : (p : Polyhedron) (c : Listed ConKind) (g : Listed GenKind) →
     → polyhedron_text p ≡ rows_text (variables p.dims) (shown_rows c.rows c.kinds) ++ flat_map (generator_line (variables p.dims)) (shown_generators g.rows g.kinds)
 shown_whole p c g rows gens some same fit =
     let names = variables p.dims in
-    ap (λ (gs : List Given). empty_or gs (generators_text names (map shown_generator gs) (rows_text names (map shown_constraint p.rows)))) (sym gens)
+    ap (λ (gs : List LinearRow). empty_or gs (generators_text names (map shown_generator gs) (rows_text names (map shown_constraint p.rows)))) (sym gens)
     ∙ some_point names (rows_text names (map shown_constraint p.rows)) g.rows g.kinds some same fit
     ∙ ap (λ (rs : List Row). rows_text names rs ++ flat_map (generator_line names) (shown_generators g.rows g.kinds)) (ap (map shown_constraint) (sym rows) ∙ rows_are c.rows c.kinds)
 
@@ -124,23 +124,24 @@ zip_fits (x ∷ rows) [] i r h f = absurd (omega arith)
 zip_fits (x ∷ rows) (y ∷ kinds) zero r h f = f.0
 zip_fits (x ∷ rows) (y ∷ kinds) (suc i) r h f = zip_fits rows kinds i r (omega arith) f.1
 
-zip_shown : (rows : List (List ℤ)) (kinds : List GenKind) (i : ℕ) (d : Given) (r : List ℤ) → i < length (given_by is_line rows kinds) → FitKinds rows kinds
+zip_shown : (rows : List (List ℤ)) (kinds : List GenKind) (i : ℕ) (d : LinearRow) (r : List ℤ) → i < length (given_by is_line rows kinds) → FitKinds rows kinds
     → shown_generator (get_or (given_by is_line rows kinds) i d) ≡ report_generator (get_or rows i r) (get_or kinds i gen.Point)
 zip_shown [] kinds i d r h f = absurd (omega arith)
 zip_shown (x ∷ rows) [] i d r h f = absurd (omega arith)
 zip_shown (x ∷ rows) (y ∷ kinds) zero d r h f = ap (λ (j : GenKind). report_generator x j) (kind_is x y f.0)
 zip_shown (x ∷ rows) (y ∷ kinds) (suc i) d r h f = zip_shown rows kinds i d r (omega arith) f.1
 
-count_as : (g : Listed GenKind) (gs : List Given) (i : ℕ) → generators g ≡ gs → i < length gs → i < length (given_by is_line g.rows g.kinds)
-count_as g gs i e h = subst (λ (l : List Given). i < length l) (sym e) h
+count_as : (g : Listed GenKind) (gs : List LinearRow) (i : ℕ) → generators g ≡ gs → i < length gs → i < length (given_by is_line g.rows g.kinds)
+count_as g gs i e h = subst (λ (l : List LinearRow). i < length l) (sym e) h
 
-pub row_there : (g : Listed GenKind) (gs : List Given) (rows : List (List ℤ)) (i : ℕ) → generators g ≡ gs → rows ≡ g.rows → i < length gs → i < length rows
+pub row_there : (g : Listed GenKind) (gs : List LinearRow) (rows : List (List ℤ)) (i : ℕ) → generators g ≡ gs → rows ≡ g.rows → i < length gs → i < length rows
 row_there g gs rows i e same h = subst (λ (l : List (List ℤ)). i < length l) (sym same) (zip_rows g.rows g.kinds i (count_as g gs i e h))
 
-pub kind_there : (g : Listed GenKind) (gs : List Given) (kinds : List GenKind) (i : ℕ) → generators g ≡ gs → kinds ≡ g.kinds → i < length gs → i < length kinds
+pub kind_there : (g : Listed GenKind) (gs : List LinearRow) (kinds : List GenKind) (i : ℕ) → generators g ≡ gs → kinds ≡ g.kinds → i < length gs →
+    i < length kinds
 kind_there g gs kinds i e same h = subst (λ (l : List GenKind). i < length l) (sym same) (zip_kinds g.rows g.kinds i (count_as g gs i e h))
 
-pub fits_there : (g : Listed GenKind) (gs : List Given) (rows : List (List ℤ)) (kinds : List GenKind) (i : ℕ) (r : List ℤ) → generators g ≡ gs → rows ≡ g.rows → kinds ≡ g.kinds →
+pub fits_there : (g : Listed GenKind) (gs : List LinearRow) (rows : List (List ℤ)) (kinds : List GenKind) (i : ℕ) (r : List ℤ) → generators g ≡ gs → rows ≡ g.rows → kinds ≡ g.kinds →
     FitKinds g.rows g.kinds →
     i < length gs → r ≡ get_or rows i r → FitsKind (get_or kinds i gen.Point) r
 fits_there g gs rows kinds i r e same also f h is =
@@ -158,4 +159,4 @@ generator_told p g rows kinds names dims i r text e same also f h is named sized
     ∙ ap (λ (x : List ℤ). generator_text (variables p.dims) (report_generator x (get_or kinds i gen.Point))) (is ∙ ap (λ (l : List (List ℤ)). get_or l i r) same)
     ∙ ap (λ (l : List GenKind). generator_text (variables p.dims) (report_generator (get_or g.rows i r) (get_or l i gen.Point))) also
     ∙ ap (generator_text (variables p.dims)) (sym (zip_shown g.rows g.kinds i (line []) r (count_as g p.generators i e h) f))
-    ∙ ap (λ (l : List Given). generator_text (variables p.dims) (shown_generator (get_or l i (line [])))) e
+    ∙ ap (λ (l : List LinearRow). generator_text (variables p.dims) (shown_generator (get_or l i (line [])))) e

@@ -1,10 +1,10 @@
 -- What is answered of widenings: the set that is made, with all points where the inclusion is wide, or the generator outside.
 use Rattle.std.proofs.Common.{◌≡◌, ◌∙◌, inl, inr, ℕ, Bool, true, List, [], length, refl, ap, sym, subst, Some, None, Result, Ok, Err}
-use Rattle.lra_linear.specs.Points.{PointSet}
-use Rattle.lra_linear.specs.Descriptions.{Given, Con as points_of}
-use Rattle.lra_linear.specs.Formed.{IsFormed}
-use Rattle.lra_linear.specs.Polyhedra.{Polyhedron, IsPolyhedronOf}
-use Rattle.lra_linear.specs.Strain.{Loss}
+use Rattle.lra_linear_spec.specs.Points.{PointSet}
+use Rattle.lra_linear_spec.specs.Descriptions.{LinearRow, Con as points_of}
+use Rattle.lra_linear_spec.specs.Representable.{IsRepresentable}
+use Rattle.lra_linear_spec.specs.Polyhedra.{Polyhedron, IsPolyhedronOf}
+use Rattle.lra_linear_spec.specs.Strain.{Loss}
 use Rattle.lra_poly.specs.Outcomes.{Becomes, IfExact}
 use Rattle.lra_duality.specs.declared.inclusion.Inclusion.TheVariants as inclusion
 use Rattle.lra_poly.specs.declared.outcome.Outcome.{Outcome}
@@ -28,7 +28,8 @@ not_exact Exact h = absurd h
 not_exact (Flagged loss) h = refl
 
 -- a widening that was made, as the code tells it
-pub made_widens : (p q r x : Polyhedron) (P : PointSet) (Strains : Loss → Type 0) (o : Outcome) (flagged : Bool) → x ≡ r → flagged ≡ is_flagged o → IsFormed r →
+pub made_widens : (p q r x : Polyhedron) (P : PointSet) (Strains : Loss → Type 0) (o : Outcome) (flagged : Bool) → x ≡ r → flagged ≡ is_flagged o →
+    IsRepresentable r →
     Becomes p.dims P Strains r o → LiesOrIsGivenUp p q r o
     → script.Widens p.dims p q (IsMadeOf p.dims P Strains) (Ok (record { flagged = flagged; polyhedron = x }))
 made_widens p q r x P Strains o flagged same tells fine b (inl inside) = record {
@@ -62,7 +63,7 @@ session_widens s first second p q r e d dims h =
     known_gives made_of _ first (s.made first) p r e
     (known_gives made_of _ second (s.made second) q r d (subst (λ (n : ℕ). Gives made_of r (script.Widens n p q (IsWidened n p q))) dims h))
 
-pub session_limits : (s : script.Session) (first second : List ℕ) (given : List Given) (p q : Polyhedron) (r : Result making.Made LineError) → s.made first ≡ Some p → s.made second ≡ Some q →
+pub session_limits : (s : script.Session) (first second : List ℕ) (given : List LinearRow) (p q : Polyhedron) (r : Result making.Made LineError) → s.made first ≡ Some p → s.made second ≡ Some q →
     p.dims ≡ s.dims → script.wrong_row s.dims given ≡ None → Gives made_of r (script.Widens p.dims p q (IsLimited p.dims given p q)) →
     Gives made_of r (script.MadeBy s (form.Limited first second given))
 session_limits s first second given p q r e d dims widths h =

@@ -1,16 +1,16 @@
 -- The sets that lines make: without a flag by the canonical lists of exactly the points that the line tells. A flagged
 -- one may have further points, and there what was given strains.
 use Rattle.std.specs.Prelude.{◌≡◌, ℕ, ℤ, Bool, true, false, List, []}
-use Rattle.lra_linear.specs.Points.{PointSet, IsWithin}
-use Rattle.lra_linear.specs.Descriptions.{Given, Con as points_of, Gen as generated_by}
-use Rattle.lra_linear.specs.Formed.{IsFormed}
-use Rattle.lra_linear.specs.Polyhedra.{Polyhedron, IsPolyhedronOf}
-use Rattle.lra_linear.specs.SetOperations as sets
-use Rattle.lra_linear.specs.Strain.{Loss}
-use Rattle.lra_linear.specs.OperationStrain.{FromRowsStrains, FromGeneratorsStrains, MeetStrains, HullStrains}
-use Rattle.lra_linear.specs.OperationStrain.{TimeElapseStrains, ImageStrains, PreimageStrains, ForgetStrains}
-use Rattle.lra_linear.specs.OperationStrain.{StandardStrains, LimitedStrains}
-use Rattle.lra_linear.specs.Widening as widening
+use Rattle.lra_linear_spec.specs.Points.{PointSet, IsWithin}
+use Rattle.lra_linear_spec.specs.Descriptions.{LinearRow, Con as points_of, Gen as generated_by}
+use Rattle.lra_linear_spec.specs.Representable.{IsRepresentable}
+use Rattle.lra_linear_spec.specs.Polyhedra.{Polyhedron, IsPolyhedronOf}
+use Rattle.lra_linear_spec.specs.SetOperations as sets
+use Rattle.lra_linear_spec.specs.Strain.{Loss}
+use Rattle.lra_linear_spec.specs.OperationStrain.{FromRowsStrains, FromGeneratorsStrains, MeetStrains, HullStrains}
+use Rattle.lra_linear_spec.specs.OperationStrain.{TimeElapseStrains, ImageStrains, PreimageStrains, ForgetStrains}
+use Rattle.lra_linear_spec.specs.OperationStrain.{StandardStrains, LimitedStrains}
+use Rattle.lra_linear_spec.specs.Widening as widening
 use Rattle.lra_script.specs.declared.recipes.Combination.{Combination}
 use Rattle.lra_script.specs.declared.recipes.Combination.TheVariants.{Meet, Hull, Elapse}
 use Rattle.lra_script.specs.declared.recipes.Mapping.{Mapping}
@@ -20,7 +20,7 @@ use Rattle.lra_script.specs.declared.recipes.Mapping.TheVariants.{Image, Preimag
 -- range; what was given strains
 pub record IsFlaggedOf (n : ℕ) (P : PointSet) (Strains : Loss → Type 0) (p : Polyhedron) : Type 0 where
   pub dimensions : p.dims ≡ n
-  pub formed : IsFormed p
+  pub formed : IsRepresentable p
   pub within : IsWithin n P (points_of p.rows)
   pub loss : Loss
   pub strains : Strains loss
@@ -31,10 +31,10 @@ IsMadeOf n P Strains false p = IsPolyhedronOf n P p
 IsMadeOf n P Strains true p = IsFlaggedOf n P Strains p
 
 -- con, gen
-abbrev pub IsMadeOfRows : ℕ → List Given → Bool → Polyhedron → Type 0
+abbrev pub IsMadeOfRows : ℕ → List LinearRow → Bool → Polyhedron → Type 0
 IsMadeOfRows n rows = IsMadeOf n (points_of rows) (FromRowsStrains n rows)
 
-abbrev pub IsMadeOfGenerators : ℕ → List Given → Bool → Polyhedron → Type 0
+abbrev pub IsMadeOfGenerators : ℕ → List LinearRow → Bool → Polyhedron → Type 0
 IsMadeOfGenerators n generators = IsMadeOf n (generated_by generators) (FromGeneratorsStrains n generators)
 
 -- meet, hull, elapse: the points of both; the least closed polyhedron with all points of both; all that is reached
@@ -54,11 +54,11 @@ IsCombined how n p q = IsMadeOf n (combined how n p q) (CombiningStrains how p q
 
 -- widen: of P inside Q the points at which each row of Q holds that is tight on P; Q where P is empty
 abbrev pub IsWidened : ℕ → Polyhedron → Polyhedron → Bool → Polyhedron → Type 0
-IsWidened n p q = IsMadeOf n (widening.Standard p q) (StandardStrains p q)
+IsWidened n p q = IsMadeOf n (widening.StandardWidening p q) (StandardStrains p q)
 
 -- limited: of these the points at which each given row holds that is valid on both
-abbrev pub IsLimited : ℕ → List Given → Polyhedron → Polyhedron → Bool → Polyhedron → Type 0
-IsLimited n given p q = IsMadeOf n (widening.Limited p q given) (LimitedStrains p q given)
+abbrev pub IsLimited : ℕ → List LinearRow → Polyhedron → Polyhedron → Bool → Polyhedron → Type 0
+IsLimited n given p q = IsMadeOf n (widening.LimitedWidening p q given) (LimitedStrains p q given)
 
 -- all points, with a flag
 abbrev pub IsAllFlagged : ℕ → Bool → Polyhedron → Type 0

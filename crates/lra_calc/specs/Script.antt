@@ -8,12 +8,12 @@ use Rattle.std.specs.Prelude.{Option, Some, None, Result, Ok, Err}
 use Rattle.std.specs.Fmt.{decimal}
 use Rattle.std.specs.List.{All}
 use Rattle.std.specs.Map.{update}
-use Rattle.lra_linear.specs.declared.Excess.{Excess}
-use Rattle.lra_linear.specs.CheckedArithmetic.{checked_product}
-use Rattle.lra_linear.specs.Descriptions.{Given, Con as points_of}
-use Rattle.lra_linear.specs.Polyhedra.{Polyhedron}
-use Rattle.lra_linear.specs.declared.GenKind.{GenKind}
-use Rattle.lra_linear.specs.declared.GenKind.TheVariants as gen
+use Rattle.lra_linear_spec.specs.declared.Excess.{Excess}
+use Rattle.lra_linear_spec.specs.CheckedArithmetic.{checked_product}
+use Rattle.lra_linear_spec.specs.Descriptions.{LinearRow, Con as points_of}
+use Rattle.lra_linear_spec.specs.Polyhedra.{Polyhedron}
+use Rattle.lra_linear_spec.specs.declared.GenKind.{GenKind}
+use Rattle.lra_linear_spec.specs.declared.GenKind.TheVariants as gen
 use Rattle.lra_sys.specs.FirstPlaces.{FirstAt}
 use Rattle.lra_sys.specs.Membership.{HoldsInRange, IsWide}
 use Rattle.lra_duality.specs.Inclusions.{IsInclusion}
@@ -79,7 +79,7 @@ abbrev pub wrong_width : ℕ → ℕ → Option Fault
 wrong_width count needed = width_or count needed None
 
 -- the first row that has not as many numbers as are needed
-abbrev pub wrong_row : ℕ → List Given → Option Fault
+abbrev pub wrong_row : ℕ → List LinearRow → Option Fault
 wrong_row n [] = None
 wrong_row n (g ∷ gs) = width_or (length g.row) (suc n) (wrong_row n gs)
 
@@ -168,18 +168,18 @@ decided equal (Ok p) later = if is_met equal p then later else Some false
 
 -- whether the point is in the set of points with these constraints, tried in order; none where the product with one
 -- passes the range before an answer is found
-abbrev pub membership : List Given → List ℤ → Option Bool
+abbrev pub membership : List LinearRow → List ℤ → Option Bool
 membership [] x = Some true
 membership (g ∷ gs) x = decided g.equal (checked_product g.row x) (membership gs x)
 
 -- of the constraints, tried in order, the first that doesn't hold in the range is one whose product with the point
 -- passes it: a product of two entries or a partial sum does, columns from 0 up
-abbrev pub PassesFirst : List Given → List ℤ → Type 0
+abbrev pub PassesFirst : List LinearRow → List ℤ → Type 0
 PassesFirst rows x = (place : ℕ) × FirstAt (HoldsInRange x) (IsWide x) rows place
 
 -- what the answer says of the set of points with these constraints; it is wide exactly where their products with the
 -- point pass
-abbrev pub TellsPoints : List Given → List ℤ → Option Bool → Type 0
+abbrev pub TellsPoints : List LinearRow → List ℤ → Option Bool → Type 0
 TellsPoints rows x (Some true) = points_of rows x × (¬ (PassesFirst rows x))
 TellsPoints rows x (Some false) = (¬ (points_of rows x)) × (¬ (PassesFirst rows x))
 TellsPoints rows x None = PassesFirst rows x

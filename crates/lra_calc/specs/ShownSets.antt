@@ -3,8 +3,8 @@
 use Rattle.std.specs.Prelude.{ℕ, zero, suc, ◌+◌, ℤ, nat_abs, Bool, true, false, List, [], ◌∷◌, ◌++◌}
 use Rattle.std.specs.Prelude.{map, codes, get_or, Option, Some, None}
 use Rattle.std.specs.Fmt.{decimal}
-use Rattle.lra_linear.specs.Descriptions.{Given, line}
-use Rattle.lra_linear.specs.Polyhedra.{Polyhedron}
+use Rattle.lra_linear_spec.specs.Descriptions.{LinearRow, line}
+use Rattle.lra_linear_spec.specs.Polyhedra.{Polyhedron}
 use Rattle.lra_show.specs.ShownDescriptions.{shown_constraint, shown_generator}
 use Rattle.lra_show.specs.Part.{Part}
 use Rattle.lra_show.specs.Texts.{text_line, part_text, generator_text, fraction_text}
@@ -25,7 +25,7 @@ abbrev pub part_of : Polyhedron → Part
 part_of p = record { rows = map shown_constraint p.rows; generators = map shown_generator p.generators }
 
 -- a text where there is a generator; without one there is no point
-abbrev pub empty_or : List Given → List ℕ → List ℕ
+abbrev pub empty_or : List LinearRow → List ℕ → List ℕ
 empty_or [] text = text_line (codes "  empty")
 empty_or (g ∷ gs) text = text
 

@@ -3,7 +3,7 @@ use Rattle.std.specs.Prelude.{◌≡◌, ◌≤◌, ◌<◌, ℕ, ◌+◌, pos, 
 use Rattle.std.specs.Prelude.{option_map, Result, Ok, Err, Vec, IfSome, string_bytes}
 use Rattle.std.specs.BTreeMap.{get_by_text}
 use Rattle.std.specs.declared.alloc.Global.{Global}
-use Rattle.lra_linear.specs.Polyhedra.{Polyhedron}
+use Rattle.lra_linear_spec.specs.Polyhedra.{Polyhedron}
 use Rattle.lra_sys.specs.declared.membership.Holds as H
 use Rattle.lra_sys.specs.declared.membership.Holds.TheVariants as holds
 use Rattle.lra_poly.specs.declared.outcome.Outcome.{Outcome}

@@ -2,9 +2,9 @@
 
 ghost use Rattle.std.specs.Prelude.{List, ℕ, suc, ℤ, Result, None, ◌≡◌, ◌<◌, ◌^◌, ◌++◌, length, map, Some};
 ghost use Rattle.std.specs.Prelude.{string_bytes, IfOk, IfSome, OnOk, option_map};
-ghost use Rattle.lra_linear.specs.Points.{SameSet};
-ghost use Rattle.lra_linear.specs.Descriptions.{Con, Gen};
-ghost use Rattle.lra_linear.specs.Polyhedra.{Polyhedron, IsPolyhedron};
+ghost use Rattle.lra_linear_spec.specs.Points.{SameSet};
+ghost use Rattle.lra_linear_spec.specs.Descriptions.{Con, Gen};
+ghost use Rattle.lra_linear_spec.specs.Polyhedra.{Polyhedron, IsPolyhedron};
 ghost use Rattle.lra_duality.specs.Inclusions.{IsInclusion, TellsInclusion};
 ghost use Rattle.lra_duality.specs.Maxima.{IsMaximum, TellsMaximum};
 ghost use Rattle.lra_duality.specs.declared.inclusion.Inclusion.{Inclusion};

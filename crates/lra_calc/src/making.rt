@@ -2,8 +2,8 @@
 
 ghost use Rattle.std.specs.Prelude.{◌≡◌, ◌≤◌, ◌<◌, ◌∷◌, suc, length, pos, map, None, IfOk, option_map};
 ghost use Rattle.std.specs.List.{All};
-ghost use Rattle.lra_linear.specs.Formed.{IsFormed};
-ghost use Rattle.lra_linear.specs.Kinds.{is_line};
+ghost use Rattle.lra_linear_spec.specs.Representable.{IsRepresentable};
+ghost use Rattle.lra_linear_spec.specs.Kinds.{is_line};
 ghost use Rattle.lra_sys.specs.Listed.{constraints as constraints_of, generators as generators_of, FitKinds};
 ghost use Rattle.lra_poly.specs.Outcomes.{Becomes};
 ghost use Rattle.lra_lin.specs.Form.{form_row};
@@ -167,7 +167,7 @@ pub fn form_of(alloc: Global, numbers: &[i64]) -> Result<LinExpr, AllocError>
 pub fn make_with(polyhedron: Poly, outcome: Outcome) -> Made
     ensures polyhedron { result.polyhedron ≡ polyhedron }
     ensures flagged { result.is_flagged ≡ is_flagged outcome }
-    ensures formed { IsFormed polyhedron }
+    ensures formed { IsRepresentable polyhedron }
 {
     let _formed = polyhedron.rows();
     Made {

@@ -4,19 +4,19 @@ use Rattle.std.proofs.Common.{true≢false}
 use Rattle.std.specs.List.{Contains}
 use Rattle.std.specs.declared.cmp.Ordering.TheVariants.{Less}
 use Rattle.std.proofs.lemmas.Int.{ints}
-use Rattle.lra_linear.specs.declared.Operation.TheVariants.{Product}
+use Rattle.lra_linear_spec.specs.declared.Operation.TheVariants.{Product}
 use Rattle.std.proofs.lemmas.List.Elements.{All-cons}
-use Rattle.lra_linear.specs.Descriptions.{Given, Gen, generator}
-use Rattle.lra_linear.specs.Echelon.{Before}
-use Rattle.lra_linear.specs.LowestTerms.{IsPrimitive}
-use Rattle.lra_linear.specs.Reduction.{checked_clearing}
-use Rattle.lra_linear.specs.Vectors.{entry, product}
-use Rattle.lra_linear.proofs.Descriptions.{gen_generated}
-use Rattle.lra_linear.proofs.LinearMaps.{generated_nonneg}
-use Rattle.lra_linear.proofs.LowestTerms.{primitive_at}
-use Rattle.lra_linear.proofs.Membership.{contains_cases, contains_head, contains_none, contains_tail, each_two}
-use Rattle.lra_linear.proofs.Ring.{ring, v, ◌⊕◌, ◌⊗◌}
-use Rattle.lra_linear.proofs.Signs.{as_nat}
+use Rattle.lra_linear_spec.specs.Descriptions.{LinearRow, Gen, generator}
+use Rattle.lra_linear_spec.specs.Echelon.{Before}
+use Rattle.lra_linear_spec.specs.LowestTerms.{IsPrimitive}
+use Rattle.lra_linear_spec.specs.Reduction.{checked_clearing}
+use Rattle.lra_linear_spec.specs.Vectors.{entry, product}
+use Rattle.lra_linear_spec.proofs.Descriptions.{gen_generated}
+use Rattle.lra_linear_spec.proofs.LinearMaps.{generated_nonneg}
+use Rattle.lra_linear_spec.proofs.LowestTerms.{primitive_at}
+use Rattle.lra_linear_spec.proofs.Membership.{contains_cases, contains_head, contains_none, contains_tail, each_two}
+use Rattle.lra_linear_spec.proofs.Ring.{ring, v, ◌⊕◌, ◌⊗◌}
+use Rattle.lra_linear_spec.proofs.Signs.{as_nat}
 use Rattle.lra_bits.specs.Matrix.{Matrix}
 use Rattle.lra_bits.specs.TruthValues.{value_at}
 use Rattle.lra_canon.specs.Echelons.{HaveOneWidth}
@@ -70,7 +70,7 @@ three_wide a b c la lb lc = (
 abbrev at_least : List (List ℤ)
 at_least = (pos 0 ∷ pos 1 ∷ []) ∷ (pos 1 ∷ pos 0 ∷ []) ∷ (pos 1 ∷ pos 1 ∷ []) ∷ []
 
-abbrev half_line : List Given
+abbrev half_line : List LinearRow
 half_line = generator (pos 1 ∷ pos 0 ∷ []) ∷ generator (pos 0 ∷ pos 1 ∷ []) ∷ []
 
 abbrev tight_where : Matrix
@@ -90,12 +90,12 @@ half_line_saturation = record {
   is_form = ([], tt);
   form_widths = λ k d h. absurd (omega (arith, h));
   row_widths = three_long;
-  widths = each_two (λ (g : Given). length g.row ≡ 2) (generator (pos 1 ∷ pos 0 ∷ [])) (generator (pos 0 ∷ pos 1 ∷ [])) refl refl;
+  widths = each_two (λ (g : LinearRow). length g.row ≡ 2) (generator (pos 1 ∷ pos 0 ∷ [])) (generator (pos 0 ∷ pos 1 ∷ [])) refl refl;
   described = λ u l. (made u l, λ g. ((λ r k. absurd (contains_none r k)), met u g));
   reduced = λ r line k m. absurd (contains_none line m);
   lowest = each_of_three IsPrimitive (pos 0 ∷ pos 1 ∷ []) (pos 1 ∷ pos 0 ∷ []) (pos 1 ∷ pos 1 ∷ []) (primitive_at (pos 0 ∷ pos 1 ∷ []) 1 refl) (primitive_at (pos 1 ∷ pos 0 ∷ []) 0 refl)
       (primitive_at (pos 1 ∷ pos 1 ∷ []) 0 refl);
-  loose = each_of_three (λ (r : List ℤ). ¬ ((g : Given) → Contains half_line g → product r g.row ≡ pos 0)) (pos 0 ∷ pos 1 ∷ []) (pos 1 ∷ pos 0 ∷ []) (pos 1 ∷ pos 1 ∷ [])
+  loose = each_of_three (λ (r : List ℤ). ¬ ((g : LinearRow) → Contains half_line g → product r g.row ≡ pos 0)) (pos 0 ∷ pos 1 ∷ []) (pos 1 ∷ pos 0 ∷ []) (pos 1 ∷ pos 1 ∷ [])
       (λ h. not_two (pos 1) refl (h (generator (pos 0 ∷ pos 1 ∷ [])) second)) (λ h. not_two (pos 1) refl (h (generator (pos 1 ∷ pos 0 ∷ [])) first))
       (λ h. not_two (pos 1) refl (h (generator (pos 1 ∷ pos 0 ∷ [])) first));
   columns = as_many;
@@ -123,7 +123,7 @@ half_line_saturation = record {
     never : (a : ℤ) → a ≡ pos 1 → (false ≡ true) ↔ (a ≡ pos 0)
     never a e = ((λ q. absurd (true≢false (sym q))), (λ q. absurd (not_two a e q)))
 
-    told : (i j : ℕ) (g : Given) → i < 3 → j < 2 → (value_at (get_or tight_where.rows i []) j ≡ true) ↔ (product (get_or at_least i []) (get_or half_line j g).row ≡ pos 0)
+    told : (i j : ℕ) (g : LinearRow) → i < 3 → j < 2 → (value_at (get_or tight_where.rows i []) j ≡ true) ↔ (product (get_or at_least i []) (get_or half_line j g).row ≡ pos 0)
     told zero zero g h l = ((λ e. refl), (λ e. refl))
     told zero (suc zero) g h l = never (pos 1) refl
     told (suc zero) zero g h l = never (pos 1) refl

@@ -7,19 +7,19 @@ use Rattle.std.proofs.lemmas.Int.{ints, to_z-of_z}
 use Rattle.std.proofs.lemmas.List.{take_more, take_all}
 use Rattle.std.proofs.lemmas.List.Elements.{Contains-append_left, Contains-append_right}
 use Rattle.std.specs.List.{All, Contains}
-use Rattle.lra_linear.specs.declared.Excess as E
-use Rattle.lra_linear.specs.Vectors.{entry}
-use Rattle.lra_linear.specs.LowestTerms.{IsLowest}
-use Rattle.lra_linear.specs.Echelon.{pivot}
-use Rattle.lra_linear.specs.CheckedArithmetic.{checked_blend}
-use Rattle.lra_linear.specs.Reduction.{ClearingStep, Follows, ReductionPasses}
-use Rattle.lra_linear.proofs.CheckedArithmetic.{checked_blend_is}
-use Rattle.lra_linear.proofs.Membership.{contains_head, contains_tail}
-use Rattle.lra_linear.proofs.Pivots.{echelon_positive, echelon_apart_at}
-use Rattle.lra_linear.proofs.Products.{entry_blend, blend_length}
-use Rattle.lra_linear.proofs.Ring.{ring, v, ⊖, ◌⊕◌, ◌⊗◌}
-use Rattle.lra_linear.proofs.Signs.{as_nat, no_product, positive_is_nonnegative, positive_nat}
-use Rattle.lra_linear.proofs.Spans.{spanned_linear, spanned_row, spanned_zero}
+use Rattle.lra_linear_spec.specs.declared.Excess as E
+use Rattle.lra_linear_spec.specs.Vectors.{entry}
+use Rattle.lra_linear_spec.specs.LowestTerms.{IsLowest}
+use Rattle.lra_linear_spec.specs.Echelon.{pivot}
+use Rattle.lra_linear_spec.specs.CheckedArithmetic.{checked_blend}
+use Rattle.lra_linear_spec.specs.Reduction.{ClearingStep, ReducesAlong, ReductionPasses}
+use Rattle.lra_linear_spec.proofs.CheckedArithmetic.{checked_blend_is}
+use Rattle.lra_linear_spec.proofs.Membership.{contains_head, contains_tail}
+use Rattle.lra_linear_spec.proofs.Pivots.{echelon_positive, echelon_apart_at}
+use Rattle.lra_linear_spec.proofs.Products.{entry_blend, blend_length}
+use Rattle.lra_linear_spec.proofs.Ring.{ring, v, ⊖, ◌⊕◌, ◌⊗◌}
+use Rattle.lra_linear_spec.proofs.Signs.{as_nat, no_product, positive_is_nonnegative, positive_nat}
+use Rattle.lra_linear_spec.proofs.Spans.{spanned_linear, spanned_row, spanned_zero}
 use Rattle.lra_row.specs.declared.error.RowError.{RowError}
 use Rattle.lra_row.specs.declared.error.RowError.TheVariants.{Excess, Memory}
 use Rattle.lra_row.specs.Rows.{IsExcessOf}
@@ -176,13 +176,13 @@ partly_first form i start now line (Excess e) h g p x =
 pub record Made (form : List (List ℤ)) (most : ℕ) (r last : List ℤ) : Type 0 where
   pub steps : List (List ℤ)
   pub few : length steps ≤ most
-  pub follows : Follows form r steps last
+  pub follows : ReducesAlong form r steps last
 
 chain_made : (form rows : List (List ℤ)) (r last : List ℤ) → ((x : List ℤ) → Contains rows x → Contains form x) → Clears rows r last → Made form (length rows) r last
 chain_made form [] r last h c = record { steps = []; few = omega arith; follows = sym c }
 chain_made form (x ∷ rows) r last h (next, inl e, c) =
     let i = chain_made form rows next last (λ y k. h y (contains_tail x y rows k)) c in
-    record { steps = i.steps; few = omega (arith, i.few); follows = subst (λ (y : List ℤ). Follows form y i.steps last) e.1 i.follows }
+    record { steps = i.steps; few = omega (arith, i.few); follows = subst (λ (y : List ℤ). ReducesAlong form y i.steps last) e.1 i.follows }
 chain_made form (x ∷ rows) r last h (next, inr s, c) =
     let i = chain_made form rows next last (λ y k. h y (contains_tail x y rows k)) c in
     record { steps = next ∷ i.steps; few = omega (arith, i.few); follows = (record { line = x; has = h x (contains_head x rows); by = s }, i.follows) }

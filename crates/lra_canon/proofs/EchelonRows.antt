@@ -6,19 +6,19 @@ use Rattle.std.specs.List.{Contains}
 use Rattle.std.proofs.lemmas.Int.{ints}
 use Rattle.std.proofs.lemmas.List.{take_more, take_all}
 use Rattle.std.proofs.lemmas.List.Elements.{All-contains, Contains-append_cases, Contains-append_left, Contains-append_right}
-use Rattle.lra_linear.specs.Cones.{both_ways}
-use Rattle.lra_linear.specs.Echelon.{IsEchelon, IsEchelonOf, Spanned, pivot}
-use Rattle.lra_linear.specs.LowestTerms.{IsPrimitive}
-use Rattle.lra_linear.specs.Vectors.{blend, entry, product, signed_sum}
-use Rattle.lra_linear.proofs.EchelonExtension.{ClearedRows, cleared_exist}
-use Rattle.lra_linear.proofs.FlatRows.{member_primitive, signed_primitive}
-use Rattle.lra_linear.proofs.Lines.{described_generated}
-use Rattle.lra_linear.proofs.Membership.{all_from, contains_cases, contains_head, contains_none, contains_tail}
-use Rattle.lra_linear.proofs.Pivots.{echelon_apart, echelon_positive}
-use Rattle.lra_linear.proofs.Products.{entry_blend, entry_negated, product_comm}
-use Rattle.lra_linear.proofs.Ring.{ring, v, ⊖, ◌⊕◌, ◌⊗◌}
-use Rattle.lra_linear.proofs.Signs.{not_both, zero_at_least}
-use Rattle.lra_linear.proofs.Spans.{echelon_rows_at_most, echelon_unique, spanned_divided, spanned_head, spanned_linear, spanned_more, spanned_row, spanned_same, spanned_through}
+use Rattle.lra_linear_spec.specs.Cones.{both_ways}
+use Rattle.lra_linear_spec.specs.Echelon.{IsEchelon, IsEchelonOf, Spanned, pivot}
+use Rattle.lra_linear_spec.specs.LowestTerms.{IsPrimitive}
+use Rattle.lra_linear_spec.specs.Vectors.{blend, entry, product, signed_sum}
+use Rattle.lra_linear_spec.proofs.EchelonExtension.{ClearedRows, cleared_exist}
+use Rattle.lra_linear_spec.proofs.FlatRows.{member_primitive, signed_primitive}
+use Rattle.lra_linear_spec.proofs.Lines.{described_generated}
+use Rattle.lra_linear_spec.proofs.Membership.{all_from, contains_cases, contains_head, contains_none, contains_tail}
+use Rattle.lra_linear_spec.proofs.Pivots.{echelon_apart, echelon_positive}
+use Rattle.lra_linear_spec.proofs.Products.{entry_blend, entry_negated, product_comm}
+use Rattle.lra_linear_spec.proofs.Ring.{ring, v, ⊖, ◌⊕◌, ◌⊗◌}
+use Rattle.lra_linear_spec.proofs.Signs.{not_both, zero_at_least}
+use Rattle.lra_linear_spec.proofs.Spans.{echelon_rows_at_most, echelon_unique, spanned_divided, spanned_head, spanned_linear, spanned_more, spanned_row, spanned_same, spanned_through}
 use Rattle.lra_row.specs.declared.error.RowError.{RowError}
 use Rattle.lra_row.specs.declared.error.RowError.TheVariants.{Excess, Memory}
 use Rattle.lra_canon.specs.Reduced.{IsForm, SolvesAll, IsAlong, IsCleared, IsReducedBy}

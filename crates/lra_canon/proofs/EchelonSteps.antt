@@ -6,9 +6,9 @@ use Rattle.std.specs.Int.{w128}
 use Rattle.std.specs.Int.Signed.{lt_z}
 use Rattle.std.proofs.lemmas.Int.{ints, to_z-of_z}
 use Rattle.std.proofs.lemmas.List.{take_more, get_or-take, get_or-drop, length-take-le, length-drop}
-use Rattle.lra_linear.specs.Echelon.{Before, pivot}
-use Rattle.lra_linear.specs.Vectors.{entry, negated}
-use Rattle.lra_linear.proofs.Products.{negated_length}
+use Rattle.lra_linear_spec.specs.Echelon.{Before, pivot}
+use Rattle.lra_linear_spec.specs.Vectors.{entry, negated}
+use Rattle.lra_linear_spec.proofs.Products.{negated_length}
 use Rattle.lra_row.specs.declared.error.RowError.{RowError}
 use Rattle.lra_row.specs.declared.error.RowError.TheVariants.{Excess, Memory}
 use Rattle.lra_canon.specs.Reduced.{IsCleared, IsClearingExcess, IsReducedBy, IsChainEnd, IsFirstExcess}

@@ -7,16 +7,16 @@ use Rattle.std.specs.Ordering.{int_eq}
 use Rattle.std.proofs.lemmas.Bool.{cases_lt}
 use Rattle.std.proofs.lemmas.Int.{ints}
 use Rattle.std.proofs.lemmas.List.Elements.{Contains-append_right}
-use Rattle.lra_linear.specs.Echelon.{Before, IsEchelon, Leads, Spanned, lead_from, pivot}
-use Rattle.lra_linear.specs.LowestTerms.{IsPrimitive}
-use Rattle.lra_linear.specs.Vectors.{entry, negated}
-use Rattle.lra_linear.proofs.EchelonExtension.{ClearedRow, ClearedRows, before_trans, echelon_insert, extension_span}
-use Rattle.lra_linear.proofs.Membership.{contains_cases, contains_head, contains_none, contains_tail}
-use Rattle.lra_linear.proofs.Pivots.{echelon_positive, pivot_is}
-use Rattle.lra_linear.proofs.Products.{entry_negated}
-use Rattle.lra_linear.proofs.Ring.{ring, v, ⊖, ◌⊕◌, ◌⊗◌}
-use Rattle.lra_linear.proofs.Signs.{as_nat, not_both, positive_is_nonnegative, positive_nat}
-use Rattle.lra_linear.proofs.Widening.{zero_said}
+use Rattle.lra_linear_spec.specs.Echelon.{Before, IsEchelon, HasPivot, Spanned, lead_from, pivot}
+use Rattle.lra_linear_spec.specs.LowestTerms.{IsPrimitive}
+use Rattle.lra_linear_spec.specs.Vectors.{entry, negated}
+use Rattle.lra_linear_spec.proofs.EchelonExtension.{ClearedRow, ClearedRows, before_trans, echelon_insert, extension_span}
+use Rattle.lra_linear_spec.proofs.Membership.{contains_cases, contains_head, contains_none, contains_tail}
+use Rattle.lra_linear_spec.proofs.Pivots.{echelon_positive, pivot_is}
+use Rattle.lra_linear_spec.proofs.Products.{entry_negated}
+use Rattle.lra_linear_spec.proofs.Ring.{ring, v, ⊖, ◌⊕◌, ◌⊗◌}
+use Rattle.lra_linear_spec.proofs.Signs.{as_nat, not_both, positive_is_nonnegative, positive_nat}
+use Rattle.lra_linear_spec.proofs.Widening.{zero_said}
 use Rattle.lra_canon.specs.Echelons.{AreCleared, IsPlaced, StartsBehind}
 use Rattle.lra_canon.specs.Reduced.{IsForm, IsCleared}
 use Rattle.lra_canon.proofs.Chains.{step_entry}
@@ -69,7 +69,7 @@ zero_at_pivot (x ∷ xs) z j = by_search (lead_from 1 xs) (lead_search xs 1) z j
     by_search p (inl f) z (suc j) = f.1 j
     by_search p (inr f) z j = absurd (let e : p ≡ suc f.0 = f.1 ∙ omega arith in f.2 (ap (entry (x ∷ xs)) (sym e) ∙ z))
 
-pub leads_at_pivot : (r : List ℤ) → pos 0 <ℤ entry r (pivot r) → Leads r (pivot r)
+pub leads_at_pivot : (r : List ℤ) → pos 0 <ℤ entry r (pivot r) → HasPivot r (pivot r)
 leads_at_pivot r h = record { before = before_pivot r; here = h }
 
 -- the negative of a row that is negative at its pivot is positive there, and that is its pivot
@@ -77,7 +77,7 @@ pub negated_leads : (r : List ℤ) → entry r (pivot r) <ℤ pos 0 → pos 0 <�
 negated_leads r h =
     let p = pivot r in
     let here : pos 0 <ℤ entry (negated r) p = subst (λ z. pos 0 <ℤ z) (sym (entry_negated r p)) (opposite (entry r p) h) in
-    let l : Leads (negated r) p = record { before = λ j b. entry_negated r j ∙ ap neg_ℤ (before_pivot r j b) ∙ omega (arith, ints); here = here } in
+    let l : HasPivot (negated r) p = record { before = λ j b. entry_negated r j ∙ ap neg_ℤ (before_pivot r j b) ∙ omega (arith, ints); here = here } in
     subst (λ (n : ℕ). pos 0 <ℤ entry (negated r) n) (sym (pivot_is (negated r) p l)) here
   where
     opposite : (z : ℤ) → z <ℤ pos 0 → pos 0 <ℤ neg_ℤ z
@@ -98,7 +98,7 @@ before_or (suc i) (suc j) n = elim (cases_lt j i) [
 ]
 
 -- ---- the rows of a form
-pub member_leads : (form : List (List ℤ)) (ps : List ℕ) → IsEchelon form ps → (r : List ℤ) → Contains form r → Leads r (pivot r)
+pub member_leads : (form : List (List ℤ)) (ps : List ℕ) → IsEchelon form ps → (r : List ℤ) → Contains form r → HasPivot r (pivot r)
 member_leads form ps e r k = leads_at_pivot r (echelon_positive form ps e r k)
 
 -- the pivots of the first rows, and of the others

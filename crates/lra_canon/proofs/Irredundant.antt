@@ -7,22 +7,22 @@ use Rattle.std.proofs.lemmas.Bool.{cases_lt}
 use Rattle.std.proofs.lemmas.Int.{ints}
 use Rattle.std.proofs.lemmas.List.{length-replicate, length-set}
 use Rattle.std.proofs.lemmas.List.Elements.{Contains-append_cases, Contains-append_left, Contains-append_right, Contains-get_or}
-use Rattle.lra_linear.specs.Canonical.{IsCanonical}
-use Rattle.lra_linear.specs.Cones.{AreDual, Generated, Solves, all_rows, both_ways}
-use Rattle.lra_linear.specs.Descriptions.{Given, system_of}
-use Rattle.lra_linear.proofs.Saturation.{TightToo}
-use Rattle.lra_linear.specs.Vectors.{dot, entry, negated, product}
-use Rattle.lra_linear.proofs.CanonicalForms.{one_spelling}
-use Rattle.lra_linear.proofs.Combinations.{generated_row}
-use Rattle.lra_linear.proofs.Descriptions.{gen_generated, generated_gen, system_from, system_has}
-use Rattle.lra_linear.proofs.FlatRows.{generated_flat}
-use Rattle.lra_linear.proofs.LinearMaps.{generated_nonneg, generated_through}
-use Rattle.lra_linear.proofs.Lines.{in_lines, in_lines_negated, signed_from}
-use Rattle.lra_linear.proofs.Membership.{contains_cases, contains_head, contains_tail, contains_middle}
-use Rattle.lra_linear.proofs.OneSpelling.{dual_same_cone}
-use Rattle.lra_linear.proofs.Products.{dot_minus, dot_negated, negated_dot, negated_length, product_comm}
-use Rattle.lra_linear.proofs.Redundancy.{drop_keeps, redundant_tight, kept_pointed}
-use Rattle.lra_linear.proofs.Signs.{between_opposites, opposite_of_zero, zero_at_least}
+use Rattle.lra_linear_spec.specs.Canonical.{IsCanonical}
+use Rattle.lra_linear_spec.specs.Cones.{AreDual, Generated, Solves, all_rows, both_ways}
+use Rattle.lra_linear_spec.specs.Descriptions.{LinearRow, system_of}
+use Rattle.lra_linear_spec.proofs.Saturation.{TightToo}
+use Rattle.lra_linear_spec.specs.Vectors.{dot, entry, negated, product}
+use Rattle.lra_linear_spec.proofs.CanonicalForms.{one_spelling}
+use Rattle.lra_linear_spec.proofs.Combinations.{generated_row}
+use Rattle.lra_linear_spec.proofs.Descriptions.{gen_generated, generated_gen, system_from, system_has}
+use Rattle.lra_linear_spec.proofs.FlatRows.{generated_flat}
+use Rattle.lra_linear_spec.proofs.LinearMaps.{generated_nonneg, generated_through}
+use Rattle.lra_linear_spec.proofs.Lines.{in_lines, in_lines_negated, signed_from}
+use Rattle.lra_linear_spec.proofs.Membership.{contains_cases, contains_head, contains_tail, contains_middle}
+use Rattle.lra_linear_spec.proofs.OneSpelling.{dual_same_cone}
+use Rattle.lra_linear_spec.proofs.Products.{dot_minus, dot_negated, negated_dot, negated_length, product_comm}
+use Rattle.lra_linear_spec.proofs.Redundancy.{drop_keeps, redundant_tight, kept_pointed}
+use Rattle.lra_linear_spec.proofs.Signs.{between_opposites, opposite_of_zero, zero_at_least}
 use Rattle.lra_bits.specs.TruthValues.{value_at, IsSubset}
 use Rattle.lra_bits.specs.Matrix.{Matrix, unmarked}
 use Rattle.lra_canon.specs.Echelons.{HaveWidth}
@@ -56,12 +56,12 @@ dual_of w generators rows wg wr both = record {
   meets = λ r k g m. subst (λ z. pos 0 ≤ℤ z) (product_comm r g) ((both g (wg g m)).1 (generated_row generators g m) r k);
 }
 
-system_widths : (w : ℕ) (generators : List Given) → ((g : Given) → Contains generators g → length g.row ≡ w) → (t : List ℤ) → Contains (system_of generators) t → length t ≡ w
+system_widths : (w : ℕ) (generators : List LinearRow) → ((g : LinearRow) → Contains generators g → length g.row ≡ w) → (t : List ℤ) → Contains (system_of generators) t → length t ≡ w
 system_widths w generators h t k =
     let x = system_from generators t k in
     elim x.sign [ inl e ↦ ap length e ∙ h x.given x.has | inr e ↦ ap length e.1 ∙ negated_length x.given.row ∙ h x.given x.has ]
 
-saturation_dual : (w : ℕ) (form : List (List ℤ)) (generators : List Given) (rows : List (List ℤ)) (matrix : Matrix) → IsSaturation w form generators rows matrix →
+saturation_dual : (w : ℕ) (form : List (List ℤ)) (generators : List LinearRow) (rows : List (List ℤ)) (matrix : Matrix) → IsSaturation w form generators rows matrix →
     AreDual w (system_of generators) (all_rows form rows)
 saturation_dual w form generators rows matrix s =
     dual_of w (system_of generators) (all_rows form rows) (system_widths w generators s.widths) (all_widths w form rows (have_width w form s.form_widths) (have_width w rows s.row_widths))
@@ -72,7 +72,7 @@ saturation_dual w form generators rows matrix s =
 
 -- ---- no row that is tight somewhere only is in a line
 -- the form's lines have product 0 with each generator
-line_flat : (w : ℕ) (form : List (List ℤ)) (generators : List Given) (rows : List (List ℤ)) → AreDual w (system_of generators) (all_rows form rows) → (g : Given) → Contains generators g →
+line_flat : (w : ℕ) (form : List (List ℤ)) (generators : List LinearRow) (rows : List (List ℤ)) → AreDual w (system_of generators) (all_rows form rows) → (g : LinearRow) → Contains generators g →
     (t : List ℤ) → Contains (both_ways form) t → dot g.row (entry t) ≡ pos 0
 line_flat w form generators rows d g k t m =
     let x = signed_from form t m in
@@ -84,12 +84,12 @@ line_flat w form generators rows d g k t m =
       | inr e ↦ ap (λ (y : List ℤ). product g.row y) e ∙ dot_negated g.row x.line ∙ ap neg_ℤ z ∙ omega (arith, ints)
     ]
 
-row_off : (w : ℕ) (form : List (List ℤ)) (generators : List Given) (rows : List (List ℤ)) (matrix : Matrix) → IsSaturation w form generators rows matrix → (r : List ℤ) → Contains rows r →
+row_off : (w : ℕ) (form : List (List ℤ)) (generators : List LinearRow) (rows : List (List ℤ)) (matrix : Matrix) → IsSaturation w form generators rows matrix → (r : List ℤ) → Contains rows r →
     ¬ (Generated (both_ways form) (entry r))
 row_off w form generators rows matrix s r k gen =
     s.loose r k (λ g m. product_comm r g.row ∙ generated_flat g.row (both_ways form) (entry r) (λ t n. line_flat w form generators rows (saturation_dual w form generators rows matrix s) g m t n) gen)
 
-row_pointed : (w : ℕ) (form : List (List ℤ)) (generators : List Given) (rows : List (List ℤ)) (matrix : Matrix) → IsSaturation w form generators rows matrix → (r : List ℤ) → Contains rows r →
+row_pointed : (w : ℕ) (form : List (List ℤ)) (generators : List LinearRow) (rows : List (List ℤ)) (matrix : Matrix) → IsSaturation w form generators rows matrix → (r : List ℤ) → Contains rows r →
     ¬ (Generated (all_rows form rows) (λ j. neg_ℤ (entry r j)))
 row_pointed w form generators rows matrix s r k gen =
     let d = saturation_dual w form generators rows matrix s in
@@ -100,7 +100,7 @@ row_pointed w form generators rows matrix s r k gen =
     (generated_nonneg g.row (all_rows form rows) (λ j. neg_ℤ (entry r j)) (λ t n. d.meets t n g.row has) gen))
 
 -- ---- the matrix tells which row is tight wherever another is
-tight_from : (w : ℕ) (form : List (List ℤ)) (generators : List Given) (rows : List (List ℤ)) (matrix : Matrix) → IsSaturation w form generators rows matrix → (i k : ℕ) → i < length rows →
+tight_from : (w : ℕ) (form : List (List ℤ)) (generators : List LinearRow) (rows : List (List ℤ)) (matrix : Matrix) → IsSaturation w form generators rows matrix → (i k : ℕ) → i < length rows →
     k < length rows →
     IsSubset (get_or matrix.rows i []) (get_or matrix.rows k []) → TightToo (system_of generators) (entry (get_or rows i [])) (entry (get_or rows k []))
 tight_from w form generators rows matrix s i k l m sub t n z =
@@ -114,8 +114,8 @@ tight_from w form generators rows matrix s i k l m sub t n z =
       | inl q ↦ ap (λ (a : List ℤ). product a r) (sym q) ∙ e
       | inr q ↦ turned (product g.row r) (product t r) (ap (λ (a : List ℤ). product a r) q.1 ∙ negated_dot g.row (entry r)) e
     ] in
-    let bit = (s.tight i j.0 g l j.1).1 (ap (λ (a : Given). product r a.row) at ∙ product_comm r g.row ∙ zero_of z) in
-    let other : product y g.row ≡ pos 0 = ap (λ (a : Given). product y a.row) (sym at) ∙ (s.tight k j.0 g m j.1).0 (sub j.0 bit) in
+    let bit = (s.tight i j.0 g l j.1).1 (ap (λ (a : LinearRow). product r a.row) at ∙ product_comm r g.row ∙ zero_of z) in
+    let other : product y g.row ≡ pos 0 = ap (λ (a : LinearRow). product y a.row) (sym at) ∙ (s.tight k j.0 g m j.1).0 (sub j.0 bit) in
     elim x.sign [
       | inl q ↦ ap (λ (a : List ℤ). product a y) q ∙ product_comm g.row y ∙ other
       | inr q ↦ ap (λ (a : List ℤ). product a y) q.1 ∙ negated_dot g.row (entry y) ∙ ap neg_ℤ (product_comm g.row y ∙ other) ∙ omega (arith, ints)
@@ -124,12 +124,12 @@ tight_from w form generators rows matrix s i k l m sub t n z =
     turned : (a b : ℤ) → b ≡ neg_ℤ a → b ≡ pos 0 → a ≡ pos 0
     turned a b e z = omega (arith, ints, e, z)
 
-subset_from : (w : ℕ) (form : List (List ℤ)) (generators : List Given) (rows : List (List ℤ)) (matrix : Matrix) → IsSaturation w form generators rows matrix → (i k : ℕ) → i < length rows →
+subset_from : (w : ℕ) (form : List (List ℤ)) (generators : List LinearRow) (rows : List (List ℤ)) (matrix : Matrix) → IsSaturation w form generators rows matrix → (i k : ℕ) → i < length rows →
     k < length rows →
     TightToo (system_of generators) (entry (get_or rows i [])) (entry (get_or rows k [])) → IsSubset (get_or matrix.rows i []) (get_or matrix.rows k [])
 subset_from w form generators rows matrix s i k l m tight j bit = elim (cases_lt j (length generators)) [
   | inl h ↦
-      let d : Given = record { row = []; equal = false } in
+      let d : LinearRow = record { row = []; equal = false } in
       let g = get_or generators j d in
       let has = system_has generators g (Contains-get_or generators j d h) in
       let z : product g.row (get_or rows i []) ≡ pos 0 = product_comm g.row (get_or rows i []) ∙ (s.tight i j d l h).0 bit in
@@ -154,7 +154,7 @@ some_row form rows left sub t k = elim (Contains-append_cases left (both_ways fo
 ]
 
 -- with the rows that are left the cone is the same
-left_dual : (w : ℕ) (form : List (List ℤ)) (generators : List Given) (rows left : List (List ℤ)) (matrix : Matrix) → IsSaturation w form generators rows matrix →
+left_dual : (w : ℕ) (form : List (List ℤ)) (generators : List LinearRow) (rows left : List (List ℤ)) (matrix : Matrix) → IsSaturation w form generators rows matrix →
     ((t : List ℤ) → Contains left t → Contains rows t) →
     ((u : ℕ → ℤ) → Generated (all_rows form rows) u → Generated (all_rows form left) u) → AreDual w (system_of generators) (all_rows form left)
 left_dual w form generators rows left matrix s sub same =
@@ -166,7 +166,7 @@ fewer_generate : (form rows left : List (List ℤ)) → ((t : List ℤ) → Cont
 fewer_generate form rows left sub u g = generated_through (all_rows form rows) (all_rows form left) u (λ t k. generated_row (all_rows form rows) t (some_row form rows left sub t k)) g
 
 -- the row that goes is generated by those that are left
-mark_keeps : (w : ℕ) (form : List (List ℤ)) (generators : List Given) (rows : List (List ℤ)) (matrix : Matrix) (marks : List Bool) (i : ℕ) → IsSaturation w form generators rows matrix →
+mark_keeps : (w : ℕ) (form : List (List ℤ)) (generators : List LinearRow) (rows : List (List ℤ)) (matrix : Matrix) (marks : List Bool) (i : ℕ) → IsSaturation w form generators rows matrix →
     length marks ≡ length rows → length matrix.rows ≡ length rows → i < length rows → value_at marks i ≡ false → IsCovered matrix.rows marks i →
     ((u : ℕ → ℤ) → Generated (all_rows form rows) u → Generated (all_rows form (unmarked marks rows)) u) → (u : ℕ → ℤ) → Generated (all_rows form rows) u →
     Generated (all_rows form (unmarked (slice_set marks i true) rows)) u
@@ -243,7 +243,7 @@ marks_stay rows matrix marks i n p = record {
 }
 
 -- ---- what is left is canonical
-left_canonical : (w : ℕ) (form : List (List ℤ)) (generators : List Given) (rows : List (List ℤ)) (matrix : Matrix) (marks : List Bool) → IsSaturation w form generators rows matrix →
+left_canonical : (w : ℕ) (form : List (List ℤ)) (generators : List LinearRow) (rows : List (List ℤ)) (matrix : Matrix) (marks : List Bool) → IsSaturation w form generators rows matrix →
     length matrix.rows ≡ length rows → AreMarks rows matrix marks (length rows) → IsCanonical form (unmarked marks rows)
 left_canonical w form generators rows matrix marks s height p =
     let left = unmarked marks rows in
@@ -275,7 +275,7 @@ left_canonical w form generators rows matrix marks s height p =
       pointed = λ r k. kept_pointed (all_rows form rows) (all_rows form left) (fewer_generate form rows left sub) r (row_pointed w form generators rows matrix s r (sub r k));
     }
 
-left_same : (w : ℕ) (form : List (List ℤ)) (generators : List Given) (rows left : List (List ℤ)) (matrix : Matrix) → IsSaturation w form generators rows matrix →
+left_same : (w : ℕ) (form : List (List ℤ)) (generators : List LinearRow) (rows left : List (List ℤ)) (matrix : Matrix) → IsSaturation w form generators rows matrix →
     ((t : List ℤ) → Contains left t → Contains rows t) → AreDual w (system_of generators) (all_rows form left) →
     (u : List ℤ) → length u ≡ w → Solutions form rows u ↔ Solutions form left u
 left_same w form generators rows left matrix s sub d u l = (
@@ -283,7 +283,8 @@ left_same w form generators rows left matrix s sub d u l = (
   (λ h. (s.described u l).1 (generated_gen generators (entry u) (d.consequences u l (solutions_solve form left u h)))),
 )
 
-left_one : (w : ℕ) (form : List (List ℤ)) (generators : List Given) (rows left : List (List ℤ)) (matrix : Matrix) → IsSaturation w form generators rows matrix →
+left_one : (w : ℕ) (form : List (List ℤ)) (generators : List LinearRow) (rows left : List (List ℤ)) (matrix : Matrix) →
+    IsSaturation w form generators rows matrix →
     AreDual w (system_of generators) (all_rows form left) → IsCanonical form left →
     (lines others : List (List ℤ)) → HaveWidth w lines → HaveWidth w others → IsCanonical lines others → ((u : List ℤ) → length u ≡ w → Solutions form rows u ↔ Solutions lines others u) →
     (lines ≡ form) × ((r : List ℤ) → Contains others r ↔ Contains left r) × (length others ≡ length left)

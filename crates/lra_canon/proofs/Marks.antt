@@ -3,7 +3,7 @@ use Rattle.std.proofs.Common.{◌≡◌, ◌≢◌, ℕ, zero, suc, ◌<◌, Boo
 use Rattle.std.specs.List.{Contains}
 use Rattle.lra_bits.specs.TruthValues.{value_at}
 use Rattle.lra_bits.specs.Matrix.{unmarked}
-use Rattle.lra_linear.proofs.Membership.{contains_cases, contains_head, contains_none, contains_tail}
+use Rattle.lra_linear_spec.proofs.Membership.{contains_cases, contains_head, contains_none, contains_tail}
 
 -- ---- one more mark takes one element out
 pub record Marked {A : Type 0} (marks : List Bool) (xs : List A) (i : ℕ) (d : A) : Type 0 where

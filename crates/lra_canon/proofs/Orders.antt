@@ -12,10 +12,10 @@ use Rattle.std.proofs.lemmas.List.Sorted.{sorted_far, sum_by-IsPermutation, leng
 use Rattle.std.proofs.lemmas.List.MinMax.{ranks_by}
 use Rattle.std.proofs.lemmas.Fn.{always_returns_same}
 use Rattle.std.proofs.lemmas.List.Sums.{sum_by-cons}
-use Rattle.lra_linear.specs.Echelon.{pivot}
-use Rattle.lra_linear.specs.RowOrder.{row_cmp, Ascends}
-use Rattle.lra_linear.proofs.Membership.{contains_head, contains_tail, NoRepeat}
-use Rattle.lra_linear.proofs.RowOrder.{row_cmp_total, inequality_cmp_total}
+use Rattle.lra_linear_spec.specs.Echelon.{pivot}
+use Rattle.lra_linear_spec.specs.RowOrder.{row_cmp, Ascends}
+use Rattle.lra_linear_spec.proofs.Membership.{contains_head, contains_tail, NoRepeat}
+use Rattle.lra_linear_spec.proofs.RowOrder.{row_cmp_total, inequality_cmp_total}
 use Rattle.lra_row.proofs.OrderLemmas.{row_cmp_ties}
 use Rattle.lra_canon.specs.Ordered.{cmp_by, TiesAreEqual, IsOneOrder}
 use Rattle.lra_canon.specs.declared.order.Order.{Order}

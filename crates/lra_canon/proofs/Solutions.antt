@@ -7,23 +7,24 @@ use Rattle.std.proofs.lemmas.List.Elements.{Contains-append_left, Contains-appen
 use Rattle.std.proofs.lemmas.Bool.{cases_lt}
 use Rattle.std.proofs.lemmas.Int.{ints}
 use Rattle.std.proofs.lemmas.Nat.Gcd.{dvd-zero}
-use Rattle.lra_linear.specs.Cones.{AreDual, Generated, Solves, all_rows, both_ways}
-use Rattle.lra_linear.proofs.DoubleDescription.{kept, pairs, step_rows}
-use Rattle.lra_linear.specs.Echelon.{pivot, Spanned, IsEchelon}
-use Rattle.lra_linear.specs.LowestTerms.{IsPrimitive}
-use Rattle.lra_linear.specs.Vectors.{behind_zero, dot, entry, negated, product, signed_sum, sum_of, units, zeros}
-use Rattle.lra_linear.proofs.AllPairs.{step_rows_are, kept_only, pairs_only}
-use Rattle.lra_linear.proofs.Combinations.{generated_same, generated_zero}
-use Rattle.lra_linear.proofs.Duality.{dual_step}
-use Rattle.lra_linear.proofs.Lines.{described_generated, generated_described, in_lines, in_lines_negated, signed_from, whole_described, zeros_length}
-use Rattle.lra_linear.proofs.LowestTerms.{same_multiple}
-use Rattle.lra_linear.proofs.Membership.{contains_cases, contains_head, contains_none, contains_tail}
-use Rattle.lra_linear.proofs.OneSpelling.{dot_zeros}
-use Rattle.lra_linear.proofs.Pivots.{pivot_is}
-use Rattle.lra_linear.proofs.Products.{blend_length, dot_plus, dot_same, dot_scale, dot_zero, entry_past, negated_dot, negated_length, product_comm, row_same}
-use Rattle.lra_linear.proofs.Ring.{ring, v, ⊖, ◌⊕◌, ◌⊗◌, mul_nonnegative}
-use Rattle.lra_linear.proofs.Signs.{between_opposites, cancel_same, divide_nonnegative, no_product}
-use Rattle.lra_linear.proofs.Spans.{all_zero}
+use Rattle.lra_linear_spec.specs.Cones.{AreDual, Generated, Solves, all_rows, both_ways}
+use Rattle.lra_linear_spec.proofs.DoubleDescription.{kept, pairs, step_rows}
+use Rattle.lra_linear_spec.specs.Echelon.{pivot, Spanned, IsEchelon}
+use Rattle.lra_linear_spec.specs.LowestTerms.{IsPrimitive}
+use Rattle.lra_linear_spec.specs.Vectors.{behind_zero, dot, entry, negated, product, signed_sum, sum_of, units, zeros}
+use Rattle.lra_linear_spec.proofs.AllPairs.{step_rows_are, kept_only, pairs_only}
+use Rattle.lra_linear_spec.proofs.Combinations.{generated_same, generated_zero}
+use Rattle.lra_linear_spec.proofs.Duality.{dual_step}
+use Rattle.lra_linear_spec.proofs.Lines.{described_generated, generated_described, in_lines, in_lines_negated, signed_from, whole_described, zeros_length}
+use Rattle.lra_linear_spec.proofs.LowestTerms.{same_multiple}
+use Rattle.lra_linear_spec.proofs.Membership.{contains_cases, contains_head, contains_none, contains_tail}
+use Rattle.lra_linear_spec.proofs.OneSpelling.{dot_zeros}
+use Rattle.lra_linear_spec.proofs.Pivots.{pivot_is}
+use Rattle.lra_linear_spec.proofs.Products.{blend_length, dot_plus, dot_same, dot_scale, dot_zero, entry_past, negated_dot, negated_length, product_comm}
+use Rattle.lra_linear_spec.proofs.Products.{row_same}
+use Rattle.lra_linear_spec.proofs.Ring.{ring, v, ⊖, ◌⊕◌, ◌⊗◌, mul_nonnegative}
+use Rattle.lra_linear_spec.proofs.Signs.{between_opposites, cancel_same, divide_nonnegative, no_product}
+use Rattle.lra_linear_spec.proofs.Spans.{all_zero}
 use Rattle.lra_canon.specs.Echelons.{HaveWidth}
 use Rattle.lra_canon.specs.Reduced.{IsForm, SolvesAll, SameSolutions, IsAlong, IsReducedBy, IsOneReduced}
 

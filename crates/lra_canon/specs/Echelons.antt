@@ -2,11 +2,11 @@
 use Rattle.std.specs.Prelude.{◌≡◌, ℕ, ◌<◌, ◌⊎◌, ℤ, pos, ◌<ℤ◌, List, [], ◌∷◌, ◌++◌, length, take, Option, Some, None}
 use Rattle.std.specs.Prelude.{Err}
 use Rattle.std.specs.List.{Contains, All}
-use Rattle.lra_linear.specs.declared.Excess as E
-use Rattle.lra_linear.specs.Vectors.{entry, negated}
-use Rattle.lra_linear.specs.Echelon.{Before, IsEchelonOf, pivot}
-use Rattle.lra_linear.specs.Reduction.{ReductionPasses, checked_clearing}
-use Rattle.lra_linear.specs.Strain.{InOtherForm}
+use Rattle.lra_linear_spec.specs.declared.Excess as E
+use Rattle.lra_linear_spec.specs.Vectors.{entry, negated}
+use Rattle.lra_linear_spec.specs.Echelon.{Before, IsEchelonOf, pivot}
+use Rattle.lra_linear_spec.specs.Reduction.{ReductionPasses, checked_clearing}
+use Rattle.lra_linear_spec.specs.Strain.{InOtherForm}
 use Rattle.lra_row.specs.declared.error.RowError.{RowError}
 use Rattle.lra_row.specs.declared.error.RowError.TheVariants.{Excess, Memory}
 use Rattle.lra_canon.specs.Reduced.{SolvesAll, IsReducedBy, IsCleared, IsChainEnd, FirstPassing}

@@ -3,12 +3,12 @@
 use Rattle.std.specs.Prelude.{◌≡◌, ◌≢◌, ◌↔◌, ℕ, ◌<◌, ◌≤◌, ℤ, pos, ◌≤ℤ◌, Bool, true, false, List, [], length}
 use Rattle.std.specs.Prelude.{slice_index_or}
 use Rattle.std.specs.List.{Contains}
-use Rattle.lra_linear.specs.Vectors.{entry, product}
-use Rattle.lra_linear.specs.LowestTerms.{IsPrimitive}
-use Rattle.lra_linear.specs.Echelon.{pivot}
-use Rattle.lra_linear.specs.Canonical.{IsCanonical}
-use Rattle.lra_linear.specs.Cones.{Generated, all_rows}
-use Rattle.lra_linear.specs.Descriptions.{Given, Gen}
+use Rattle.lra_linear_spec.specs.Vectors.{entry, product}
+use Rattle.lra_linear_spec.specs.LowestTerms.{IsPrimitive}
+use Rattle.lra_linear_spec.specs.Echelon.{pivot}
+use Rattle.lra_linear_spec.specs.Canonical.{IsCanonical}
+use Rattle.lra_linear_spec.specs.Cones.{Generated, all_rows}
+use Rattle.lra_linear_spec.specs.Descriptions.{LinearRow, Gen}
 use Rattle.lra_bits.specs.TruthValues.{value_at, IsSubset}
 use Rattle.lra_bits.specs.Matrix.{Matrix, unmarked}
 use Rattle.lra_canon.specs.Reduced.{IsForm, SolvesAll}
@@ -20,18 +20,18 @@ Solutions form rows u = SolvesAll form u × ((r : List ℤ) → Contains rows r 
 
 -- The rows, reduced by the form and in lowest terms, have with it the solutions that the generators generate. No row is
 -- tight at all generators, and row i of the matrix says of each generator whether row i is tight at it.
-pub record IsSaturation (w : ℕ) (form : List (List ℤ)) (generators : List Given) (rows : List (List ℤ))
+pub record IsSaturation (w : ℕ) (form : List (List ℤ)) (generators : List LinearRow) (rows : List (List ℤ))
     (matrix : Matrix) : Type 0 where
   pub is_form : IsForm form
   pub form_widths : HaveWidth w form
   pub row_widths : HaveWidth w rows
-  pub widths : (g : Given) → Contains generators g → length g.row ≡ w
+  pub widths : (g : LinearRow) → Contains generators g → length g.row ≡ w
   pub described : (u : List ℤ) → length u ≡ w → Solutions form rows u ↔ Gen generators u
   pub reduced : (r line : List ℤ) → Contains rows r → Contains form line → entry r (pivot line) ≡ pos 0
   pub lowest : (r : List ℤ) → Contains rows r → IsPrimitive r
-  pub loose : (r : List ℤ) → Contains rows r → ¬ ((g : Given) → Contains generators g → product r g.row ≡ pos 0)
+  pub loose : (r : List ℤ) → Contains rows r → ¬ ((g : LinearRow) → Contains generators g → product r g.row ≡ pos 0)
   pub columns : (i : ℕ) → i < length rows → length (slice_index_or matrix.rows i []) ≡ length generators
-  pub tight : (i j : ℕ) (g : Given) → i < length rows → j < length generators →
+  pub tight : (i j : ℕ) (g : LinearRow) → i < length rows → j < length generators →
       (value_at (slice_index_or matrix.rows i []) j ≡ true) ↔
       (product (slice_index_or rows i []) (slice_index_or generators j g).row ≡ pos 0)
 
@@ -52,7 +52,7 @@ pub record AreMarks (rows : List (List ℤ)) (matrix : Matrix) (marks : List Boo
   pub as_many : length marks ≡ length rows
   pub later : (k : ℕ) → i ≤ k → value_at marks k ≡ false
   pub alone : (k : ℕ) → k < i → value_at marks k ≡ false → ¬ (IsCovered matrix.rows marks k)
-  pub same : (w : ℕ) (form : List (List ℤ)) (generators : List Given) → IsSaturation w form generators rows matrix →
+  pub same : (w : ℕ) (form : List (List ℤ)) (generators : List LinearRow) → IsSaturation w form generators rows matrix →
       (u : ℕ → ℤ) → Generated (all_rows form rows) u → Generated (all_rows form (unmarked marks rows)) u
 
 -- the rows that are marked are gone from both lists, the others keep their order
@@ -76,5 +76,5 @@ pub record IsIrredundant (w : ℕ) (form rows kept : List (List ℤ)) : Type 0 w
 -- whatever form and generators the matrix tells of
 abbrev pub WithoutRedundant : List (List ℤ) → Matrix → List (List ℤ) → Type 0
 WithoutRedundant rows matrix kept =
-    (w : ℕ) (form : List (List ℤ)) (generators : List Given) → IsSaturation w form generators rows matrix →
+    (w : ℕ) (form : List (List ℤ)) (generators : List LinearRow) → IsSaturation w form generators rows matrix →
     IsIrredundant w form rows kept

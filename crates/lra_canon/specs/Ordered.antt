@@ -4,8 +4,8 @@ use Rattle.std.specs.Ordering.{bool_cmp, nat_cmp, ordering_then}
 use Rattle.std.specs.declared.cmp.Ordering as std_ordering
 use Rattle.std.specs.List.{Contains}
 use Rattle.std.specs.List.Sorted.{IsSorted, IsPermutation}
-use Rattle.lra_linear.specs.Echelon.{pivot}
-use Rattle.lra_linear.specs.RowOrder.{row_cmp, inequality_cmp}
+use Rattle.lra_linear_spec.specs.Echelon.{pivot}
+use Rattle.lra_linear_spec.specs.RowOrder.{row_cmp, inequality_cmp}
 use Rattle.lra_canon.specs.declared.order.Order.{Order}
 use Rattle.lra_canon.specs.declared.order.Order.TheVariants.{Inequalities, Generators, Pivots}
 

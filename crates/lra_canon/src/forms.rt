@@ -3,7 +3,7 @@
 ghost use Rattle.std.specs.Prelude.{◌≡◌, ◌≤◌, ◌<◌, ◌↔◌, ℕ, [], length, slice_index_or};
 ghost use Rattle.std.specs.Prelude.{IsTrue, IfOk, IfErr, OnOk, OnErr};
 ghost use Rattle.std.specs.List.{All};
-ghost use Rattle.lra_linear.specs.Echelon.{Before, IsEchelonOf, pivot};
+ghost use Rattle.lra_linear_spec.specs.Echelon.{Before, IsEchelonOf, pivot};
 ghost use Rattle.lra_canon.specs.Reduced.{IsForm};
 ghost use Rattle.lra_canon.specs.Echelons.{SameEqualities, HaveWidth, IsOneForm, IsDirected, AreCleared};
 ghost use Rattle.lra_canon.specs.Echelons.{IsClearedExcess};

@@ -2,7 +2,7 @@
 
 ghost use Rattle.std.specs.Prelude.{◌≡◌, OnOk, OnErr};
 ghost use Rattle.std.specs.List.Sorted.{IsPermutation, IsSorted};
-ghost use Rattle.lra_linear.specs.RowOrder.{inequality_cmp};
+ghost use Rattle.lra_linear_spec.specs.RowOrder.{inequality_cmp};
 ghost use Rattle.lra_canon.specs.Ordered.{cmp_by, pivot_cmp, IsOneOrder};
 ghost use Rattle.lra_canon.specs.MarkedRows.{rows_in};
 

@@ -2,8 +2,8 @@
 
 ghost use Rattle.std.specs.Prelude.{◌≡◌, ◌<◌, pos, length, IfOk, IfErr, OnOk, OnErr, IsTrue};
 ghost use Rattle.std.specs.List.{All};
-ghost use Rattle.lra_linear.specs.Echelon.{pivot};
-ghost use Rattle.lra_linear.specs.Vectors.{entry};
+ghost use Rattle.lra_linear_spec.specs.Echelon.{pivot};
+ghost use Rattle.lra_linear_spec.specs.Vectors.{entry};
 ghost use Rattle.lra_canon.specs.Reduced.{IsForm, SameSolutions, IsReducedBy, IsOneReduced, IsCleared};
 ghost use Rattle.lra_canon.specs.Reduced.{IsClearingExcess, IsChainEnd, IsFirstExcess, IsReductionExcess};
 

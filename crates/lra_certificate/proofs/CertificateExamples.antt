@@ -1,8 +1,8 @@
 -- Definitions of certificates on small operands. Which slip an example would catch stands beside it.
 use Rattle.std.proofs.Common.{◌≡◌, ℤ, pos, negsuc, List, [], ◌∷◌, ◌++◌, Some, None, refl}
 use Rattle.std.specs.Prelude.{codes, Ok}
-use Rattle.lra_linear.specs.Descriptions.{Given, equality, inequality}
-use Rattle.lra_linear.specs.declared.ConKind.TheVariants.{Ge}
+use Rattle.lra_linear_spec.specs.Descriptions.{LinearRow, equality, inequality}
+use Rattle.lra_linear_spec.specs.declared.ConKind.TheVariants.{Ge}
 use Rattle.lra_domain.specs.Actions.{assign, forget, test, embed, remove_last}
 use Rattle.lra_multipliers.specs.Symbols.{walk_of}
 use Rattle.lra_multipliers.specs.Multipliers.{Multipliers, yes, no, wide, checked}
@@ -51,7 +51,7 @@ other_word : multipliers_in (codes "dead") 1 (codes "by 1 0 1") ≡ None
 other_word = refl
 
 -- the check: the premise x = 3
-abbrev is_three : List Given
+abbrev is_three : List LinearRow
 is_three = equality (negsuc 2 ∷ pos 1 ∷ []) ∷ []
 
 abbrev times : ℤ → ℤ → ℤ → Multipliers

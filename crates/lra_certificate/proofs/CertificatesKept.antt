@@ -10,12 +10,12 @@ use Rattle.std.proofs.lemmas.Option.{slice_get_within}
 use Rattle.std.proofs.lemmas.List.Elements.{All-from_recursion, All-contains, Contains-append_cases}
 use Rattle.lra_domain.specs.Actions.{Action}
 use Rattle.lra_domain.specs.Moves.{LeadsAll, SomeLeads}
-use Rattle.lra_linear.specs.Descriptions.{Given, HoldsWith, Holds, Con, system_of}
-use Rattle.lra_linear.specs.Polyhedra.{falsity}
-use Rattle.lra_linear.specs.Vectors.{entry, dot, product, zeros}
-use Rattle.lra_linear.proofs.Descriptions.{solves_con}
-use Rattle.lra_linear.proofs.Membership.{contains_none, contains_cases, contains_head, contains_tail, map_has, map_from}
-use Rattle.lra_linear.proofs.Ring.{ring, v, ◌⊕◌, ◌⊗◌}
+use Rattle.lra_linear_spec.specs.Descriptions.{LinearRow, HoldsWith, Holds, Con, system_of}
+use Rattle.lra_linear_spec.specs.Polyhedra.{falsity}
+use Rattle.lra_linear_spec.specs.Vectors.{entry, dot, product, zeros}
+use Rattle.lra_linear_spec.proofs.Descriptions.{solves_con}
+use Rattle.lra_linear_spec.proofs.Membership.{contains_none, contains_cases, contains_head, contains_tail, map_has, map_from}
+use Rattle.lra_linear_spec.proofs.Ring.{ring, v, ◌⊕◌, ◌⊗◌}
 use Rattle.lra_program.specs.Program.{Program}
 use Rattle.lra_program.specs.Sites.{Site, sites_of}
 use Rattle.lra_operations.specs.Graph.{Node}
@@ -48,10 +48,10 @@ dot_padded : (r : List ℤ) (k : ℕ) (u : ℕ → ℤ) → dot (r ++ zeros k) u
 dot_padded [] k u = dot_none k u
 dot_padded (c ∷ cs) k u = ap (λ (z : ℤ). (c *ℤ u 0) +ℤ z) (dot_padded cs k (λ j. u (suc j)))
 
-con_behind : (xs ys : List Given) (u : List ℤ) → Con xs u → Con ys u → Con (xs ++ ys) u
+con_behind : (xs ys : List LinearRow) (u : List ℤ) → Con xs u → Con ys u → Con (xs ++ ys) u
 con_behind xs ys u h k = λ g m. at g (Contains-append_cases xs ys g m)
   where
-    at : (g : Given) → Contains xs g ⊎ Contains ys g → Holds g u
+    at : (g : LinearRow) → Contains xs g ⊎ Contains ys g → Holds g u
     at g (inl m) = h g m
     at g (inr m) = k g m
 
@@ -92,11 +92,11 @@ module _ (live : ℕ) (path : Path) (s t : List ℤ) (long : length s ≡ live) 
             }) e;
       }
 
-  module _ (rows : List Given) (held : Con rows (pos 1 ∷ s)) (fit : AllByRecursion (IsPointRow live) rows) where
+  module _ (rows : List LinearRow) (held : Con rows (pos 1 ∷ s)) (fit : AllByRecursion (IsPointRow live) rows) where
     abbrev along : Along
     along = record { live = live; rows = rows; path = path }
 
-    row_holds : (w : Walked) (x : Vector w) (g : Given) → Contains rows g → Holds (padded (suc last) g) x.u
+    row_holds : (w : Walked) (x : Vector w) (g : LinearRow) → Contains rows g → Holds (padded (suc last) g) x.u
     row_holds w x g m =
         let is = All-contains (IsPointRow live) rows g (All-from_recursion (IsPointRow live) rows fit) m in
         subst (λ (z : ℤ). HoldsWith g.equal z) (sym (dot_padded g.row (suc last - length g.row) (entry x.u) ∙ x.front g.row (omega (arith, is.width))))
@@ -105,10 +105,10 @@ module _ (live : ℕ) (path : Path) (s t : List ℤ) (long : length s ≡ live) 
     premises_hold : (w : Walked) (x : Vector w) → Con (premises_of along w) x.u
     premises_hold w x = con_behind (map (padded (suc last)) rows) w.tests x.u each x.stands.tests
       where
-        from : (g : Given) → (f : Given) × Contains rows f × (padded (suc last) f ≡ g) → Holds g x.u
-        from g (f, k, e) = subst (λ (y : Given). Holds y x.u) e (row_holds w x f k)
+        from : (g : LinearRow) → (f : LinearRow) × Contains rows f × (padded (suc last) f ≡ g) → Holds g x.u
+        from g (f, k, e) = subst (λ (y : LinearRow). Holds y x.u) e (row_holds w x f k)
 
-        each : (g : Given) → Contains (map (padded (suc last)) rows) g → Holds g x.u
+        each : (g : LinearRow) → Contains (map (padded (suc last)) rows) g → Holds g x.u
         each g m = from g (map_from (padded (suc last)) rows g m)
 
     at_one : (w : Walked) (x : Vector w) → pos 0 ≤ℤ entry x.u 0
@@ -149,18 +149,18 @@ module _ (live : ℕ) (path : Path) (s t : List ℤ) (long : length s ≡ live) 
       | inr d ↦ claims_hold claims ms h.1 c d
     ]
 
-    meets_claims : (target : Option (List Given)) (ms : List Multipliers) → MeetsClaims along target ms → HoldsAt target t
+    meets_claims : (target : Option (List LinearRow)) (ms : List Multipliers) → MeetsClaims along target ms → HoldsAt target t
     meets_claims None [] h = absurd h
     meets_claims None (m ∷ []) h = absurd (not_dead m h)
     meets_claims None (m ∷ n ∷ ms) h = absurd h
     meets_claims (Some claims) ms h = solves_con claims (pos 1 ∷ t) (claims_hold (system_of claims) ms h)
 
-    meets_lines : (target : Option (List Given)) (evidence : Evidence) → MeetsEvidence along target evidence → HoldsAt target t
+    meets_lines : (target : Option (List LinearRow)) (evidence : Evidence) → MeetsEvidence along target evidence → HoldsAt target t
     meets_lines target none h = absurd h
     meets_lines target (dead m) h = absurd (not_dead m h)
     meets_lines target (by ms) h = meets_claims target ms h
 
-  path_holds : (state target : Option (List Given)) (evidence : Evidence) → MeetsFrom live path state target evidence → IsState live state →
+  path_holds : (state target : Option (List LinearRow)) (evidence : Evidence) → MeetsFrom live path state target evidence → IsState live state →
       HoldsAt state s → HoldsAt
       target t
   path_holds None target evidence h f held = absurd held
@@ -179,7 +179,7 @@ some_way [] s t h = absurd h
 some_way (way ∷ ways) s t (inl h) = (way, contains_head way ways, h)
 some_way (way ∷ ways) s t (inr h) = let k = some_way ways s t h in (k.0, contains_tail way k.0 ways k.1, k.2)
 
-state_there : (sites : List Site) (states : List (Option (List Given))) (q : ℕ) → AreStates sites states → IsState (live_of (slice_get sites q))
+state_there : (sites : List Site) (states : List (Option (List LinearRow))) (q : ℕ) → AreStates sites states → IsState (live_of (slice_get sites q))
     (state_or_empty (slice_get states q))
 state_there [] [] q h = tt
 state_there [] (x ∷ states) q h = absurd h

@@ -14,7 +14,7 @@ use Rattle.std.specs.Str.Parse.{signed_digits_value}
 use Rattle.std.proofs.lemmas.Bool.Decides.{nat_tests, Decides-eqb}
 use Rattle.std.proofs.lemmas.List.Splits.{slice_split_first, slice_split_none, slice_split-cons_no}
 use Rattle.std.proofs.lemmas.List.Sums.{fails_before_first, passes_at_first}
-use Rattle.lra_linear.specs.Range.{in_range}
+use Rattle.lra_linear_spec.specs.Range.{in_range}
 use Rattle.lra_script.specs.ScriptText.{is_number, number_of}
 use Rattle.lra_script.proofs.WordLemmas.{both}
 use Rattle.lra_certificate.specs.Judged.{is_magnitude, begins_with_minus, is_spelled, number_in, then_number, numbers_in, words_of, spaced_numbers, so_many}

@@ -14,8 +14,8 @@ use Rattle.std.proofs.lemmas.Fmt.{decimal_digit, decimal_step_wide, decimal_by_s
 use Rattle.std.proofs.lemmas.Str.Parse.{digit_from_value}
 use Rattle.std.proofs.lemmas.Str.{digit_value_digit}
 use Rattle.std.proofs.lemmas.Option.{same_Some, none-some}
-use Rattle.lra_linear.specs.Range.{InRange, in_range}
-use Rattle.lra_linear.proofs.CheckedArithmetic.{in_range_yes}
+use Rattle.lra_linear_spec.specs.Range.{InRange, in_range}
+use Rattle.lra_linear_spec.proofs.CheckedArithmetic.{in_range_yes}
 use Rattle.lra_certificate.specs.Judged.{begins_with_minus, is_magnitude, is_spelled, number_in}
 use Rattle.lra_script.proofs.WordLemmas.{both, all_digits}
 use Rattle.lra_certificate.proofs.NumberSteps.{either, zero_word}

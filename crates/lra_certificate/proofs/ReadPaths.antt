@@ -3,8 +3,8 @@ use Rattle.std.proofs.Common.{◌≡◌, ◌<◌, ◌≤◌, ◌+◌, ℕ, suc, 
 use Rattle.std.proofs.Common.{append_assoc, append-nil, Option, Some, None, Result, Ok, Err, length-append}
 use Rattle.std.specs.Prelude.{if◌then◌else◌, codes, slice_get, ◌&&◌, ⊤}
 use Rattle.std.specs.List.{AllByRecursion, flat_map}
-use Rattle.lra_linear.specs.declared.Excess.{Excess}
-use Rattle.lra_linear.specs.Descriptions.{Given, system_of}
+use Rattle.lra_linear_spec.specs.declared.Excess.{Excess}
+use Rattle.lra_linear_spec.specs.Descriptions.{LinearRow, system_of}
 use Rattle.lra_program.specs.Program.{Program}
 use Rattle.lra_program.specs.Sites.{Site, sites_of}
 use Rattle.lra_operations.specs.Graph.{Node}
@@ -84,7 +84,7 @@ module _ (a : Along) (word : List ℕ) (some : 0 < length word) (claim : Walked 
   line_taken g = given_taken (multipliers_in word (premises_count a) (line_or_empty (line_on l.pieces))) refl g
 
 -- ---- one path
-module _ (live : ℕ) (rows : List Given) (path : Path) (fit : AllByRecursion (IsPointRow live) rows) where
+module _ (live : ℕ) (rows : List LinearRow) (path : Path) (fit : AllByRecursion (IsPointRow live) rows) where
   abbrev a : Along
   a = record { live = live; rows = rows; path = path }
 

@@ -10,8 +10,8 @@ use Rattle.std.proofs.lemmas.Bool.Decides.{Decides-eqb}
 use Rattle.std.proofs.lemmas.List.Splits.{join_with_byte-slice_split}
 use Rattle.std.proofs.lemmas.Option.{same_Some, none-some}
 use Rattle.std.proofs.lemmas.Slice.Eq.{starts_is}
-use Rattle.lra_linear.specs.Descriptions.{Given}
-use Rattle.lra_linear.specs.Range.{InRange}
+use Rattle.lra_linear_spec.specs.Descriptions.{LinearRow}
+use Rattle.lra_linear_spec.specs.Range.{InRange}
 use Rattle.lra_program.specs.Sites.{Site}
 use Rattle.lra_multipliers.specs.Multipliers.{Multipliers}
 use Rattle.lra_certificate.specs.Certificates.{IsPointRow, IsState, AreStates, AreNumbers}
@@ -106,42 +106,42 @@ numbers_text_is text n line zs e = by (starts_with nat_eq line text) refl e
         )
 
 -- ---- rows
-given_is : (equal : Bool) (live : ℕ) (line : List ℕ) (g : Given) (o : Option (List ℤ)) → numbers_behind (relation_text equal) (suc live) line ≡ o →
+given_is : (equal : Bool) (live : ℕ) (line : List ℕ) (g : LinearRow) (o : Option (List ℤ)) → numbers_behind (relation_text equal) (suc live) line ≡ o →
     as_given equal o ≡ Some g →
     (line ≡ row_text g) × IsPointRow live g
 given_is equal live line g None h e = absurd (none-some g e)
 given_is equal live line g (Some row) h e =
     let n = numbers_text_is (relation_text equal) (suc live) line row h in
-    let is = same_Some (let x : Given = record { row = row; equal = equal } in x) g e in
-    subst (λ (x : Given). (line ≡ row_text x) × IsPointRow live x) is (n.0, record { width = n.1; in_range = n.2 })
+    let is = same_Some (let x : LinearRow = record { row = row; equal = equal } in x) g e in
+    subst (λ (x : LinearRow). (line ≡ row_text x) × IsPointRow live x) is (n.0, record { width = n.1; in_range = n.2 })
 
-row_or : (live : ℕ) (line : List ℕ) (g : Given) (one : Option Given) → as_given true (numbers_behind (relation_text true) (suc live) line) ≡ one →
+row_or : (live : ℕ) (line : List ℕ) (g : LinearRow) (one : Option LinearRow) → as_given true (numbers_behind (relation_text true) (suc live) line) ≡ one →
     or_else one (as_given false (numbers_behind (relation_text false) (suc live) line)) ≡ Some g → (line ≡ row_text g) × IsPointRow live g
 row_or live line g None h e = given_is false live line g (numbers_behind (relation_text false) (suc live) line) refl e
 row_or live line g (Some x) h e = given_is true live line g (numbers_behind (relation_text true) (suc live) line) refl (h ∙ e)
 
-pub row_text_is : (live : ℕ) (line : List ℕ) (g : Given) → row_in live line ≡ Some g → (line ≡ row_text g) × IsPointRow live g
+pub row_text_is : (live : ℕ) (line : List ℕ) (g : LinearRow) → row_in live line ≡ Some g → (line ≡ row_text g) × IsPointRow live g
 row_text_is live line g e = row_or live line g (as_given true (numbers_behind (relation_text true) (suc live) line)) refl e
 
-abbrev pub rows_text : List Given → List ℕ
+abbrev pub rows_text : List LinearRow → List ℕ
 rows_text gs = flat_map (λ g. text_line (row_text g)) gs
 
-before_is : (n : ℕ) (o : Option Given) (rest : Judged (List Given × Left)) (y : List Given × Left) → with_row n o rest ≡ Ok y →
-    (g : Given) × (r : List Given × Left) × (o ≡ Some g) × (rest ≡ Ok r) × (let x : List Given × Left = (g ∷ r.0, r.1) in x ≡ y)
+before_is : (n : ℕ) (o : Option LinearRow) (rest : Judged (List LinearRow × Left)) (y : List LinearRow × Left) → with_row n o rest ≡ Ok y →
+    (g : LinearRow) × (r : List LinearRow × Left) × (o ≡ Some g) × (rest ≡ Ok r) × (let x : List LinearRow × Left = (g ∷ r.0, r.1) in x ≡ y)
 before_is n None rest y e = absurd (no_ok (record { line = n; fault = bad_line }) y e)
 before_is n (Some g) (Err r) y e = absurd (no_ok r y e)
-before_is n (Some g) (Ok r) y e = (g, r, refl, refl, ok_same (let x : List Given × Left = (g ∷ r.0, r.1) in x) y e)
+before_is n (Some g) (Ok r) y e = (g, r, refl, refl, ok_same (let x : List LinearRow × Left = (g ∷ r.0, r.1) in x) y e)
 
-pub judged_rows_text : (live n : ℕ) (pieces : List (List ℕ)) (y : List Given × Left) → judged_rows live n pieces ≡ Ok y →
+pub judged_rows_text : (live n : ℕ) (pieces : List (List ℕ)) (y : List LinearRow × Left) → judged_rows live n pieces ≡ Ok y →
     (joined pieces ≡ rows_text y.0 ++ joined y.1.pieces) × AllByRecursion (IsPointRow live) y.0
 judged_rows_text live n [] y e =
-    subst (λ (x : List Given × Left). (joined [] ≡ rows_text x.0 ++ joined x.1.pieces) × AllByRecursion (IsPointRow live) x.0) (ok_same _ y e) (refl, tt)
+    subst (λ (x : List LinearRow × Left). (joined [] ≡ rows_text x.0 ++ joined x.1.pieces) × AllByRecursion (IsPointRow live) x.0) (ok_same _ y e) (refl, tt)
 judged_rows_text live n (last ∷ []) y e =
-    subst (λ (x : List Given × Left). (joined (last ∷ []) ≡ rows_text x.0 ++ joined x.1.pieces) ×
+    subst (λ (x : List LinearRow × Left). (joined (last ∷ []) ≡ rows_text x.0 ++ joined x.1.pieces) ×
     AllByRecursion (IsPointRow live) x.0) (ok_same _ y e) (refl, tt)
 judged_rows_text live n (line ∷ next ∷ more) y e = by (judged_rows_text live (suc n) (next ∷ more)) (starts_with nat_eq line (codes " ")) e
   where
-    by : ((r : List Given × Left) → judged_rows live (suc n) (next ∷ more) ≡ Ok r →
+    by : ((r : List LinearRow × Left) → judged_rows live (suc n) (next ∷ more) ≡ Ok r →
         (joined (next ∷ more) ≡ rows_text r.0 ++ joined r.1.pieces) × AllByRecursion (IsPointRow live) r.0) →
         (b : Bool) → (if b then with_row n (row_in live line) (judged_rows live (suc n) (next ∷ more)) else Ok (
           [],
@@ -153,13 +153,13 @@ judged_rows_text live n (line ∷ next ∷ more) y e = by (judged_rows_text live
         )) ≡ Ok y →
         (joined (line ∷ next ∷ more) ≡ rows_text y.0 ++ joined y.1.pieces) × AllByRecursion (IsPointRow live) y.0
     by again false f =
-        subst (λ (x : List Given × Left). (joined (line ∷ next ∷ more) ≡ rows_text x.0 ++ joined x.1.pieces) ×
+        subst (λ (x : List LinearRow × Left). (joined (line ∷ next ∷ more) ≡ rows_text x.0 ++ joined x.1.pieces) ×
         AllByRecursion (IsPointRow live) x.0) (ok_same _ y f) (refl, tt)
     by again true f =
         let b = before_is n (row_in live line) (judged_rows live (suc n) (next ∷ more)) y f in
         let r = row_text_is live line b.0 b.2 in
         let rest = again b.1 b.3 in
-        subst (λ (x : List Given × Left). (joined (line ∷ next ∷ more) ≡ rows_text x.0 ++ joined x.1.pieces) × AllByRecursion (IsPointRow live) x.0) b.4 (
+        subst (λ (x : List LinearRow × Left). (joined (line ∷ next ∷ more) ≡ rows_text x.0 ++ joined x.1.pieces) × AllByRecursion (IsPointRow live) x.0) b.4 (
           line_text (line ∷ next ∷ more) line refl ∙ ap (λ (x : List ℕ). text_line line ++ x) rest.0 ∙
               ap (λ (x : List ℕ). text_line x ++ (rows_text b.1.0 ++ joined b.1.1.pieces)) r.0 ∙
               sym (append_assoc (text_line (row_text b.0)) (rows_text b.1.0) (joined b.1.1.pieces)),
@@ -167,7 +167,7 @@ judged_rows_text live n (line ∷ next ∷ more) y e = by (judged_rows_text live
         )
 
 -- ---- points
-some_is : (r : Judged (List Given × Left)) (y : State × Left) → some_rows r ≡ Ok y → (x : List Given × Left) × (r ≡ Ok x) × (let s : State ×
+some_is : (r : Judged (List LinearRow × Left)) (y : State × Left) → some_rows r ≡ Ok y → (x : List LinearRow × Left) × (r ≡ Ok x) × (let s : State ×
     Left = (Some x.0, x.1) in s ≡ y)
 some_is (Ok x) y e = (x, refl, ok_same (let s : State × Left = (Some x.0, x.1) in s) y e)
 some_is (Err r) y e = absurd (no_ok r y e)

@@ -8,17 +8,17 @@ use Rattle.std.proofs.Math.IntN.{+ℤ_idr}
 use Rattle.std.proofs.lemmas.Bool.{cases_lt}
 use Rattle.std.proofs.lemmas.List.{map-append, length-append, length-map, map-set, take-map}
 use Rattle.std.proofs.lemmas.List.Elements.{Contains-append_cases}
-use Rattle.lra_linear.specs.declared.Excess.{Excess}
-use Rattle.lra_linear.specs.declared.ConKind.{ConKind}
-use Rattle.lra_linear.specs.declared.ConKind.TheVariants.{Ge, Eq}
-use Rattle.lra_linear.specs.CheckedArithmetic.{checked_added, and_then}
-use Rattle.lra_linear.specs.Descriptions.{Given, HoldsWith, Holds, Con}
-use Rattle.lra_linear.specs.Kinds.{is_equality}
-use Rattle.lra_linear.specs.Vectors.{entry, dot, product, zeros}
-use Rattle.lra_linear.proofs.Membership.{contains_none, contains_cases}
-use Rattle.lra_linear.proofs.Products.{entry_past, dot_same, dot_plus, product_comm, product_none}
-use Rattle.lra_linear.proofs.Ring.{ring, v, ◌⊕◌, ◌⊗◌}
-use Rattle.lra_linear.proofs.UnitRows.{entry_product}
+use Rattle.lra_linear_spec.specs.declared.Excess.{Excess}
+use Rattle.lra_linear_spec.specs.declared.ConKind.{ConKind}
+use Rattle.lra_linear_spec.specs.declared.ConKind.TheVariants.{Ge, Eq}
+use Rattle.lra_linear_spec.specs.CheckedArithmetic.{checked_added, and_then}
+use Rattle.lra_linear_spec.specs.Descriptions.{LinearRow, HoldsWith, Holds, Con}
+use Rattle.lra_linear_spec.specs.Kinds.{is_equality}
+use Rattle.lra_linear_spec.specs.Vectors.{entry, dot, product, zeros}
+use Rattle.lra_linear_spec.proofs.Membership.{contains_none, contains_cases}
+use Rattle.lra_linear_spec.proofs.Products.{entry_past, dot_same, dot_plus, product_comm, product_none}
+use Rattle.lra_linear_spec.proofs.Ring.{ring, v, ◌⊕◌, ◌⊗◌}
+use Rattle.lra_linear_spec.proofs.UnitRows.{entry_product}
 use Rattle.lra_lin.specs.Form.{Form, form_row, form_value, KindHolds}
 use Rattle.lra_domain.specs.Actions.{Action, assign, forget, test, embed, remove_last}
 use Rattle.lra_domain.specs.Moves.{LeadsAll}
@@ -155,14 +155,14 @@ kind_holds : (kind : ConKind) (z : ℤ) → KindHolds kind z → HoldsWith (is_e
 kind_holds Ge z h = h
 kind_holds Eq z h = h
 
-one_more_holds : (tests : List Given) (g : Given) (u : List ℤ) → Con tests u → Holds g u → Con (tests ++ g ∷ []) u
+one_more_holds : (tests : List LinearRow) (g : LinearRow) (u : List ℤ) → Con tests u → Holds g u → Con (tests ++ g ∷ []) u
 one_more_holds tests g u h k = λ f m. by f (Contains-append_cases tests (g ∷ []) f m)
   where
-    last : (f : Given) → (g ≡ f) ⊎ Contains [] f → Holds f u
-    last f (inl e) = subst (λ (x : Given). Holds x u) e k
+    last : (f : LinearRow) → (g ≡ f) ⊎ Contains [] f → Holds f u
+    last f (inl e) = subst (λ (x : LinearRow). Holds x u) e k
     last f (inr m) = absurd (contains_none f m)
 
-    by : (f : Given) → Contains tests f ⊎ Contains (g ∷ []) f → Holds f u
+    by : (f : LinearRow) → Contains tests f ⊎ Contains (g ∷ []) f → Holds f u
     by f (inl m) = h f m
     by f (inr m) = last f (contains_cases g f [] m)
 
@@ -213,7 +213,7 @@ tested kind e steps new s m t held l k = λ n u w x o d f h a.
     let made = and_ok (composed (suc n) (form_row e) w.forms) (λ (row : List ℤ). Ok (tests_too w (record { row = row; equal = is_equality kind }))) first.0
     first.1 in
     let value = composed_value n e.constant e.coefficients w.forms made.0 u o h.widths made.1 in
-    let g : Given = record { row = made.0; equal = is_equality kind } in
+    let g : LinearRow = record { row = made.0; equal = is_equality kind } in
     let holds = subst (λ (z : ℤ). HoldsWith (is_equality kind) z) (sym (value.1 ∙ ap (λ (ys : List ℤ). e.constant +ℤ product e.coefficients ys) h.are))
     (kind_holds kind (form_value e s) held) in
     k n u (tests_too w g) x o d f (record { widths = h.widths; are = h.are ∙ sym l; tests = one_more_holds w.tests g u h.tests holds })

@@ -2,9 +2,9 @@
 use Rattle.std.proofs.Common.{◌≡◌, ℕ, suc, ◌≤◌, ◌+◌, ◌-◌, ℤ, pos, List, [], ◌∷◌, ◌++◌, length, map, take, Ok, refl, ap, sym, ◌∙◌, subst, arith, length-append}
 use Rattle.std.specs.List.{AllByRecursion}
 use Rattle.std.proofs.lemmas.List.{length-map}
-use Rattle.lra_linear.specs.Descriptions.{Given}
-use Rattle.lra_linear.specs.Kinds.{is_equality}
-use Rattle.lra_linear.specs.Vectors.{zeros}
+use Rattle.lra_linear_spec.specs.Descriptions.{LinearRow}
+use Rattle.lra_linear_spec.specs.Kinds.{is_equality}
+use Rattle.lra_linear_spec.specs.Vectors.{zeros}
 use Rattle.lra_lin.specs.Form.{form_row}
 use Rattle.lra_domain.specs.Actions.{Action, assign, forget, test, embed, remove_last}
 use Rattle.lra_paths.specs.Paths.{Path}
@@ -21,7 +21,7 @@ pub record IsWide (n count : ℕ) (w : Walked) : Type 0 where
   pub tests : AreWide (suc n) w.tests
   pub many : length w.tests ≡ count
 
-tests_wide : (n : ℕ) (tests : List Given) (g : Given) → AreWide n tests → length g.row ≡ n → AreWide n (tests ++ g ∷ [])
+tests_wide : (n : ℕ) (tests : List LinearRow) (g : LinearRow) → AreWide n tests → length g.row ≡ n → AreWide n (tests ++ g ∷ [])
 tests_wide n [] g w e = (e, tt)
 tests_wide n (t ∷ ts) g w e = (w.0, tests_wide n ts g w.1 e)
 
@@ -54,7 +54,7 @@ wide_walk n count (test kind e ∷ steps) w x h a =
     let made = and_ok (composed (suc n) (form_row e) w.forms) (λ (row : List ℤ). Ok (tests_too w (record { row = row; equal = is_equality kind }))) first.0
     first.1 in
     let wide = composed_width n (form_row e) w.forms made.0 h.forms made.1 in
-    let g : Given = record { row = made.0; equal = is_equality kind } in
+    let g : LinearRow = record { row = made.0; equal = is_equality kind } in
     let more = wide_walk n (suc count) steps first.0 x
     (subst (λ (y : Walked). IsWide n (suc count) y) (ok_is (tests_too w g) first.0 made.2)
     (record { forms = h.forms; tests = tests_wide (suc n) w.tests g h.tests wide; many = length-append w.tests (g ∷ []) ∙ omega (arith, h.many) })) first.2 in
@@ -66,7 +66,7 @@ wide_walk n count (remove_last k ∷ steps) w x h a =
     wide_walk n count steps (record w { forms = take (length w.forms - k) w.forms }) x
     (record { forms = all_taken (suc n) (length w.forms - k) w.forms h.forms; tests = h.tests; many = h.many }) a
 
-padded_wide : (n live : ℕ) (rows : List Given) → live ≤ n → AllByRecursion (IsPointRow live) rows → AreWide (suc n) (map (padded (suc n)) rows)
+padded_wide : (n live : ℕ) (rows : List LinearRow) → live ≤ n → AllByRecursion (IsPointRow live) rows → AreWide (suc n) (map (padded (suc n)) rows)
 padded_wide n live [] l h = tt
 padded_wide n live (g ∷ gs) l h = (
   length-append g.row (zeros (suc n - length g.row)) ∙ ap (λ (k : ℕ). length g.row + k) (length_zeros (suc n - length g.row)) ∙ (let w = h.0.width in
@@ -74,11 +74,11 @@ padded_wide n live (g ∷ gs) l h = (
   padded_wide n live gs l h.1,
 )
 
-both_wide : (n : ℕ) (xs ys : List Given) → AreWide n xs → AreWide n ys → AreWide n (xs ++ ys)
+both_wide : (n : ℕ) (xs ys : List LinearRow) → AreWide n xs → AreWide n ys → AreWide n (xs ++ ys)
 both_wide n [] ys w h = h
 both_wide n (x ∷ xs) ys w h = (w.0, both_wide n xs ys w.1 h)
 
-module _ (live : ℕ) (rows : List Given) (path : Path) (fit : AllByRecursion (IsPointRow live) rows) where
+module _ (live : ℕ) (rows : List LinearRow) (path : Path) (fit : AllByRecursion (IsPointRow live) rows) where
   abbrev along : Along
   along = record { live = live; rows = rows; path = path }
 

@@ -5,8 +5,8 @@ use Rattle.std.proofs.Common.{append_assoc, append-nil, Option, Some, None, Resu
 use Rattle.std.specs.Prelude.{if◌then◌else◌, codes}
 use Rattle.std.specs.List.{AllByRecursion, flat_map}
 use Rattle.std.specs.Fmt.{decimal}
-use Rattle.lra_linear.specs.declared.Excess.{Excess}
-use Rattle.lra_linear.specs.Descriptions.{Given, system_of}
+use Rattle.lra_linear_spec.specs.declared.Excess.{Excess}
+use Rattle.lra_linear_spec.specs.Descriptions.{LinearRow, system_of}
 use Rattle.lra_program.specs.Program.{Program}
 use Rattle.lra_operations.specs.Graph.{Node}
 use Rattle.lra_paths.specs.Paths.{Path}
@@ -28,7 +28,8 @@ use Rattle.lra_certificate.proofs.WriteText.{AreFrom, text_from, from_lower, fro
 use Rattle.lra_certificate.proofs.WriteText.{line_pieces, line_first, takes_it}
 
 -- ---- one answer
-pub one_answer : (premises : List Given) (claim : List ℤ) (m : Multipliers) (s t : Answer) → IsAnswer premises claim m s → IsAnswer premises claim m t → s ≡ t
+pub one_answer : (premises : List LinearRow) (claim : List ℤ) (m : Multipliers) (s t : Answer) → IsAnswer premises claim m s → IsAnswer premises claim m t →
+    s ≡ t
 one_answer premises claim m yes yes h k = refl
 one_answer premises claim m yes no h k = absurd (k.1 h.1)
 one_answer premises claim m yes wide h k = absurd (h.0 k)
@@ -39,7 +40,7 @@ one_answer premises claim m wide yes h k = absurd (k.0 h)
 one_answer premises claim m wide no h k = absurd (k.0 h)
 one_answer premises claim m wide wide h k = refl
 
-signed_many : (premises : List Given) (factors : List ℤ) → AreSigned premises factors → length factors ≡ length premises
+signed_many : (premises : List LinearRow) (factors : List ℤ) → AreSigned premises factors → length factors ≡ length premises
 signed_many [] [] h = refl
 signed_many [] (l ∷ ls) h = absurd h
 signed_many (g ∷ gs) [] h = absurd h
@@ -63,7 +64,7 @@ by_from = text_from 32 (codes "by") refl
 dead_from : AreFrom 32 (codes "dead")
 dead_from = text_from 32 (codes "dead") refl
 
-module _ (live : ℕ) (rows : List Given) (path : Path) (fit : AllByRecursion (IsPointRow live) rows) where
+module _ (live : ℕ) (rows : List LinearRow) (path : Path) (fit : AllByRecursion (IsPointRow live) rows) where
   abbrev a : Along
   a = record { live = live; rows = rows; path = path }
 

@@ -5,7 +5,7 @@ use Rattle.std.specs.Prelude.{if◌then◌else◌, codes}
 use Rattle.std.specs.List.{AllByRecursion}
 use Rattle.std.specs.Fmt.{decimal}
 use Rattle.std.proofs.lemmas.Slice.Eq.{bytes_eq-Decides}
-use Rattle.lra_linear.specs.Descriptions.{Given}
+use Rattle.lra_linear_spec.specs.Descriptions.{LinearRow}
 use Rattle.lra_program.specs.Sites.{Site}
 use Rattle.lra_certificate.specs.Certificates.{IsPointRow, IsState, AreStates}
 use Rattle.lra_certificate.specs.CertificateText.{text_line, numbers_text, relation_text, row_text, point_text, state_text, states_text}
@@ -21,14 +21,14 @@ use Rattle.lra_certificate.proofs.WriteText.{line_first, is_itself, takes_it, cl
 abbrev pub IsOther : List ℕ → Type 0
 IsOther rest = is_row_line (line_on (pieces_of rest)) ≡ false
 
-row_from : (live : ℕ) (g : Given) → IsPointRow live g → AreFrom 32 (row_text g)
+row_from : (live : ℕ) (g : LinearRow) → IsPointRow live g → AreFrom 32 (row_text g)
 row_from live g h = from_joined 32 (relation_text g.equal) (numbers_text g.row) (relation_from g.equal) (numbers_from g.row h.in_range)
   where
     relation_from : (equal : Bool) → AreFrom 32 (relation_text equal)
     relation_from true = text_from 32 (codes "  =") refl
     relation_from false = text_from 32 (codes "  >=") refl
 
-row_begins : (g : Given) → is_row_line (Some (row_text g)) ≡ true
+row_begins : (g : LinearRow) → is_row_line (Some (row_text g)) ≡ true
 row_begins g = by g.equal
   where
     by : (equal : Bool) → is_row_line (Some (relation_text equal ++ numbers_text g.row)) ≡ true
@@ -36,10 +36,10 @@ row_begins g = by g.equal
     by false = refl
 
 -- the rows are read, and what is left is what stands behind them
-abbrev pub RowsRead : ℕ → ℕ → List Given → List ℕ → List (List ℕ) → Type 0
+abbrev pub RowsRead : ℕ → ℕ → List LinearRow → List ℕ → List (List ℕ) → Type 0
 RowsRead live n gs rest pieces = (m : Left) × (judged_rows live n pieces ≡ Ok (gs, m)) × (m.pieces ≡ pieces_of rest)
 
-pub rows_read : (live n : ℕ) (gs : List Given) (rest : List ℕ) (pieces : List (List ℕ)) → AllByRecursion (IsPointRow live) gs → IsOther rest →
+pub rows_read : (live n : ℕ) (gs : List LinearRow) (rest : List ℕ) (pieces : List (List ℕ)) → AllByRecursion (IsPointRow live) gs → IsOther rest →
     pieces ≡ pieces_of (rows_text gs ++ rest) → RowsRead live n gs rest pieces
 rows_read live n [] rest pieces h o e =
     (record { number = n; pieces = pieces }, rows_end live n pieces (ap (λ (p : List (List ℕ)). is_row_line (line_on p)) e ∙ o), e)
@@ -51,7 +51,7 @@ rows_read live n (g ∷ gs) rest pieces h o e =
     let on = ap line_on shape ∙ line_first (row_text g) (rows_text gs ++ rest) from in (
       more.0,
       rows_on live n pieces (row_text g) on (row_begins g) ∙
-          ap (λ (r : Option Given). with_row n r (judged_rows live (suc n) (drop 1 pieces))) (row_read live g h.0) ∙
+          ap (λ (r : Option LinearRow). with_row n r (judged_rows live (suc n) (drop 1 pieces))) (row_read live g h.0) ∙
           ap (row_before g) more.1,
       more.2,
     )

@@ -14,8 +14,8 @@ use Rattle.std.proofs.lemmas.List.Elements.{All-from_recursion}
 use Rattle.std.proofs.lemmas.List.Splits.{slice_split_at, length-slice_split}
 use Rattle.std.proofs.lemmas.List.Sums.{position_or_len_is}
 use Rattle.std.proofs.lemmas.Slice.Eq.{bytes_eq-Decides, starts_is}
-use Rattle.lra_linear.specs.Descriptions.{Given}
-use Rattle.lra_linear.specs.Range.{InRange}
+use Rattle.lra_linear_spec.specs.Descriptions.{LinearRow}
+use Rattle.lra_linear_spec.specs.Range.{InRange}
 use Rattle.lra_multipliers.specs.Multipliers.{Multipliers}
 use Rattle.lra_certificate.specs.Certificates.{IsPointRow, AreNumbers}
 use Rattle.lra_certificate.specs.CertificateText.{text_line, numbers_text, relation_text, row_text}
@@ -128,7 +128,7 @@ numbers_read text n zs e h =
     ap (so_many n) (spaced_read zs h) ∙ ap (λ (b : Bool). if b then Some zs else None) (eq-eqb (length zs) n e)
 
 -- ---- rows and multipliers
-pub row_read : (live : ℕ) (g : Given) → IsPointRow live g → row_in live (row_text g) ≡ Some g
+pub row_read : (live : ℕ) (g : LinearRow) → IsPointRow live g → row_in live (row_text g) ≡ Some g
 row_read live g h = by g.equal refl
   where
     given : (equal : Bool) → g.equal ≡ equal → as_given equal (Some g.row) ≡ Some g

@@ -2,7 +2,7 @@
 use Rattle.std.specs.Prelude.{ℕ, suc, ℤ, Bool, true, false, List, [], ◌∷◌, ◌++◌, length, Option, None, Some, codes}
 use Rattle.std.specs.List.{flat_map}
 use Rattle.std.specs.Fmt.{decimal, signed_decimal}
-use Rattle.lra_linear.specs.Descriptions.{Given}
+use Rattle.lra_linear_spec.specs.Descriptions.{LinearRow}
 use Rattle.lra_ways.specs.Ways.{Goal, comes_to, denies}
 use Rattle.lra_paths.specs.Paths.{Path}
 use Rattle.lra_multipliers.specs.Multipliers.{Multipliers}
@@ -19,7 +19,7 @@ abbrev pub relation_text : Bool → List ℕ
 relation_text true = codes "  ="
 relation_text false = codes "  >="
 
-abbrev pub row_text : Given → List ℕ
+abbrev pub row_text : LinearRow → List ℕ
 row_text g = relation_text g.equal ++ numbers_text g.row
 
 -- the lines of a word with a number
@@ -29,12 +29,12 @@ numbered_text word n = word ++ codes " " ++ decimal n
 abbrev pub point_text : ℕ → List ℕ
 point_text number = numbered_text (codes "point") number
 
-abbrev pub state_text : ℕ → Option (List Given) → List ℕ
+abbrev pub state_text : ℕ → Option (List LinearRow) → List ℕ
 state_text number None = text_line (point_text number ++ codes " empty")
 state_text number (Some rows) = text_line (point_text number) ++ flat_map (λ g. text_line (row_text g)) rows
 
 -- the points, from this number on
-abbrev pub states_text : ℕ → List (Option (List Given)) → List ℕ
+abbrev pub states_text : ℕ → List (Option (List LinearRow)) → List ℕ
 states_text number [] = []
 states_text number (s ∷ ss) = state_text number s ++ states_text (suc number) ss
 

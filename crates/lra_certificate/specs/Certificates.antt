@@ -3,10 +3,10 @@
 use Rattle.std.specs.Prelude.{◌≡◌, ◌<◌, ℕ, zero, suc, ◌-◌, ℤ, ⊤, true, List, [], ◌∷◌, ◌++◌, length, map, Option}
 use Rattle.std.specs.Prelude.{None, Some, slice_get, Ok}
 use Rattle.std.specs.List.{AllByRecursion}
-use Rattle.lra_linear.specs.Descriptions.{Given, system_of}
-use Rattle.lra_linear.specs.Polyhedra.{falsity}
-use Rattle.lra_linear.specs.Range.{InRange}
-use Rattle.lra_linear.specs.Vectors.{zeros}
+use Rattle.lra_linear_spec.specs.Descriptions.{LinearRow, system_of}
+use Rattle.lra_linear_spec.specs.Polyhedra.{falsity}
+use Rattle.lra_linear_spec.specs.Range.{InRange}
+use Rattle.lra_linear_spec.specs.Vectors.{zeros}
 use Rattle.lra_program.specs.Program.{Program}
 use Rattle.lra_program.specs.Sites.{Site, sites_of}
 use Rattle.lra_operations.specs.Graph.{Node}
@@ -30,22 +30,22 @@ pub record Listed : Type 0 where
 pub record Certificate : Type 0 where
   pub source : List ℕ
   -- point by point: its rows; none where it is empty
-  pub states : List (Option (List Given))
+  pub states : List (Option (List LinearRow))
   -- path by path
   pub paths : List Evidence
   pub asserted : List Listed
 
 -- what is said of a source, and of a goal: of the start no row; of where a listed assertion is false that nothing
 -- comes there
-abbrev pub state_or_empty : Option (Option (List Given)) → Option (List Given)
+abbrev pub state_or_empty : Option (Option (List LinearRow)) → Option (List LinearRow)
 state_or_empty None = None
 state_or_empty (Some state) = state
 
-abbrev pub state_from : List (Option (List Given)) → ℕ → Option (List Given)
+abbrev pub state_from : List (Option (List LinearRow)) → ℕ → Option (List LinearRow)
 state_from states zero = Some []
 state_from states (suc q) = state_or_empty (slice_get states q)
 
-abbrev pub state_to : List (Option (List Given)) → Goal → Option (List Given)
+abbrev pub state_to : List (Option (List LinearRow)) → Goal → Option (List LinearRow)
 state_to states (comes_to q) = state_or_empty (slice_get states q)
 state_to states (denies q) = None
 
@@ -57,14 +57,14 @@ live_from P (suc q) = live_at P q
 -- one path: its source's variables and rows, and its actions
 pub record Along : Type 0 where
   pub live : ℕ
-  pub rows : List Given
+  pub rows : List LinearRow
   pub path : Path
 
 -- the source's rows, and then the tests
-abbrev pub padded : ℕ → Given → Given
+abbrev pub padded : ℕ → LinearRow → LinearRow
 padded width g = record g { row = g.row ++ zeros (width - length g.row) }
 
-abbrev pub premises_of : Along → Walked → List Given
+abbrev pub premises_of : Along → Walked → List LinearRow
 premises_of a w = map (padded (width_of a.live a.path.actions)) a.rows ++ w.tests
 
 -- -1 >= 0 over the symbols
@@ -87,19 +87,19 @@ AreShown a (claim ∷ claims) [] = ⊥
 AreShown a (claim ∷ claims) (m ∷ ms) = IsShown a claim m × AreShown a claims ms
 
 -- the claims of a target that isn't empty: an equality has two, its row and then minus that
-abbrev pub MeetsClaims : Along → Option (List Given) → List Multipliers → Type 0
+abbrev pub MeetsClaims : Along → Option (List LinearRow) → List Multipliers → Type 0
 MeetsClaims a None [] = ⊥
 MeetsClaims a None (m ∷ []) = IsDead a m
 MeetsClaims a None (m ∷ n ∷ ms) = ⊥
 MeetsClaims a (Some rows) ms = AreShown a (system_of rows) ms
 
 -- what is said of a path from a source with rows to a target
-abbrev pub MeetsEvidence : Along → Option (List Given) → Evidence → Type 0
+abbrev pub MeetsEvidence : Along → Option (List LinearRow) → Evidence → Type 0
 MeetsEvidence a target none = ⊥
 MeetsEvidence a target (dead m) = IsDead a m
 MeetsEvidence a target (by ms) = MeetsClaims a target ms
 
-abbrev pub MeetsFrom : ℕ → Path → Option (List Given) → Option (List Given) → Evidence → Type 0
+abbrev pub MeetsFrom : ℕ → Path → Option (List LinearRow) → Option (List LinearRow) → Evidence → Type 0
 MeetsFrom live path None target evidence = evidence ≡ none
 MeetsFrom live path (Some rows) target evidence =
     MeetsEvidence (record { live = live; rows = rows; path = path }) target evidence
@@ -110,7 +110,7 @@ ShowsNoClaim none = ⊤
 ShowsNoClaim (dead m) = ⊤
 ShowsNoClaim (by ms) = ⊥
 
-module _ (P : Program) (g : Node) (states : List (Option (List Given))) where
+module _ (P : Program) (g : Node) (states : List (Option (List LinearRow))) where
   abbrev pub MeetsPath : Path → Evidence → Type 0
   MeetsPath path evidence = MeetsFrom (live_from P path.source) path (state_from states path.source)
       (state_to states path.goal) evidence
@@ -135,15 +135,15 @@ Ascend (one ∷ []) = ⊤
 Ascend (one ∷ two ∷ more) = (one.number < two.number) × Ascend (two ∷ more)
 
 -- rows of a point with so many variables
-pub record IsPointRow (live : ℕ) (g : Given) : Type 0 where
+pub record IsPointRow (live : ℕ) (g : LinearRow) : Type 0 where
   pub width : length g.row ≡ suc live
   pub in_range : AllByRecursion InRange g.row
 
-abbrev pub IsState : ℕ → Option (List Given) → Type 0
+abbrev pub IsState : ℕ → Option (List LinearRow) → Type 0
 IsState live None = ⊤
 IsState live (Some rows) = AllByRecursion (IsPointRow live) rows
 
-abbrev pub AreStates : List Site → List (Option (List Given)) → Type 0
+abbrev pub AreStates : List Site → List (Option (List LinearRow)) → Type 0
 AreStates [] [] = ⊤
 AreStates [] (s ∷ ss) = ⊥
 AreStates (site ∷ sites) [] = ⊥

@@ -8,7 +8,7 @@ use Rattle.lra_tree.specs.Trees.{FileTree}
 use Rattle.lra_tree.specs.Grammar.{Spells}
 use Rattle.lra_meaning.specs.Resolve.{resolve}
 use Rattle.lra_meaning.specs.Refuse.{Refuse}
-use Rattle.lra_linear.specs.Descriptions.{Given, Con}
+use Rattle.lra_linear_spec.specs.Descriptions.{LinearRow, Con}
 use Rattle.lra_program.specs.Program.{Program}
 use Rattle.lra_program.specs.Run.{At, Fails}
 use Rattle.lra_program.specs.Sites.{Site, sites_of}
@@ -44,7 +44,7 @@ pub record IsCertificate (bytes : List ℕ) : Type 0 where
   pub meets : Meets (program_of program) program.operations certificate
 
 -- the rows hold at the store; where it is empty there is no store
-abbrev pub HoldsAt : Option (List Given) → List ℤ → Type 0
+abbrev pub HoldsAt : Option (List LinearRow) → List ℤ → Type 0
 HoldsAt None store = ⊥
 HoldsAt (Some rows) store = Con rows (pos 1 ∷ store)
 

@@ -9,9 +9,9 @@ use Rattle.std.specs.List.{list_all, slice_split, starts_with, before_first, aft
 use Rattle.std.specs.Char.{is_ascii_digit}
 use Rattle.std.specs.Str.{bytes_eq}
 use Rattle.std.specs.Str.Parse.{signed_digits_value}
-use Rattle.lra_linear.specs.declared.Excess.{Excess}
-use Rattle.lra_linear.specs.Descriptions.{Given, system_of}
-use Rattle.lra_linear.specs.Range.{in_range}
+use Rattle.lra_linear_spec.specs.declared.Excess.{Excess}
+use Rattle.lra_linear_spec.specs.Descriptions.{LinearRow, system_of}
+use Rattle.lra_linear_spec.specs.Range.{in_range}
 use Rattle.lra_program.specs.Program.{Program}
 use Rattle.lra_program.specs.Sites.{Site, sites_of}
 use Rattle.lra_operations.specs.Graph.{Node}
@@ -121,7 +121,7 @@ takes text l = if is_line text (line_on l.pieces) then Ok (behind_line l) else r
 
 -- points -----------------------------------------------------------------------------------------------------------
 
-abbrev pub as_given : Bool → Option (List ℤ) → Option Given
+abbrev pub as_given : Bool → Option (List ℤ) → Option LinearRow
 as_given equal None = None
 as_given equal (Some row) = Some (record { row = row; equal = equal })
 
@@ -130,20 +130,20 @@ or_else None other = other
 or_else (Some x) other = Some x
 
 -- a row of a point with so many variables
-abbrev pub row_in : ℕ → List ℕ → Option Given
+abbrev pub row_in : ℕ → List ℕ → Option LinearRow
 row_in live line = or_else (as_given true (numbers_behind (relation_text true) (suc live) line))
     (as_given false (numbers_behind (relation_text false) (suc live) line))
 
-abbrev pub row_before : Given → Judged (List Given × Left) → Judged (List Given × Left)
+abbrev pub row_before : LinearRow → Judged (List LinearRow × Left) → Judged (List LinearRow × Left)
 row_before g (Ok r) = Ok (g ∷ r.0, r.1)
 row_before g (Err r) = Err r
 
-abbrev pub with_row : ℕ → Option Given → Judged (List Given × Left) → Judged (List Given × Left)
+abbrev pub with_row : ℕ → Option LinearRow → Judged (List LinearRow × Left) → Judged (List LinearRow × Left)
 with_row n None rest = refuses n bad_line
 with_row n (Some g) rest = row_before g rest
 
 -- the rows of a point: the lines that begin with a space
-abbrev pub judged_rows : ℕ → ℕ → List (List ℕ) → Judged (List Given × Left)
+abbrev pub judged_rows : ℕ → ℕ → List (List ℕ) → Judged (List LinearRow × Left)
 judged_rows live n [] = Ok ([], record { number = n; pieces = [] })
 judged_rows live n (last ∷ []) = Ok ([], record { number = n; pieces = last ∷ [] })
 judged_rows live n (line ∷ next ∷ more) = if starts_with nat_eq line (codes " ")
@@ -151,9 +151,9 @@ judged_rows live n (line ∷ next ∷ more) = if starts_with nat_eq line (codes 
     else Ok ([], record { number = n; pieces = line ∷ next ∷ more })
 
 abbrev pub State : Type 0
-State = Option (List Given)
+State = Option (List LinearRow)
 
-abbrev pub some_rows : Judged (List Given × Left) → Judged (State × Left)
+abbrev pub some_rows : Judged (List LinearRow × Left) → Judged (State × Left)
 some_rows (Ok r) = Ok (Some r.0, r.1)
 some_rows (Err r) = Err r
 

@@ -5,8 +5,8 @@ use Rattle.std.specs.Prelude.{Option, Some, Result, Ok, Err, IfOk, IfErr, OnOk, 
 use Rattle.std.specs.List.{All, AllByRecursion}
 use Rattle.std.proofs.lemmas.List.{length-map}
 use Rattle.std.proofs.lemmas.Option.{slice_get_within}
-use Rattle.lra_linear.specs.Polyhedra.{Polyhedron, IsPolyhedron}
-use Rattle.lra_linear.specs.declared.ConKind.{ConKind}
+use Rattle.lra_linear_spec.specs.Polyhedra.{Polyhedron, IsPolyhedron}
+use Rattle.lra_linear_spec.specs.declared.ConKind.{ConKind}
 use Rattle.lra_sys.specs.Listed.{Listed}
 use Rattle.lra_tree.specs.Trees.{FileTree}
 use Rattle.lra_meaning.specs.Resolve.{resolve}

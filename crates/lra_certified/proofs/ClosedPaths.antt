@@ -6,12 +6,12 @@ use Rattle.std.specs.List.{AllByRecursion}
 use Rattle.std.proofs.Math.Seq.{take-append_seam}
 use Rattle.std.proofs.lemmas.List.{length-set, length-append, length-take-le}
 use Rattle.std.proofs.lemmas.Option.{none-some, same_Some, slice_get-map}
-use Rattle.lra_linear.specs.Descriptions.{Given, Con}
-use Rattle.lra_linear.specs.Points.{IsPoint, SamePoint}
-use Rattle.lra_linear.specs.Polyhedra.{Polyhedron, IsPolyhedron}
-use Rattle.lra_linear.specs.SetOperations.{assigned, SameBut}
-use Rattle.lra_linear.specs.Vectors.{entry, product}
-use Rattle.lra_linear.proofs.Products.{entry_set_other}
+use Rattle.lra_linear_spec.specs.Descriptions.{LinearRow, Con}
+use Rattle.lra_linear_spec.specs.Points.{IsPoint, SamePoint}
+use Rattle.lra_linear_spec.specs.Polyhedra.{Polyhedron, IsPolyhedron}
+use Rattle.lra_linear_spec.specs.SetOperations.{assigned, SameBut}
+use Rattle.lra_linear_spec.specs.Vectors.{entry, product}
+use Rattle.lra_linear_spec.proofs.Products.{entry_set_other}
 use Rattle.lra_lin.specs.Form.{form_row}
 use Rattle.lra_domain.specs.Actions.{Action, dims_after, assign, forget, test, embed, remove_last}
 use Rattle.lra_polydom.specs.Meaning.{polyhedron_meaning}
@@ -128,7 +128,7 @@ module _ (P : Program) (g : Node) (values : List Polyhedron) (verdicts : List (�
       by (Some rows) e = λ x y point inside led.
           let on : IsPointOf v x = (
             subst (λ (n : ℕ). IsPoint n x) (sym dims) point,
-            subst (λ (given : List Given). Con given x) (state_rows v rows e) inside,
+            subst (λ (given : List LinearRow). Con given x) (state_rows v rows e) inside,
           ) in
           arrives goal y asked (closed.next p s v goal actions site value among x y on (leads_all actions x y s.live point led))
 

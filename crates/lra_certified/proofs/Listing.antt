@@ -6,9 +6,9 @@ use Rattle.std.proofs.lemmas.List.{append-nil}
 use Rattle.std.proofs.lemmas.List.Elements.{filter-append}
 use Rattle.std.proofs.lemmas.Option.{slice_get-get_or}
 use Rattle.std.proofs.lemmas.Simd.{map-map}
-use Rattle.lra_linear.specs.Descriptions.{Given}
-use Rattle.lra_linear.specs.Polyhedra.{Polyhedron}
-use Rattle.lra_linear.proofs.Membership.{map_from, filter_from}
+use Rattle.lra_linear_spec.specs.Descriptions.{LinearRow}
+use Rattle.lra_linear_spec.specs.Polyhedra.{Polyhedron}
+use Rattle.lra_linear_spec.proofs.Membership.{map_from, filter_from}
 use Rattle.lra_base.specs.declared.refusals.Place.{Place}
 use Rattle.lra_program.specs.Sites.{Site}
 use Rattle.lra_show.specs.Part.{Generator}
@@ -69,7 +69,7 @@ listable sites verdicts order asserts =
 
 -- ---- what a report shows
 -- of the values
-shown_one : (gs rows : List Given) (generators : List Generator)
+shown_one : (gs rows : List LinearRow) (generators : List Generator)
     → rows_at (part_if_any gs (record { rows = map shown_constraint rows; generators = generators })) ≡ option_map (map shown_constraint) (rows_if_any gs rows)
 shown_one [] rows generators = refl
 shown_one (g ∷ gs) rows generators = refl

@@ -4,7 +4,7 @@ use Rattle.std.specs.Prelude.{Contains}
 use Rattle.std.specs.List.{flat_map}
 use Rattle.std.proofs.lemmas.List.Elements.{Contains-append_right}
 use Rattle.std.proofs.lemmas.Option.{slice_get_within}
-use Rattle.lra_linear.proofs.Membership.{contains_head, map_from}
+use Rattle.lra_linear_spec.proofs.Membership.{contains_head, map_from}
 use Rattle.lra_program.specs.Program.{Program}
 use Rattle.lra_program.specs.Sites.{sites_of}
 use Rattle.lra_operations.specs.Graph.{Node}

@@ -2,14 +2,14 @@
 -- the assertions that are proved.
 use Rattle.std.specs.Prelude.{ℕ, Bool, List, [], ◌∷◌, map, Option, None, Some, option_map}
 use Rattle.std.specs.List.{filter}
-use Rattle.lra_linear.specs.Descriptions.{Given}
-use Rattle.lra_linear.specs.Polyhedra.{Polyhedron}
-use Rattle.lra_linear.specs.declared.ConKind.{ConKind}
+use Rattle.lra_linear_spec.specs.Descriptions.{LinearRow}
+use Rattle.lra_linear_spec.specs.Polyhedra.{Polyhedron}
+use Rattle.lra_linear_spec.specs.declared.ConKind.{ConKind}
 use Rattle.lra_sys.specs.Listed.{Listed}
 use Rattle.lra_certificate.specs.Judged.{State}
 
 -- the rows where there is a generator
-abbrev pub rows_if_any : List Given → List Given → State
+abbrev pub rows_if_any : List LinearRow → List LinearRow → State
 rows_if_any [] rows = None
 rows_if_any (g ∷ gs) rows = Some rows
 

@@ -2,7 +2,7 @@
 
 ghost use Rattle.std.specs.Prelude.{◌≡◌, map, IfOk, Some, option_map};
 ghost use Rattle.std.specs.List.{AllByRecursion};
-ghost use Rattle.lra_linear.specs.Polyhedra.{IsPolyhedron};
+ghost use Rattle.lra_linear_spec.specs.Polyhedra.{IsPolyhedron};
 ghost use Rattle.lra_verify.specs.PointViews.{state_view};
 ghost use Rattle.lra_certified.specs.Taken.{state_by, dims_by, dims_in, proved_in};
 

@@ -6,12 +6,12 @@ use Rattle.std.specs.Prelude.{cond, codes}
 use Rattle.std.specs.List.{Contains}
 use Rattle.std.proofs.lemmas.List.{take-append-drop}
 use Rattle.std.proofs.lemmas.List.Elements.{All-contains, Contains-append_left}
-use Rattle.lra_linear.specs.Cones.{with_row}
-use Rattle.lra_linear.specs.Descriptions.{Given, system_of}
-use Rattle.lra_linear.specs.Range.{InRange}
-use Rattle.lra_linear.specs.Vectors.{negated}
-use Rattle.lra_linear.proofs.SetOperations.{system_append_in}
-use Rattle.lra_linear.proofs.Membership.{contains_head, contains_tail}
+use Rattle.lra_linear_spec.specs.Cones.{with_row}
+use Rattle.lra_linear_spec.specs.Descriptions.{LinearRow, system_of}
+use Rattle.lra_linear_spec.specs.Range.{InRange}
+use Rattle.lra_linear_spec.specs.Vectors.{negated}
+use Rattle.lra_linear_spec.proofs.SetOperations.{system_append_in}
+use Rattle.lra_linear_spec.proofs.Membership.{contains_head, contains_tail}
 use Rattle.lra_sys.specs.Listed.{constraints}
 use Rattle.lra_multipliers.specs.declared.multipliers.Multipliers as made
 use Rattle.lra_multipliers.specs.MultiplierViews.{multipliers_view}
@@ -60,18 +60,18 @@ pub row_claims : (equal : Bool) (row : List ℤ) (rest : List (List ℤ)) → wi
 row_claims true row rest = refl
 row_claims false row rest = refl
 
-pub system_next : (g : Given) (rest here : List Given) → here ≡ g ∷ rest → system_of here ≡ with_row g.equal g.row [] ++ system_of rest
+pub system_next : (g : LinearRow) (rest here : List LinearRow) → here ≡ g ∷ rest → system_of here ≡ with_row g.equal g.row [] ++ system_of rest
 system_next g rest here e = ap system_of e ∙ row_claims g.equal g.row (system_of rest)
 
 -- the claims of a row of the list
-pub hold_row : (g : Grounds) (all : List Given) (i : ℕ) (row : Given) → drop i all ≡ row ∷ drop (i + 1) all → AllHold g (system_of all) →
+pub hold_row : (g : Grounds) (all : List LinearRow) (i : ℕ) (row : LinearRow) → drop i all ≡ row ∷ drop (i + 1) all → AllHold g (system_of all) →
     AllHold g (with_row row.equal row.row [])
 hold_row g all i row is h = λ claim k.
     let rest = system_of (drop (i + 1) all) in
     let left : Contains (system_of (drop i all)) claim =
     subst (λ (l : List (List ℤ)). Contains l claim) (sym (system_next row (drop (i + 1) all) (drop i all) is))
     (Contains-append_left (with_row row.equal row.row []) rest claim k) in
-    h claim (subst (λ (l : List Given). Contains (system_of l) claim) (take-append-drop i all)
+    h claim (subst (λ (l : List LinearRow). Contains (system_of l) claim) (take-append-drop i all)
     (system_append_in (take i all) (drop i all) claim (inr left)))
 
 -- ---- written
@@ -92,7 +92,7 @@ pub dead_added : (g : Grounds) (target : State) (m : Multipliers) (old new : Lis
     new ≡ old ++ text_line (multipliers_text (codes "dead") m) → Adds (IsEvidence g target) old new
 dead_added g target m old new h e = record { evidence = dead m; is = h; text = e }
 
-pub claims_added : (g : Grounds) (rows : List Given) (old new : List ℕ) → IsNotShown g None → AddsLines g (system_of rows) old new →
+pub claims_added : (g : Grounds) (rows : List LinearRow) (old new : List ℕ) → IsNotShown g None → AddsLines g (system_of rows) old new →
     Adds (IsEvidence g (Some rows)) old new
 claims_added g rows old new alive h = record {
   evidence = by h.found;
@@ -156,7 +156,7 @@ module _ (g : Grounds) (row : List ℤ) where
       )
 
 -- ---- a target's claims, as they are handed on
-module _ (g : Grounds) (target : State) (rows : List Given) (is : target ≡ Some rows) where
+module _ (g : Grounds) (target : State) (rows : List LinearRow) (is : target ≡ Some rows) where
   pub claims_told : {X : Type 0} (old new : List ℕ) → IsNotShown g None → (r : Result X PathFailure) → OnOk r (AddsLines g (system_of rows) old new) →
       OnOk r (Adds (IsEvidence g target) old new)
   claims_told old new alive (Ok x) h = subst (λ (s : State). Adds (IsEvidence g s) old new) (sym is) (claims_added g rows old new alive h)

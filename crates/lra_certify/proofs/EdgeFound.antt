@@ -2,10 +2,10 @@
 use Rattle.std.proofs.Common.{◌≡◌, inl, suc, ℕ, ℤ, List, length, Option, Some, None, Result, Ok, Err, sym, ◌∙◌, subst, OnOk, IfErr, IfSome}
 use Rattle.std.specs.Prelude.{MatchOption}
 use Rattle.std.specs.List.{All, Contains}
-use Rattle.lra_linear.specs.declared.ConKind.{ConKind}
-use Rattle.lra_linear.specs.declared.Excess.{Excess}
-use Rattle.lra_linear.specs.Descriptions.{Given}
-use Rattle.lra_linear.specs.Vectors.{zeros}
+use Rattle.lra_linear_spec.specs.declared.ConKind.{ConKind}
+use Rattle.lra_linear_spec.specs.declared.Excess.{Excess}
+use Rattle.lra_linear_spec.specs.Descriptions.{LinearRow}
+use Rattle.lra_linear_spec.specs.Vectors.{zeros}
 use Rattle.lra_sys.specs.Listed.{Listed, constraints}
 use Rattle.lra_domain.specs.Actions.{Action}
 use Rattle.lra_paths.specs.Paths.{path_by}
@@ -26,7 +26,7 @@ use Rattle.lra_certify.proofs.NeverUnshown.{AreLaws}
 use Rattle.lra_certify.proofs.PathSteps.{strained_weaker}
 
 -- the rows of a list have its width
-rows_wide : (s : Listed ConKind) (seen : List (List ℤ)) → seen ≡ s.rows → All (λ r. length r ≡ suc s.dims) seen → (f : Given) → Contains (constraints s) f →
+rows_wide : (s : Listed ConKind) (seen : List (List ℤ)) → seen ≡ s.rows → All (λ r. length r ≡ suc s.dims) seen → (f : LinearRow) → Contains (constraints s) f →
     length f.row ≡ suc s.dims
 rows_wide s seen is wide = λ f k.
     (as_wide s seen (zeros (suc s.dims)) is wide (length_zeros (suc s.dims))).each f k ∙ length_zeros (suc s.dims)

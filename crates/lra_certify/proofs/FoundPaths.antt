@@ -5,13 +5,13 @@ use Rattle.std.proofs.Common.{ap, sym, ◌∙◌, subst, arith}
 use Rattle.std.specs.List.{Contains, AllByRecursion}
 use Rattle.std.proofs.lemmas.List.{length-take-le}
 use Rattle.std.proofs.lemmas.List.Elements.{All-contains, Contains-append_left, Contains-append_right}
-use Rattle.lra_linear.specs.declared.Excess.{Excess}
-use Rattle.lra_linear.specs.Descriptions.{Given, Con, system_of}
-use Rattle.lra_linear.specs.Points.{IsPoint, IsEmptySet}
-use Rattle.lra_linear.specs.Polyhedra.{falsity}
-use Rattle.lra_linear.specs.Vectors.{entry, product}
-use Rattle.lra_linear.proofs.Descriptions.{con_solves}
-use Rattle.lra_linear.proofs.Membership.{contains_head, contains_tail, map_has}
+use Rattle.lra_linear_spec.specs.declared.Excess.{Excess}
+use Rattle.lra_linear_spec.specs.Descriptions.{LinearRow, Con, system_of}
+use Rattle.lra_linear_spec.specs.Points.{IsPoint, IsEmptySet}
+use Rattle.lra_linear_spec.specs.Polyhedra.{falsity}
+use Rattle.lra_linear_spec.specs.Vectors.{entry, product}
+use Rattle.lra_linear_spec.proofs.Descriptions.{con_solves}
+use Rattle.lra_linear_spec.proofs.Membership.{contains_head, contains_tail, map_has}
 use Rattle.lra_sys.specs.Listed.{constraints}
 use Rattle.lra_paths.specs.Paths.{Path}
 use Rattle.lra_multipliers.specs.Symbols.{Walked, composed, width_of}
@@ -74,22 +74,22 @@ dead_shown laws g lead alive =
     (subst (λ (r : List ℤ). IsEmptySet (multiplier_dims (constraints g.premises)) (Con (multiplier_rows (constraints g.premises) r))) (sym nothing) alive.never)
 
 -- the claims of a target's rows hold where all points lead to it
-pub target_holds : (g : Grounds) (rows : List Given) → AllLead g (Some rows) → AllHold g (system_of rows)
+pub target_holds : (g : Grounds) (rows : List LinearRow) → AllLead g (Some rows) → AllHold g (system_of rows)
 target_holds g rows lead = λ claim k x is_point meets. con_solves rows (led_to g x) (lead x is_point meets) claim k
 
 ok_err : (row : List ℤ) (e : Excess) → (let r : Result (List ℤ) Excess = Ok row in r) ≡ Err e → ⊥
 ok_err row e is = cc
 
 -- ---- the grounds of a path
-module _ (live : ℕ) (rows : List Given) (path : Path) (g : Grounds) (of : AreGroundsOf live rows path.actions g) where
+module _ (live : ℕ) (rows : List LinearRow) (path : Path) (g : Grounds) (of : AreGroundsOf live rows path.actions g) where
   abbrev along : Along
   along = record { live = live; rows = rows; path = path }
 
   -- rows as wide as there are variables
-  pub all_lead : (target : State) → ((f : Given) → Contains rows f → length f.row ≡ suc live) → StaysFrom live path.actions (Some rows) target →
+  pub all_lead : (target : State) → ((f : LinearRow) → Contains rows f → length f.row ≡ suc live) → StaysFrom live path.actions (Some rows) target →
       AllLead g target
   all_lead target wide stays = λ x is_point meets.
-      let con = subst (λ (gs : List Given). Con gs x) of.premises meets in
+      let con = subst (λ (gs : List LinearRow). Con gs x) of.premises meets in
       let tests : Con of.walk.tests x = λ f k.
       con f (Contains-append_right (map (padded (width_of live path.actions)) rows) of.walk.tests f k) in
       let source : Con rows (take (suc live) x) = λ f k.
@@ -121,11 +121,11 @@ module _ (live : ℕ) (rows : List Given) (path : Path) (g : Grounds) (of : AreG
   nothing_is : (row : List ℤ) → claim_on g None ≡ Ok row → row ≡ nothing_left along
   nothing_is row made = sym (ok_is (falsity (suc g.premises.dims - 1)) row made) ∙ ap (λ (n : ℕ). falsity (n - 1)) of.width
 
-  abbrev Shown : List Given → List ℤ → Multipliers → Type 0
+  abbrev Shown : List LinearRow → List ℤ → Multipliers → Type 0
   Shown premises row m = IsAnswer premises row m yes × AreFirst premises row m
 
   line_premises : (claim : Option (List ℤ)) (m : Multipliers) (line : IsLine g claim m) → Shown (premises_of along of.walk) line.row m
-  line_premises claim m line = subst (λ (ps : List Given). Shown ps line.row m) of.premises (line.shown, line.first)
+  line_premises claim m line = subst (λ (ps : List LinearRow). Shown ps line.row m) of.premises (line.shown, line.first)
 
   dead_line : (m : Multipliers) → IsLine g None m → IsDead along m × IsFirstDead along m
   dead_line m line =
@@ -152,7 +152,7 @@ module _ (live : ℕ) (rows : List Given) (path : Path) (g : Grounds) (of : AreG
   never_dead laws alive = λ w m walks shows.
       let same = ok_is of.walk w (sym of.walks ∙ walks) in
       none_show laws (constraints g.premises) alive.row m alive.wide alive.never
-      (subst (λ (ps : List Given). Shows ps alive.row m) (sym of.premises)
+      (subst (λ (ps : List LinearRow). Shows ps alive.row m) (sym of.premises)
       (subst (λ (r : List ℤ). Shows (premises_of along of.walk) r m) (sym (nothing_is alive.row alive.made))
       (subst (λ (v : Walked). Shows (premises_of along v) (nothing_left along) m) (sym same) shows)))
 
@@ -169,7 +169,7 @@ module _ (live : ℕ) (rows : List Given) (path : Path) (g : Grounds) (of : AreG
   dead_strains (inl (e, passes)) = absurd (ok_err (falsity (suc g.premises.dims - 1)) e passes)
   dead_strains (inr (row, made, strains)) =
       subst (λ (r : List ℤ). MultipliersStrain (premises_of along of.walk) r) (nothing_is row made)
-      (subst (λ (ps : List Given). MultipliersStrain ps row) of.premises strains)
+      (subst (λ (ps : List LinearRow). MultipliersStrain ps row) of.premises strains)
 
   claim_strains : (claim : List ℤ) → LineStrains g (Some claim) → ClaimStrains along of.walk claim
   claim_strains claim (inl (e, passes)) = inl (
@@ -178,7 +178,7 @@ module _ (live : ℕ) (rows : List Given) (path : Path) (g : Grounds) (of : AreG
         (subst (λ (n : ℕ). composed n claim g.forms.items ≡ Err e) of.width passes),
   )
   claim_strains claim (inr (row, made, strains)) =
-      inr (row, claim_is claim row made, subst (λ (ps : List Given). MultipliersStrain ps row) of.premises strains)
+      inr (row, claim_is claim row made, subst (λ (ps : List LinearRow). MultipliersStrain ps row) of.premises strains)
 
   target_strains : AreLaws → (target : State) → TargetStrains g target → WalkStrains along target of.walk
   target_strains laws None h = inl (dead_strains h)

@@ -9,8 +9,8 @@ use Rattle.std.specs.Global.{Global}
 use Rattle.std.specs.Prelude.{slice_get}
 use Rattle.std.specs.List.{Contains, flat_map, range_with_len}
 use Rattle.std.proofs.lemmas.Bool.{cases_lt}
-use Rattle.lra_linear.proofs.Membership.{contains_head, contains_tail, contains_cases, contains_none, map_has, map_from}
-use Rattle.lra_linear.specs.Descriptions.{Given}
+use Rattle.lra_linear_spec.proofs.Membership.{contains_head, contains_tail, contains_cases, contains_none, map_has, map_from}
+use Rattle.lra_linear_spec.specs.Descriptions.{LinearRow}
 use Rattle.std.specs.Borrow.{Bor}
 use Rattle.lra_domain.specs.Actions.{Action}
 use Rattle.lra_domain.specs.declared.changes.Change.{Change}
@@ -135,7 +135,7 @@ none_denied w p q text e =
     let all = none_each w p q (led_by w p (denies q)) e in
     record { found = all.found; are = all.are; text = sym (append-nil text) ∙ ap (λ (t : List ℕ). text ++ t) all.text }
 
-module _ (w : Ways) (p q n : ℕ) (rows : List Given) (is : n ≡ live_by (sites_in w) p) (from : Some rows ≡ state_from (states_in w) p) where
+module _ (w : Ways) (p q n : ℕ) (rows : List LinearRow) (is : n ≡ live_by (sites_in w) p) (from : Some rows ≡ state_from (states_in w) p) where
   denied_each : (lists : List (List Action)) (found : List Evidence) → Each (FoundDead n rows) lists found →
       Each (Found (sites_in w) (states_in w)) (map (path_by p (denies q)) lists) found
   denied_each [] [] h = tt
@@ -266,11 +266,11 @@ pub no_paths : (f : List Action → Path) (paths : List (Vec (Bor Change) Global
 no_paths f paths i h = ap (λ (l : List (List Action)). map f l) (lists_end paths i h)
 
 -- ---- to where an assertion is false: of a source, and of all
-pub dead_one : (n : ℕ) (rows : List Given) (steps : List Action) (old new : List ℕ) → Adds (FoundOn n steps (Some rows) None) old new →
+pub dead_one : (n : ℕ) (rows : List LinearRow) (steps : List Action) (old new : List ℕ) → Adds (FoundOn n steps (Some rows) None) old new →
     AddsDead n rows (steps ∷ []) old new
 dead_one n rows steps old new h = adds_one (FoundDead n rows) (λ s evidence. evidence_text evidence) steps h.evidence old new h.is h.text
 
-module _ (n : ℕ) (rows : List Given) where
+module _ (n : ℕ) (rows : List LinearRow) where
   pub dead_begin : (all : List (List Action)) (start : List ℕ) → DeadLeft n rows all all start start
   dead_begin all start = left_all (FoundDead n rows) (λ s evidence. evidence_text evidence) (StrainsDead n rows) all start
 
@@ -373,7 +373,7 @@ pub led_lists : (w : Ways) (p : ℕ) (goal : Goal) (s : Source) (lists : List (L
 led_lists w p goal s lists got led = led ∙ ap (λ (o : Option Source). led_from o goal) (sym got)
 
 -- ---- to where an assertion is false, from a source that isn't empty, as it is handed on
-module _ (w : Ways) (p q n : ℕ) (rows : List Given) (is : n ≡ live_by (sites_in w) p) (from : Some rows ≡ state_from (states_in w) p)
+module _ (w : Ways) (p q n : ℕ) (rows : List LinearRow) (is : n ≡ live_by (sites_in w) p) (from : Some rows ≡ state_from (states_in w) p)
     (lists : List (List Action)) (led : lists ≡ led_by w p (denies q)) where
   pub denied_stay : AllStay w (paths_to w p (denies q)) → AllDead n rows lists
   denied_stay stay = λ steps k.

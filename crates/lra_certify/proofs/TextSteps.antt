@@ -9,11 +9,11 @@ use Rattle.std.specs.Borrow.{Bor}
 use Rattle.std.specs.Fmt.{decimal, signed_decimal}
 use Rattle.std.specs.List.{All, AllByRecursion, Contains}
 use Rattle.std.proofs.lemmas.List.Elements.{All-contains, All-append, All-cons, All-nil}
-use Rattle.lra_linear.specs.declared.ConKind.{ConKind}
-use Rattle.lra_linear.specs.Descriptions.{Given}
-use Rattle.lra_linear.specs.Kinds.{is_equality}
-use Rattle.lra_linear.specs.Range.{InRange}
-use Rattle.lra_linear.proofs.Membership.{contains_head, contains_tail}
+use Rattle.lra_linear_spec.specs.declared.ConKind.{ConKind}
+use Rattle.lra_linear_spec.specs.Descriptions.{LinearRow}
+use Rattle.lra_linear_spec.specs.Kinds.{is_equality}
+use Rattle.lra_linear_spec.specs.Range.{InRange}
+use Rattle.lra_linear_spec.proofs.Membership.{contains_head, contains_tail}
 use Rattle.lra_sys.specs.Listed.{Listed, constraints, given_by}
 use Rattle.lra_program.specs.Sites.{Site}
 use Rattle.lra_paths.specs.Paths.{path_by}
@@ -28,7 +28,7 @@ use Rattle.lra_verify.specs.PointViews.{state_view, HaveDims}
 use Rattle.lra_certify.specs.Lines.{rows_text, ArePointRows, HasPointRows}
 
 -- ---- rows
-pub row_line : (old first second new : List ℕ) (g : Given) → first ≡ old ++ relation_text g.equal → second ≡ first ++ numbers_text g.row →
+pub row_line : (old first second new : List ℕ) (g : LinearRow) → first ≡ old ++ relation_text g.equal → second ≡ first ++ numbers_text g.row →
     new ≡ second ++ codes "\n" →
     new ≡ old ++ text_line (row_text g)
 row_line old first second new g a b c =
@@ -36,15 +36,15 @@ row_line old first second new g a b c =
     (b ∙ ap (λ (t : List ℕ). t ++ numbers_text g.row) a ∙ append_assoc old (relation_text g.equal) (numbers_text g.row)) ∙
     append_assoc old (relation_text g.equal ++ numbers_text g.row) (codes "\n")
 
-module _ (t0 t1 all : List ℕ) (g : Given) (rest here : List Given) (is : here ≡ g ∷ rest) (before : t0 ++ rows_text here ≡ all)
+module _ (t0 t1 all : List ℕ) (g : LinearRow) (rest here : List LinearRow) (is : here ≡ g ∷ rest) (before : t0 ++ rows_text here ≡ all)
     (written : t1 ≡ t0 ++ text_line (row_text g)) where
   pub rows_left : t1 ++ rows_text rest ≡ all
   rows_left =
       ap (λ (t : List ℕ). t ++ rows_text rest) written ∙ append_assoc t0 (text_line (row_text g)) (rows_text rest) ∙
-      ap (λ (gs : List Given). t0 ++ rows_text gs) (sym is) ∙ before
+      ap (λ (gs : List LinearRow). t0 ++ rows_text gs) (sym is) ∙ before
 
-pub rows_end : (t all : List ℕ) (here : List Given) → here ≡ [] → t ++ rows_text here ≡ all → t ≡ all
-rows_end t all here none before = sym (append-nil t) ∙ ap (λ (gs : List Given). t ++ rows_text gs) (sym none) ∙ before
+pub rows_end : (t all : List ℕ) (here : List LinearRow) → here ≡ [] → t ++ rows_text here ≡ all → t ≡ all
+rows_end t all here none before = sym (append-nil t) ∙ ap (λ (gs : List LinearRow). t ++ rows_text gs) (sym none) ∙ before
 
 -- rows of the list's width, with numbers of the range
 pub every_number : (xs : List ℤ) → ((x : ℤ) → Contains xs x → InRange x) → AllByRecursion InRange xs
@@ -131,7 +131,7 @@ empty_written old new n e =
     (sym (append_assoc (codes "point ") (decimal n) (codes " empty\n")) ∙ sym (append_assoc (codes "point " ++ decimal n) (codes " empty") (codes "\n")))
 
 -- the lines of a point with rows
-pub rows_written : (old first new : List ℕ) (n : ℕ) (rows : List Given) → first ≡ old ++ text_line (point_text n) → new ≡ first ++ rows_text rows →
+pub rows_written : (old first new : List ℕ) (n : ℕ) (rows : List LinearRow) → first ≡ old ++ text_line (point_text n) → new ≡ first ++ rows_text rows →
     new ≡ old ++ state_text n (Some rows)
 rows_written old first new n rows a b =
     b ∙ ap (λ (t : List ℕ). t ++ rows_text rows) a ∙ append_assoc old (text_line (point_text n)) (rows_text rows)

@@ -5,12 +5,12 @@ use Rattle.std.proofs.Common.{ap, sym, ◌∙◌, subst, arith}
 use Rattle.std.specs.Prelude.{slice_set}
 use Rattle.std.proofs.lemmas.List.{map-append, length-map, map-set, take-map, length-take-le, take-append-drop}
 use Rattle.std.proofs.lemmas.List.Elements.{Contains-append_left, Contains-push}
-use Rattle.lra_linear.specs.Descriptions.{Given, HoldsWith, Holds, Con}
-use Rattle.lra_linear.specs.Kinds.{is_equality}
-use Rattle.lra_linear.specs.Vectors.{entry, product, zeros}
-use Rattle.lra_linear.proofs.OneSpelling.{dot_zeros}
-use Rattle.lra_linear.proofs.Products.{product_none}
-use Rattle.lra_linear.proofs.UnitRows.{entry_product}
+use Rattle.lra_linear_spec.specs.Descriptions.{LinearRow, HoldsWith, Holds, Con}
+use Rattle.lra_linear_spec.specs.Kinds.{is_equality}
+use Rattle.lra_linear_spec.specs.Vectors.{entry, product, zeros}
+use Rattle.lra_linear_spec.proofs.OneSpelling.{dot_zeros}
+use Rattle.lra_linear_spec.proofs.Products.{product_none}
+use Rattle.lra_linear_spec.proofs.UnitRows.{entry_product}
 use Rattle.lra_lin.specs.Form.{form_row}
 use Rattle.lra_domain.specs.Actions.{Action, assign, forget, test, embed, remove_last}
 use Rattle.lra_multipliers.specs.Symbols.{symbol, symbols, composed, Walked, tests_too, gives, walked_by, walked, new_symbols, width_of, walk_of}
@@ -75,7 +75,7 @@ module _ (n : ℕ) (u : List ℤ) where
       let made = and_ok (composed (suc n) (form_row e) w.forms) (λ (row : List ℤ). Ok (tests_too w (record { row = row; equal = is_equality kind }))) first.0
       first.1 in
       let value = composed_at n e.constant e.coefficients w.forms made.0 u h made.1 in
-      let g : Given = record { row = made.0; equal = is_equality kind } in
+      let g : LinearRow = record { row = made.0; equal = is_equality kind } in
       let rest = goes_back steps (tests_too w g) x h
       (subst (λ (y : Walked). walked (suc n) steps y ≡ Ok x) (sym (ok_is (tests_too w g) first.0 made.2)) first.2) c in (
         λ f m. rest.0 f (Contains-append_left w.tests (g ∷ []) f m),
@@ -131,7 +131,7 @@ product_behind (c ∷ cs) [] k = product_none (c ∷ cs ++ zeros k) ∙ sym (pro
 product_behind (c ∷ cs) (y ∷ ys) k = ap (λ (z : ℤ). (c *ℤ y) +ℤ z) (product_behind cs ys k)
 
 -- a row with zeros behind it holds at a point where the row does at the first columns
-pub padded_holds : (width live : ℕ) (g : Given) (u : List ℤ) → length g.row ≡ suc live → Holds (padded width g) u → Holds g (take (suc live) u)
+pub padded_holds : (width live : ℕ) (g : LinearRow) (u : List ℤ) → length g.row ≡ suc live → Holds (padded width g) u → Holds g (take (suc live) u)
 padded_holds width live g u e h =
     subst (λ (z : ℤ). HoldsWith g.equal z)
     (product_behind g.row u (width - length g.row) ∙ ap (λ (k : ℕ). product g.row (take k u)) e) h

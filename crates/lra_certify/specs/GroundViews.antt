@@ -2,10 +2,10 @@
 use Rattle.std.specs.Prelude.{◌≡◌, ◌⊎◌, ◌++◌, ◌≤ℤ◌, suc, ℤ, pos, ℕ, List, ◌∷◌, map, codes, Result, Ok, Err, Option}
 use Rattle.std.specs.Prelude.{None, Some}
 use Rattle.std.specs.Prelude.{Contains}
-use Rattle.lra_linear.specs.declared.Excess.{Excess}
-use Rattle.lra_linear.specs.Descriptions.{Con, system_of}
-use Rattle.lra_linear.specs.Points.{IsPoint, IsEmptySet}
-use Rattle.lra_linear.specs.Vectors.{entry, product}
+use Rattle.lra_linear_spec.specs.declared.Excess.{Excess}
+use Rattle.lra_linear_spec.specs.Descriptions.{Con, system_of}
+use Rattle.lra_linear_spec.specs.Points.{IsPoint, IsEmptySet}
+use Rattle.lra_linear_spec.specs.Vectors.{entry, product}
 use Rattle.lra_sys.specs.Listed.{constraints}
 use Rattle.lra_multipliers.specs.Multipliers.{Multipliers, yes, IsAnswer}
 use Rattle.lra_certificate.specs.Certificates.{Evidence, none, dead, by, AreNumbers}

@@ -1,13 +1,13 @@
 -- Rows of states as the code writes them.
 use Rattle.std.specs.Prelude.{ℕ, ⊤, List, Option, None, Some}
 use Rattle.std.specs.List.{flat_map, AllByRecursion}
-use Rattle.lra_linear.specs.declared.ConKind.{ConKind}
-use Rattle.lra_linear.specs.Descriptions.{Given}
+use Rattle.lra_linear_spec.specs.declared.ConKind.{ConKind}
+use Rattle.lra_linear_spec.specs.Descriptions.{LinearRow}
 use Rattle.lra_sys.specs.Listed.{Listed, constraints}
 use Rattle.lra_certificate.specs.Certificates.{IsPointRow}
 use Rattle.lra_certificate.specs.CertificateText.{text_line, row_text}
 
-abbrev pub rows_text : List Given → List ℕ
+abbrev pub rows_text : List LinearRow → List ℕ
 rows_text rows = flat_map (λ g. text_line (row_text g)) rows
 
 -- its rows have its dimensions, and numbers of the range

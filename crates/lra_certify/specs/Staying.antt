@@ -1,8 +1,8 @@
 -- Rows that are closed along paths: from each rational point of its source's rows a path leads to points of its
 -- target's rows alone.
 use Rattle.std.specs.Prelude.{◌≤◌, ◌<◌, ℕ, ℤ, ⊤, List, length, None, Some, Contains}
-use Rattle.lra_linear.specs.Descriptions.{Con}
-use Rattle.lra_linear.specs.Points.{IsPoint}
+use Rattle.lra_linear_spec.specs.Descriptions.{Con}
+use Rattle.lra_linear_spec.specs.Points.{IsPoint}
 use Rattle.lra_domain.specs.Actions.{Action}
 use Rattle.lra_program.specs.Program.{Program}
 use Rattle.lra_program.specs.Sites.{Site, sites_of}

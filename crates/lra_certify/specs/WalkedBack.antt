@@ -1,7 +1,7 @@
 -- From values of a path's symbols back to points.
 use Rattle.std.specs.Prelude.{◌≡◌, ℕ, suc, ℤ, List, ◌∷◌, length, take, Ok, map}
-use Rattle.lra_linear.specs.Descriptions.{Con}
-use Rattle.lra_linear.specs.Vectors.{entry, product}
+use Rattle.lra_linear_spec.specs.Descriptions.{Con}
+use Rattle.lra_linear_spec.specs.Vectors.{entry, product}
 use Rattle.lra_domain.specs.Actions.{Action}
 use Rattle.lra_multipliers.specs.Symbols.{Walked, width_of, walk_of}
 use Rattle.lra_certify.specs.PointMoves.{PointLeadsAll}

@@ -3,7 +3,7 @@ use Rattle.std.specs.Prelude.{◌≡◌, ◌⊎◌, ◌++◌, ℕ, List, map, le
 use Rattle.std.specs.List.{flat_map, range_with_len}
 use Rattle.lra_ways.specs.Ways.{Goal, comes_to, denies}
 use Rattle.lra_paths.specs.Paths.{Path, path_by}
-use Rattle.lra_linear.specs.Descriptions.{Given}
+use Rattle.lra_linear_spec.specs.Descriptions.{LinearRow}
 use Rattle.lra_domain.specs.Actions.{Action}
 use Rattle.lra_certificate.specs.Certificates.{Evidence, Listed, AreStates}
 use Rattle.lra_certificate.specs.CertificateText.{text_line, edge_text, evidence_text, listed_text, states_text}
@@ -57,24 +57,24 @@ abbrev pub StrainsOn : ℕ → List Action → State → State → Type 0
 StrainsOn live steps from target = (path : Path) → path.actions ≡ steps → StrainsFrom live path from target
 
 -- to where an assertion is false
-abbrev pub FoundDead : ℕ → List Given → List Action → Evidence → Type 0
+abbrev pub FoundDead : ℕ → List LinearRow → List Action → Evidence → Type 0
 FoundDead live rows steps evidence = FoundOn live steps (Some rows) None evidence
 
-abbrev pub StrainsDead : ℕ → List Given → List Action → Type 0
+abbrev pub StrainsDead : ℕ → List LinearRow → List Action → Type 0
 StrainsDead live rows steps = StrainsOn live steps (Some rows) None
 
-abbrev pub AllDead : ℕ → List Given → List (List Action) → Type 0
+abbrev pub AllDead : ℕ → List LinearRow → List (List Action) → Type 0
 AllDead live rows lists = (steps : List Action) → Contains lists steps → StaysFrom live steps (Some rows) None
 
-abbrev pub AddsDead : ℕ → List Given → List (List Action) → List ℕ → List ℕ → Type 0
+abbrev pub AddsDead : ℕ → List LinearRow → List (List Action) → List ℕ → List ℕ → Type 0
 AddsDead live rows lists old new =
     AddsEach (FoundDead live rows) (λ steps evidence. evidence_text evidence) lists old new
 
-abbrev pub DeadLeft : ℕ → List Given → List (List Action) → List (List Action) → List ℕ → List ℕ → Type 0
+abbrev pub DeadLeft : ℕ → List LinearRow → List (List Action) → List (List Action) → List ℕ → List ℕ → Type 0
 DeadLeft live rows rest all now start =
     IsLeft (FoundDead live rows) (StrainsDead live rows) (λ steps evidence. evidence_text evidence) rest all now start
 
-abbrev pub SomeDeadStops : ℕ → List Given → List (List Action) → Type 0
+abbrev pub SomeDeadStops : ℕ → List LinearRow → List (List Action) → Type 0
 SomeDeadStops live rows lists =
     (steps : List Action) × Stops (FoundDead live rows) (StrainsDead live rows) lists steps
 

@@ -2,9 +2,9 @@
 //! for each claim of its target.
 
 ghost use Rattle.std.specs.Prelude.{◌<◌, [], ◌∷◌, length, OnOk, IfOk, IfErr, IfSome, Some, None, string_bytes};
-ghost use Rattle.lra_linear.specs.Cones.{with_row};
-ghost use Rattle.lra_linear.specs.Descriptions.{system_of};
-ghost use Rattle.lra_linear.specs.Kinds.{is_equality};
+ghost use Rattle.lra_linear_spec.specs.Cones.{with_row};
+ghost use Rattle.lra_linear_spec.specs.Descriptions.{system_of};
+ghost use Rattle.lra_linear_spec.specs.Kinds.{is_equality};
 ghost use Rattle.lra_sys.specs.Listed.{constraints};
 ghost use Rattle.lra_multipliers.specs.MultiplierViews.{multipliers_view};
 ghost use Rattle.lra_lines.specs.TrackViews.{AreGrounds, row_of, rows_of};
@@ -14,7 +14,7 @@ ghost use Rattle.lra_certify.specs.GroundViews.{AllHold, AddsLines, Adds, SomeSt
 use crate::failures::PathFailure;
 use crate::text::push_multipliers;
 use lra_farkas::{MultipliersFailure, multipliers};
-use lra_linear::ConKind;
+use lra_linear_spec::ConKind;
 use lra_lines::Grounds;
 use lra_multipliers::Multipliers;
 use lra_row::{Row, RowError};

@@ -2,7 +2,7 @@
 
 ghost use Rattle.std.specs.Prelude.{◌≡◌, ◌<◌, ◌^◌, ◌++◌, [], OnOk, string_bytes, map, IfSome};
 ghost use Rattle.std.specs.List.{All};
-ghost use Rattle.lra_linear.specs.Kinds.{is_equality};
+ghost use Rattle.lra_linear_spec.specs.Kinds.{is_equality};
 ghost use Rattle.lra_sys.specs.Listed.{constraints};
 ghost use Rattle.lra_multipliers.specs.MultiplierViews.{multipliers_view};
 ghost use Rattle.lra_certificate.specs.CertificateText.{text_line, numbers_text, row_text, multipliers_text};
@@ -14,7 +14,7 @@ ghost use Rattle.lra_lines.specs.TrackViews.{rows_of};
 ghost use Rattle.lra_certify.specs.Lines.{rows_text, ArePointRows, HasPointRows};
 ghost use Rattle.lra_verify.specs.PointViews.{state_view};
 
-use lra_linear::ConKind;
+use lra_linear_spec::ConKind;
 use lra_multipliers::Multipliers;
 use lra_row::Row;
 use lra_sys::ConSys;

@@ -26,7 +26,7 @@ use Rattle.lra_domain.specs.Meaning.{worse}
 use Rattle.lra_base.specs.declared.number_types.NumberType.{NumberType}
 use Rattle.lra_base.specs.declared.number_types.NumberType.TheVariants.{Int}
 use Rattle.lra_domain.specs.Actions.{test}
-use Rattle.lra_linear.specs.declared.ConKind.TheVariants.{Ge}
+use Rattle.lra_linear_spec.specs.declared.ConKind.TheVariants.{Ge}
 use Rattle.lra_domain.specs.Moves.{Moves, stay, make, dims_moved}
 use Rattle.lra_flow.specs.MovesOf.{tested, in_turn, in_case, first_case, second_case, in_cases, above_least, below_greatest, within_type, set_to, append_set}
 use Rattle.lra_flow.specs.MovesOf.{set_cell, set_target}

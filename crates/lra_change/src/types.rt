@@ -11,7 +11,7 @@ use lra_base::NumberType;
 use lra_domain::{Domain, Exactness, worse};
 use lra_forms::form_of_one;
 use lra_lin::Test;
-use lra_linear::ConKind;
+use lra_linear_spec::ConKind;
 use std::alloc::{AllocError, Global};
 
 /// What is left where the variable at the place lies within 32 bits, behind what led to the value: `x + 2^31 >= 0`,

@@ -2,7 +2,7 @@
 use Rattle.std.proofs.Common.{◌≡◌, List, [], ◌∷◌, map, inl, inr}
 use Rattle.std.specs.List.{Contains, flat_map}
 use Rattle.std.proofs.lemmas.List.Elements.{Contains-append_cases}
-use Rattle.lra_linear.proofs.Membership.{contains_none, contains_cases, contains_head, contains_tail, map_from}
+use Rattle.lra_linear_spec.proofs.Membership.{contains_none, contains_cases, contains_head, contains_tail, map_from}
 
 pub one_from : {A : Type 0} (a x : A) → Contains (a ∷ []) x → a ≡ x
 one_from a x there = elim (contains_cases a x [] there) [ inl same ↦ same | inr none ↦ absurd (contains_none x none) ]

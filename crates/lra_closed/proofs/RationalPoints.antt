@@ -5,10 +5,10 @@ use Rattle.lra_domain.specs.Meaning.{Values}
 use Rattle.lra_domain.specs.declared.Exactness.{Exactness}
 use Rattle.lra_domain.specs.declared.Exactness.TheVariants.{Exact, Flagged}
 use Rattle.lra_duality.specs.Rows.{test_row}
-use Rattle.lra_linear.specs.Descriptions.{Con, Holds}
-use Rattle.lra_linear.specs.Points.{IsPoint, SamePoint}
-use Rattle.lra_linear.specs.Polyhedra.{Polyhedron}
-use Rattle.lra_linear.proofs.Descriptions.{con_none}
+use Rattle.lra_linear_spec.specs.Descriptions.{Con, Holds}
+use Rattle.lra_linear_spec.specs.Points.{IsPoint, SamePoint}
+use Rattle.lra_linear_spec.specs.Polyhedra.{Polyhedron}
+use Rattle.lra_linear_spec.proofs.Descriptions.{con_none}
 use Rattle.lra_polydom.specs.Content.{HeadContent, Covered}
 use Rattle.lra_polydom.specs.Covering.{parts_empty}
 use Rattle.lra_polydom.specs.Laws.{polyhedron_laws}

@@ -4,7 +4,7 @@ use Rattle.std.specs.Prelude.{if◌then◌else◌}
 use Rattle.std.specs.List.{Contains, list_any}
 use Rattle.std.proofs.lemmas.List.Elements.{Contains-append_cases, Contains-append_left, Contains-append_right}
 use Rattle.std.proofs.lemmas.Option.{same_Some, none-some}
-use Rattle.lra_linear.proofs.Membership.{contains_none, contains_cases, contains_head, map_from}
+use Rattle.lra_linear_spec.proofs.Membership.{contains_none, contains_cases, contains_head, map_from}
 use Rattle.lra_base.specs.declared.case_labels.CaseLabel.{CaseLabel}
 use Rattle.lra_base.specs.declared.case_labels.CaseLabel.TheVariants.{Default}
 use Rattle.lra_base.specs.CaseLabels.{are_alike}

@@ -1,7 +1,7 @@
 -- Values that keep what is done on a way, one way behind another.
 use Rattle.std.proofs.Common.{◌≡◌, ℕ, List, [], ◌∷◌, ◌++◌, Bool, refl, sym, ap, ◌∙◌, subst, append_assoc, append-nil}
 use Rattle.std.specs.List.{Contains}
-use Rattle.lra_linear.proofs.Membership.{contains_head}
+use Rattle.lra_linear_spec.proofs.Membership.{contains_head}
 use Rattle.lra_program.specs.Program.{Cond}
 use Rattle.lra_program.specs.Step.{Op, test}
 use Rattle.lra_domain.specs.Actions.{Action}

@@ -3,10 +3,10 @@
 use Rattle.std.specs.Prelude.{◌≡◌, ◌-◌, ℕ, suc, ℤ, List, length, take}
 use Rattle.lra_domain.specs.Actions.{Action, dims_after, assign, forget, test, embed, remove_last}
 use Rattle.lra_lin.specs.Form.{form_row}
-use Rattle.lra_linear.specs.Descriptions.{Con, Holds}
-use Rattle.lra_linear.specs.Points.{IsPoint, SamePoint}
-use Rattle.lra_linear.specs.Polyhedra.{Polyhedron}
-use Rattle.lra_linear.specs.SetOperations.{assigned, SameBut}
+use Rattle.lra_linear_spec.specs.Descriptions.{Con, Holds}
+use Rattle.lra_linear_spec.specs.Points.{IsPoint, SamePoint}
+use Rattle.lra_linear_spec.specs.Polyhedra.{Polyhedron}
+use Rattle.lra_linear_spec.specs.SetOperations.{assigned, SameBut}
 use Rattle.lra_duality.specs.Rows.{test_row}
 use Rattle.lra_polydom.specs.Content.{HeadContent}
 use Rattle.lra_closed.specs.Points.{PointsOf}

@@ -9,15 +9,15 @@ use Rattle.std.proofs.lemmas.List.{get_or-map, length-map, get_or_default}
 use Rattle.std.proofs.lemmas.List.Elements.{Contains-append_cases, Contains-append_left, Contains-append_right, Contains-get_or}
 use Rattle.lra_bits.specs.Matrix.{unmarked}
 use Rattle.lra_bits.specs.TruthValues.{IsSubset, both}
-use Rattle.lra_linear.specs.Vectors.{entry, dot, product, blend}
-use Rattle.lra_linear.specs.Cones.{all_rows, AreDual}
-use Rattle.lra_linear.specs.LowestTerms.{IsLowest}
-use Rattle.lra_linear.specs.Canonical.{IsCanonical}
-use Rattle.lra_linear.proofs.DoubleDescription.{pair}
-use Rattle.lra_linear.specs.Descriptions.{Given, system_of}
-use Rattle.lra_linear.proofs.Saturation.{NotAdjacent}
-use Rattle.lra_linear.proofs.CanonicalForms.{no_repeat}
-use Rattle.lra_linear.proofs.Membership.{NoRepeat, contains_none, contains_cases, contains_head, contains_tail, filter_has, filter_from}
+use Rattle.lra_linear_spec.specs.Vectors.{entry, dot, product, blend}
+use Rattle.lra_linear_spec.specs.Cones.{all_rows, AreDual}
+use Rattle.lra_linear_spec.specs.LowestTerms.{IsLowest}
+use Rattle.lra_linear_spec.specs.Canonical.{IsCanonical}
+use Rattle.lra_linear_spec.proofs.DoubleDescription.{pair}
+use Rattle.lra_linear_spec.specs.Descriptions.{LinearRow, system_of}
+use Rattle.lra_linear_spec.proofs.Saturation.{NotAdjacent}
+use Rattle.lra_linear_spec.proofs.CanonicalForms.{no_repeat}
+use Rattle.lra_linear_spec.proofs.Membership.{NoRepeat, contains_none, contains_cases, contains_head, contains_tail, filter_has, filter_from}
 use Rattle.lra_steps.specs.declared.pairs.Pair.{Pair}
 use Rattle.lra_cone.specs.Cones.{tight_values, saturation_rows}
 use Rattle.lra_steps.specs.Steps.{is_inside, outside_marks}
@@ -94,7 +94,7 @@ to_row products rays (q ∷ pairs) (x ∷ ts) a p k = elim (contains_cases q p p
   | inr m ↦ let i = to_row products rays pairs ts a.1 p m in (i.0, contains_tail x i.0 ts i.1, i.2)
 ]
 
-module _ (w : ℕ) (c : List ℤ) (taken : List Given) (lines rays : List (List ℤ)) (d : AreDual w (system_of taken) (all_rows lines rays)) (k : IsCanonical lines rays) where
+module _ (w : ℕ) (c : List ℤ) (taken : List LinearRow) (lines rays : List (List ℤ)) (d : AreDual w (system_of taken) (all_rows lines rays)) (k : IsCanonical lines rays) where
   abbrev products : List ℤ
   products = map (product c) rays
 
@@ -222,7 +222,7 @@ module _ (w : ℕ) (c : List ℤ) (taken : List Given) (lines rays : List (List 
       go true false true ex ey ez = sym ((Decides-int_eq y (pos 0)).1 (h ((Decides-int_eq z (pos 0)).0 ez)).1) ∙ ey
       go false b true ex ey ez = sym ((Decides-int_eq x (pos 0)).1 (h ((Decides-int_eq z (pos 0)).0 ez)).0) ∙ ex
 
-  values_both : (list : List Given) (t u e : List ℤ) → ((s : List ℤ) → Contains (system_of list) s → (product s t ≡ pos 0 → (product s u ≡ pos 0) × (product s e ≡ pos 0)) ×
+  values_both : (list : List LinearRow) (t u e : List ℤ) → ((s : List ℤ) → Contains (system_of list) s → (product s t ≡ pos 0 → (product s u ≡ pos 0) × (product s e ≡ pos 0)) ×
       (product s u ≡ pos 0 → product s e ≡ pos 0 → product s t ≡ pos 0)) →
       tight_values list t ≡ both (tight_values list u) (tight_values list e)
   values_both [] t u e h = refl
@@ -231,7 +231,7 @@ module _ (w : ℕ) (c : List ℤ) (taken : List Given) (lines rays : List (List 
       ap (λ (b : Bool). b ∷ tight_values list t) (both_test (product g.row u) (product g.row e) (product g.row t) here.0 here.1) ∙
       ap (λ (x : List Bool). (int_eq (product g.row u) (pos 0) && int_eq (product g.row e) (pos 0)) ∷ x) (values_both list t u e (λ s m. h s (with_later g.equal g.row (system_of list) s m)))
 
-  sum_values : (p : Pair) (t : List ℤ) → IsAdjacentPair products rows p → IsLowest (pair_sum products rays p) t → (g : Given) → g.row ≡ c → p.tight ++ true ∷ [] ≡ tight_values (taken ++ g ∷ []) t
+  sum_values : (p : Pair) (t : List ℤ) → IsAdjacentPair products rows p → IsLowest (pair_sum products rays p) t → (g : LinearRow) → g.row ≡ c → p.tight ++ true ∷ [] ≡ tight_values (taken ++ g ∷ []) t
   unfolding adjacent_sum
   sum_values p t a l g e =
       let s = adjacent_sum p t a l in
@@ -242,7 +242,7 @@ module _ (w : ℕ) (c : List ℤ) (taken : List Given) (lines rays : List (List 
       let new : int_eq (product g.row t) (pos 0) ≡ true = (Decides-int_eq (product g.row t) (pos 0)).1 (ap (λ (r : List ℤ). product r t) e ∙ sum_flat w c (system_of taken) lines rays d k t s) in
       ap (λ (x : List Bool). x ++ true ∷ []) (a.is_tight ∙ both_is p.up p.down hu hd ∙ sym old) ∙ ap (λ (b : Bool). tight_values taken t ++ b ∷ []) (sym new) ∙ sym (values_end taken g t)
 
-  pub pair_rows : (pairs : List Pair) (ts : List (List ℤ)) (g : Given) → g.row ≡ c → ((p : Pair) → Contains pairs p → IsAdjacentPair products rows p) → AreCombined products rays pairs ts →
+  pub pair_rows : (pairs : List Pair) (ts : List (List ℤ)) (g : LinearRow) → g.row ≡ c → ((p : Pair) → Contains pairs p → IsAdjacentPair products rows p) → AreCombined products rays pairs ts →
       tight_rows pairs ≡ saturation_rows (taken ++ g ∷ []) ts
   pair_rows [] [] g e each a = refl
   pair_rows [] (t ∷ ts) g e each a = absurd a

@@ -5,9 +5,9 @@ use Rattle.std.specs.Ordering.{int_eq}
 use Rattle.std.specs.List.{Contains}
 use Rattle.std.proofs.lemmas.List.Elements.{Contains-get_or}
 use Rattle.lra_bits.specs.TruthValues.{IsSubset, both, true_count}
-use Rattle.lra_linear.specs.Descriptions.{Given, system_of}
-use Rattle.lra_linear.specs.Vectors.{entry, product}
-use Rattle.lra_linear.proofs.Membership.{contains_head, contains_none, contains_tail}
+use Rattle.lra_linear_spec.specs.Descriptions.{LinearRow, system_of}
+use Rattle.lra_linear_spec.specs.Vectors.{entry, product}
+use Rattle.lra_linear_spec.proofs.Membership.{contains_head, contains_none, contains_tail}
 use Rattle.lra_steps.specs.Pairs.{HasThird, both_tight}
 use Rattle.lra_steps.specs.Thirds.{FewHaveThird}
 use Rattle.lra_cone.specs.Cones.{Shape, IsCone, tight_values, saturation_rows}
@@ -15,14 +15,14 @@ use Rattle.lra_cone.proofs.TightRows.{both_yes, either_tight, row_at, rows_lengt
 use Rattle.lra_cone.proofs.ThirdRays.{AreTight, third_ray}
 
 -- ---- the rows that are tight at both
-abbrev is_common : List ℤ → List ℤ → Given → Bool
+abbrev is_common : List ℤ → List ℤ → LinearRow → Bool
 is_common u d g = int_eq (product g.row u) (pos 0) && int_eq (product g.row d) (pos 0)
 
-abbrev common_rows : List Given → List ℤ → List ℤ → List (List ℤ)
+abbrev common_rows : List LinearRow → List ℤ → List ℤ → List (List ℤ)
 common_rows [] u d = []
 common_rows (g ∷ taken) u d = cond (is_common u d g) (g.row ∷ common_rows taken u d) (common_rows taken u d)
 
-common_many : (taken : List Given) (u d : List ℤ) → length (common_rows taken u d) ≡ true_count (both (tight_values taken u) (tight_values taken d))
+common_many : (taken : List LinearRow) (u d : List ℤ) → length (common_rows taken u d) ≡ true_count (both (tight_values taken u) (tight_values taken d))
 common_many [] u d = refl
 common_many (g ∷ taken) u d = by_test (is_common u d g) g.row (common_rows taken u d) (true_count (both (tight_values taken u) (tight_values taken d))) (common_many taken u d)
   where
@@ -34,7 +34,7 @@ common_later : (b : Bool) (r : List ℤ) (rows : List (List ℤ)) (c : List ℤ)
 common_later true r rows c k = contains_tail r c rows k
 common_later false r rows c k = k
 
-common_tight : (taken : List Given) (u d : List ℤ) → AreTight (common_rows taken u d) (system_of taken) u d
+common_tight : (taken : List LinearRow) (u d : List ℤ) → AreTight (common_rows taken u d) (system_of taken) u d
 common_tight [] u d x h s m e f = absurd (contains_none s m)
 common_tight (g ∷ taken) u d x h s m e f =
     let rows = common_rows taken u d in

@@ -1,6 +1,6 @@
 -- What is told of a cone's lists with a line across.
 use Rattle.std.proofs.Common.{◌≡◌, ℕ, ◌<◌, Bool, List, [], length, get_or, map, take, refl, pos, ℤ, inl, inr}
-use Rattle.lra_linear.specs.Vectors.{product}
+use Rattle.lra_linear_spec.specs.Vectors.{product}
 use Rattle.lra_steps.specs.declared.line_step.Across.{Across}
 use Rattle.lra_steps.specs.declared.strained.Family.TheVariants.{Lines, Rays}
 use Rattle.lra_steps.specs.declared.strained.ConeError as C

@@ -4,27 +4,27 @@ use Rattle.std.proofs.Common.{Result, Ok, Err, unsigned_abs}
 use Rattle.std.specs.List.{Contains}
 use Rattle.std.proofs.lemmas.Int.{ints}
 use Rattle.std.proofs.lemmas.List.{append-nil}
-use Rattle.lra_linear.specs.declared.Excess.{Excess}
-use Rattle.lra_linear.specs.CheckedArithmetic.{checked_product, checked_product_from}
-use Rattle.lra_linear.specs.ConeStrain.{row_limit}
-use Rattle.lra_linear.specs.Cones.{both_ways}
-use Rattle.lra_linear.specs.Descriptions.{Given}
-use Rattle.lra_linear.specs.OperationStrain.{unit_row}
-use Rattle.lra_linear.specs.Range.{InRange, in_range}
-use Rattle.lra_linear.specs.Vectors.{dot, entry, negated, product, zeros}
-use Rattle.lra_linear.proofs.CanonicalForms.{too_many}
-use Rattle.lra_linear.proofs.CheckedArithmetic.{in_range_yes}
-use Rattle.lra_linear.proofs.DoubleDescription.{Flat, Flats, LineCase}
-use Rattle.lra_linear.proofs.Lines.{signed_from}
-use Rattle.lra_linear.proofs.LowestTerms.{primitive_at}
-use Rattle.lra_linear.proofs.Membership.{contains_none, map_from}
-use Rattle.lra_linear.proofs.Products.{entry_negated, negated_twice}
-use Rattle.lra_linear.proofs.Ring.{ring, v, ◌⊕◌, ◌⊗◌}
+use Rattle.lra_linear_spec.specs.declared.Excess.{Excess}
+use Rattle.lra_linear_spec.specs.CheckedArithmetic.{checked_product, checked_product_from}
+use Rattle.lra_linear_spec.specs.ConeStrain.{row_limit}
+use Rattle.lra_linear_spec.specs.Cones.{both_ways}
+use Rattle.lra_linear_spec.specs.Descriptions.{LinearRow}
+use Rattle.lra_linear_spec.specs.OperationStrain.{unit_row}
+use Rattle.lra_linear_spec.specs.Range.{InRange, in_range}
+use Rattle.lra_linear_spec.specs.Vectors.{dot, entry, negated, product, zeros}
+use Rattle.lra_linear_spec.proofs.CanonicalForms.{too_many}
+use Rattle.lra_linear_spec.proofs.CheckedArithmetic.{in_range_yes}
+use Rattle.lra_linear_spec.proofs.DoubleDescription.{Flat, Flats, LineCase}
+use Rattle.lra_linear_spec.proofs.Lines.{signed_from}
+use Rattle.lra_linear_spec.proofs.LowestTerms.{primitive_at}
+use Rattle.lra_linear_spec.proofs.Membership.{contains_none, map_from}
+use Rattle.lra_linear_spec.proofs.Products.{entry_negated, negated_twice}
+use Rattle.lra_linear_spec.proofs.Ring.{ring, v, ◌⊕◌, ◌⊗◌}
 use Rattle.lra_steps.specs.declared.strained.Family.TheVariants.{Lines, Rays}
 use Rattle.lra_steps.specs.declared.strained.Family.{Family}
 use Rattle.lra_steps.specs.declared.strained.Strained.{Strained}
 use Rattle.lra_steps.specs.declared.strained.Strained.TheVariants.{Product, Pair, TooMany}
-use Rattle.lra_linear.proofs.UnitRows.{unit_here, unit_length, unit_other}
+use Rattle.lra_linear_spec.proofs.UnitRows.{unit_here, unit_length, unit_other}
 use Rattle.lra_cone.specs.Cones.{columns_from, unit_lines, whole_space}
 use Rattle.lra_cone.specs.Strains.{IsMember, IsStrain}
 use Rattle.lra_cone.proofs.StrainLemmas.{place_in}
@@ -175,7 +175,7 @@ positive_strains_not n (Pair above below e) x =
     let down = is_down n x.down x.across.has_down x.across.below in
     x.across.apart (up ∙ sym (ap negated down ∙ negated_twice (unit_row n 0)))
 positive_strains_not n (TooMany count) x =
-    let g : Given = record { row = unit_row n 0; equal = false } in
+    let g : LinearRow = record { row = unit_row n 0; equal = false } in
     let cone = whole_cone n in
     let met = line_met (whole_space n) g (map (unit_row n) (fronts 1 n)) (unit_row n 0 ∷ []) cone (unit_length n 0) (positive_case n) in
     let canonical = line_canonical (whole_space n) g (map (unit_row n) (fronts 1 n)) (unit_row n 0 ∷ []) cone (positive_case n) in

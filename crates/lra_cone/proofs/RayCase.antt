@@ -4,28 +4,28 @@ use Rattle.std.proofs.Common.{◌≡◌, ◌≢◌, ℕ, Bool, true, false, List
 use Rattle.std.specs.List.{Contains, filter}
 use Rattle.std.proofs.lemmas.Int.{ints}
 use Rattle.std.proofs.lemmas.List.Elements.{Contains-append_cases, Contains-append_left, Contains-append_right}
-use Rattle.lra_linear.specs.Vectors.{entry, dot, product, negated, signed_sum}
-use Rattle.lra_linear.specs.Cones.{Generated, Solves, both_ways, all_rows, AreDual}
-use Rattle.lra_linear.specs.LowestTerms.{IsPrimitive, IsLowest}
-use Rattle.lra_linear.specs.Canonical.{IsCanonical}
-use Rattle.lra_linear.proofs.DoubleDescription.{pair, StepOf}
-use Rattle.lra_linear.specs.Descriptions.{HoldsWith}
-use Rattle.lra_linear.proofs.Saturation.{NotAdjacent, TightToo, Beside, AdjacentStep}
-use Rattle.lra_linear.specs.ConeStrain.{IsMet}
-use Rattle.lra_linear.proofs.AdjacentPairs.{adjacent_pairs_suffice}
-use Rattle.lra_linear.proofs.CanonicalForms.{lines_are_all, ray_extreme}
-use Rattle.lra_linear.proofs.Combinations.{generated_row, generated_zero, generated_same, generated_plus, generated_times, generated_divided}
-use Rattle.lra_linear.proofs.Descriptions.{holds_at_least}
-use Rattle.lra_linear.proofs.Duality.{dual_step}
-use Rattle.lra_linear.proofs.FlatRows.{generated_flat}
-use Rattle.lra_linear.proofs.LinearMaps.{bent, generated_right, generated_through, generated_bent, generated_nonneg}
-use Rattle.lra_linear.proofs.Lines.{signed_from, signed_multiple, in_lines, in_lines_negated, lines_generated}
-use Rattle.lra_linear.proofs.LowestTerms.{same_multiple}
-use Rattle.lra_linear.proofs.Membership.{NoRepeat, contains_cases, contains_head, contains_tail, contains_split, contains_middle, filter_has, filter_from}
-use Rattle.lra_linear.proofs.Products.{entry_blend, blend_length, row_same, dot_linear, dot_same, dot_scale, dot_plus, dot_negated, negated_dot, negated_length, entry_negated}
-use Rattle.lra_linear.proofs.Redundancy.{drop_keeps, redundant_tight, kept_pointed, pair_pointed}
-use Rattle.lra_linear.proofs.Ring.{ring, v, ⊖, ◌⊕◌, ◌⊗◌, mul_nonnegative}
-use Rattle.lra_linear.proofs.Signs.{as_nat, no_product, no_factor, cancel_same, positive_is_nonnegative, between_opposites, zero_at_least, cases_sign, above_zero}
+use Rattle.lra_linear_spec.specs.Vectors.{entry, dot, product, negated, signed_sum}
+use Rattle.lra_linear_spec.specs.Cones.{Generated, Solves, both_ways, all_rows, AreDual}
+use Rattle.lra_linear_spec.specs.LowestTerms.{IsPrimitive, IsLowest}
+use Rattle.lra_linear_spec.specs.Canonical.{IsCanonical}
+use Rattle.lra_linear_spec.proofs.DoubleDescription.{pair, StepOf}
+use Rattle.lra_linear_spec.specs.Descriptions.{HoldsWith}
+use Rattle.lra_linear_spec.proofs.Saturation.{NotAdjacent, TightToo, Beside, AdjacentStep}
+use Rattle.lra_linear_spec.specs.ConeStrain.{IsIntersection}
+use Rattle.lra_linear_spec.proofs.AdjacentPairs.{adjacent_pairs_suffice}
+use Rattle.lra_linear_spec.proofs.CanonicalForms.{lines_are_all, ray_extreme}
+use Rattle.lra_linear_spec.proofs.Combinations.{generated_row, generated_zero, generated_same, generated_plus, generated_times, generated_divided}
+use Rattle.lra_linear_spec.proofs.Descriptions.{holds_at_least}
+use Rattle.lra_linear_spec.proofs.Duality.{dual_step}
+use Rattle.lra_linear_spec.proofs.FlatRows.{generated_flat}
+use Rattle.lra_linear_spec.proofs.LinearMaps.{bent, generated_right, generated_through, generated_bent, generated_nonneg}
+use Rattle.lra_linear_spec.proofs.Lines.{signed_from, signed_multiple, in_lines, in_lines_negated, lines_generated}
+use Rattle.lra_linear_spec.proofs.LowestTerms.{same_multiple}
+use Rattle.lra_linear_spec.proofs.Membership.{NoRepeat, contains_cases, contains_head, contains_tail, contains_split, contains_middle, filter_has, filter_from}
+use Rattle.lra_linear_spec.proofs.Products.{entry_blend, blend_length, row_same, dot_linear, dot_same, dot_scale, dot_plus, dot_negated, negated_dot, negated_length, entry_negated}
+use Rattle.lra_linear_spec.proofs.Redundancy.{drop_keeps, redundant_tight, kept_pointed, pair_pointed}
+use Rattle.lra_linear_spec.proofs.Ring.{ring, v, ⊖, ◌⊕◌, ◌⊗◌, mul_nonnegative}
+use Rattle.lra_linear_spec.proofs.Signs.{as_nat, no_product, no_factor, cancel_same, positive_is_nonnegative, between_opposites, zero_at_least, cases_sign, above_zero}
 use Rattle.lra_steps.proofs.PairLists.{not_below}
 
 -- ---- the step
@@ -531,10 +531,10 @@ module _ (w : ℕ) (c : List ℤ) (system lines rays : List (List ℤ)) (d : Are
         never z h i = omega (arith, ints, h, i)
 
     -- whatever system the old rows describe, the new ones describe it with c
-    pub new_met : length c ≡ w → IsMet w equal c all target
+    pub new_met : length c ≡ w → IsIntersection w equal c all target
     new_met lc = go equal refl
       where
-        go : (b : Bool) → equal ≡ b → IsMet w b c all target
+        go : (b : Bool) → equal ≡ b → IsIntersection w b c all target
         go false e = λ other o. rows_same w (c ∷ other) wide_target target (wide_target_new e) target_wide (dual_step w c other all wide_target o lc wide_width first_step)
         go true e = λ other o.
             system_same w (negated c ∷ c ∷ other) (c ∷ negated c ∷ other) target (flip (negated c) c other) (flip c (negated c) other)

@@ -3,11 +3,11 @@ use Rattle.std.proofs.Common.{◌≡◌, ℕ, suc, ◌<◌, ◌+◌, List, [], �
 use Rattle.std.specs.List.{Contains}
 use Rattle.std.proofs.lemmas.List.{append_assoc, append-nil}
 use Rattle.std.proofs.lemmas.List.Elements.{Contains-append_cases, Contains-append_left, Contains-append_right}
-use Rattle.lra_linear.specs.declared.Cause.{Cause}
-use Rattle.lra_linear.specs.declared.Cause.TheVariants.{Excess, TooMany}
-use Rattle.lra_linear.specs.Descriptions.{Given, system_of}
-use Rattle.lra_linear.specs.Strain.{Loss, Strains, IsStrained}
-use Rattle.lra_linear.specs.Cones.{AreDual, all_rows}
+use Rattle.lra_linear_spec.specs.declared.Cause.{Cause}
+use Rattle.lra_linear_spec.specs.declared.Cause.TheVariants.{Excess, TooMany}
+use Rattle.lra_linear_spec.specs.Descriptions.{LinearRow, system_of}
+use Rattle.lra_linear_spec.specs.Strain.{Loss, Strains, IsStrained}
+use Rattle.lra_linear_spec.specs.Cones.{AreDual, all_rows}
 use Rattle.lra_sys.specs.Listed.{given_by}
 use Rattle.lra_steps.specs.declared.strained.Strained.{Strained}
 use Rattle.lra_steps.specs.declared.strained.ConeError.TheVariants as of_cone
@@ -20,11 +20,11 @@ use Rattle.lra_cone.proofs.StrainLemmas.{ConeStrains, strain_cause}
 use Rattle.lra_sys.proofs.GivenRows.{given_pushed}
 
 -- a strain of a list is one of each longer list
-pub strains_longer : (w : ℕ) (all more : List Given) (loss : Loss) → Strains w all loss → Strains w (all ++ more) loss
+pub strains_longer : (w : ℕ) (all more : List LinearRow) (loss : Loss) → Strains w all loss → Strains w (all ++ more) loss
 strains_longer w all more loss s = record {
   rest = s.rest ++ more;
-  begins = ap (λ (x : List Given). x ++ more) s.begins ∙ append_assoc loss.chosen s.rest more;
-  next = elim s.next [ inl x ↦ inl (x.0 ++ more, ap (λ (y : List Given). y ++ more) x.1) | inr x ↦ inr x ];
+  begins = ap (λ (x : List LinearRow). x ++ more) s.begins ∙ append_assoc loss.chosen s.rest more;
+  next = elim s.next [ inl x ↦ inl (x.0 ++ more, ap (λ (y : List LinearRow). y ++ more) x.1) | inr x ↦ inr x ];
   lines = s.lines;
   rays = s.rays;
   dual = s.dual;
@@ -32,91 +32,94 @@ strains_longer w all more loss s = record {
   strained = s.strained;
 }
 
-lost_longer : (w : ℕ) (all more : List Given) (losses : List Loss) → IfLost (Strains w all) losses → IfLost (Strains w (all ++ more)) losses
+lost_longer : (w : ℕ) (all more : List LinearRow) (losses : List Loss) → IfLost (Strains w all) losses → IfLost (Strains w (all ++ more)) losses
 lost_longer w all more [] s = tt
 lost_longer w all more (loss ∷ later) s = strains_longer w all more loss s
 
 -- a cone strains as a list does
-strained_of : (w : ℕ) (chosen : List Given) (further : Given) (lines rays : List (List ℤ)) (cause : Cause) → ConeStrains w further.equal further.row lines rays cause →
+strained_of : (w : ℕ) (chosen : List LinearRow) (further : LinearRow) (lines rays : List (List ℤ)) (cause : Cause) → ConeStrains w further.equal further.row lines rays cause →
     IsStrained w chosen further lines rays cause
 strained_of w chosen further lines rays (Excess e) (inl x) = inl x
 strained_of w chosen further lines rays (Excess e) (inr x) = inr (inl x)
 strained_of w chosen further lines rays (TooMany count) x = inl x
 
 -- ---- rows that were tried, and one more
-tried_taken : (w : ℕ) (taken all kept : List Given) (losses : List Loss) (g : Given) → AreTried w taken all kept losses →
+tried_taken : (w : ℕ) (taken all kept : List LinearRow) (losses : List Loss) (g : LinearRow) → AreTried w taken all kept losses →
     AreTried w taken (all ++ g ∷ []) (kept ++ g ∷ []) losses
-tried_taken w taken [] kept losses g (ek, el) = inl ([], ap (λ (l : List Given). l ++ g ∷ []) ek, (refl, el))
+tried_taken w taken [] kept losses g (ek, el) = inl ([], ap (λ (l : List LinearRow). l ++ g ∷ []) ek, (refl, el))
 tried_taken w taken (a ∷ all) kept losses g (inl (more, e, t)) =
-    inl (more ++ g ∷ [], ap (λ (l : List Given). l ++ g ∷ []) e, tried_taken w (taken ++ a ∷ []) all more losses g t)
+    inl (more ++ g ∷ [], ap (λ (l : List LinearRow). l ++ g ∷ []) e, tried_taken w (taken ++ a ∷ []) all more losses g t)
 tried_taken w taken (a ∷ all) kept losses g (inr (loss, others, e, c, f, s, t)) =
     inr (loss, others, e, c, f, s, tried_taken w taken all kept others g t)
 
-tried_left : (w : ℕ) (taken all kept : List Given) (losses : List Loss) (g : Given) (loss : Loss) → loss.chosen ≡ taken ++ kept → loss.further ≡ g →
+tried_left : (w : ℕ) (taken all kept : List LinearRow) (losses : List Loss) (g : LinearRow) (loss : Loss) → loss.chosen ≡ taken ++ kept → loss.further ≡ g →
     Strains w ((taken ++ kept) ++ g ∷ []) loss → AreTried w taken all kept losses → AreTried w taken (all ++ g ∷ []) kept (losses ++ loss ∷ [])
 tried_left w taken [] kept losses g loss c f s (ek, el) =
-    let same : taken ++ kept ≡ taken = ap (λ (l : List Given). taken ++ l) ek ∙ append-nil taken in
-    inr (loss, [], ap (λ (l : List Loss). l ++ loss ∷ []) el, c ∙ same, f, subst (λ (l : List Given). Strains w (l ++ g ∷ []) loss) same s, (ek, refl))
+    let same : taken ++ kept ≡ taken = ap (λ (l : List LinearRow). taken ++ l) ek ∙ append-nil taken in
+    inr (loss, [], ap (λ (l : List Loss). l ++ loss ∷ []) el, c ∙ same, f, subst (λ (l : List LinearRow). Strains w (l ++ g ∷ []) loss) same s, (ek, refl))
 tried_left w taken (a ∷ all) kept losses g loss c f s (inl (more, e, t)) =
-    let same : taken ++ kept ≡ (taken ++ a ∷ []) ++ more = ap (λ (l : List Given). taken ++ l) e ∙ sym (append_assoc taken (a ∷ []) more) in
-    inl (more, e, tried_left w (taken ++ a ∷ []) all more losses g loss (c ∙ same) f (subst (λ (l : List Given). Strains w (l ++ g ∷ []) loss) same s) t)
+    let same : taken ++ kept ≡ (taken ++ a ∷ []) ++ more = ap (λ (l : List LinearRow). taken ++ l) e ∙ sym (append_assoc taken (a ∷ []) more) in
+    inl (more, e, tried_left w (taken ++ a ∷ []) all more losses g loss (c ∙ same) f (subst (λ (l : List LinearRow). Strains w (l ++ g ∷ []) loss) same s) t)
 tried_left w taken (a ∷ all) kept losses g loss c f s (inr (l, others, e, d, x, y, t)) =
     inr (l, others ++ loss ∷ [], ap (λ (ls : List Loss). ls ++ loss ∷ []) e, d, x, y, tried_left w taken all kept others g loss c f s t)
 
 -- ---- at the start no row is left out
-pub conversion_start : (s : Shape) (kept : List Given) (losses : List Loss) → kept ≡ [] → losses ≡ [] → IsConversion s.taken [] kept s losses
+pub conversion_start : (s : Shape) (kept : List LinearRow) (losses : List Loss) → kept ≡ [] → losses ≡ [] → IsConversion s.taken [] kept s losses
 conversion_start s kept losses ek el = record {
-  taken = sym (ap (λ (l : List Given). s.taken ++ l) ek ∙ append-nil s.taken);
-  among = λ g k. subst (λ (l : List Given). Contains l g) ek k;
+  taken = sym (ap (λ (l : List LinearRow). s.taken ++ l) ek ∙ append-nil s.taken);
+  among = λ g k. subst (λ (l : List LinearRow). Contains l g) ek k;
   whole = λ _. ek;
   strain = subst (IfLost (Strains (suc s.dims) (s.taken ++ []))) (sym el) tt;
   tried = (ek, el);
 }
 
 -- ---- the row is taken in
-pub conversion_more : (first all kept : List Given) (old new : Shape) (losses : List Loss) (after : List Given) (g : Given) → new.dims ≡ old.dims → new.taken ≡ old.taken ++ g ∷ [] →
+pub conversion_more : (first all kept : List LinearRow) (old new : Shape) (losses : List Loss) (after : List LinearRow) (g : LinearRow) → new.dims ≡ old.dims → new.taken ≡ old.taken ++ g ∷ [] →
     after ≡ kept ++ g ∷ [] → IsConversion first all kept old losses →
     IsConversion first (all ++ g ∷ []) after new losses
 conversion_more first all kept old new losses after g d t e c = record {
-  taken = t ∙ ap (λ (l : List Given). l ++ g ∷ []) c.taken ∙ append_assoc first kept (g ∷ []) ∙ ap (λ (l : List Given). first ++ l) (sym e);
-  among = λ x k. elim (Contains-append_cases kept (g ∷ []) x (subst (λ (l : List Given). Contains l x) e k)) [
+  taken = t ∙ ap (λ (l : List LinearRow). l ++ g ∷ []) c.taken ∙ append_assoc first kept (g ∷ []) ∙ ap (λ (l : List LinearRow). first ++ l) (sym e);
+  among = λ x k. elim (Contains-append_cases kept (g ∷ []) x (subst (λ (l : List LinearRow). Contains l x) e k)) [
     | inl i ↦ Contains-append_left all (g ∷ []) x (c.among x i)
     | inr i ↦ Contains-append_right all (g ∷ []) x i
   ];
-  whole = λ none. e ∙ ap (λ (l : List Given). l ++ g ∷ []) (c.whole none);
+  whole = λ none. e ∙ ap (λ (l : List LinearRow). l ++ g ∷ []) (c.whole none);
   strain = subst (λ (n : ℕ). IfLost (Strains (suc n) (first ++ (all ++ g ∷ []))) losses) (sym d) (longer_behind (suc old.dims) first all g losses c.strain);
   tried = subst (λ (n : ℕ). AreTried (suc n) first (all ++ g ∷ []) after losses) (sym d)
-      (subst (λ (l : List Given). AreTried (suc old.dims) first (all ++ g ∷ []) l losses) (sym e) (tried_taken (suc old.dims) first all kept losses g c.tried));
+      (subst (λ (l : List LinearRow). AreTried (suc old.dims) first (all ++ g ∷ []) l losses) (sym e)
+      (tried_taken (suc old.dims) first all kept losses g c.tried));
 }
   where
-    longer_behind : (w : ℕ) (first all : List Given) (g : Given) (losses : List Loss) → IfLost (Strains w (first ++ all)) losses → IfLost (Strains w (first ++ (all ++ g ∷ []))) losses
-    longer_behind w first all g losses s = subst (λ (l : List Given). IfLost (Strains w l) losses) (append_assoc first all (g ∷ [])) (lost_longer w (first ++ all) (g ∷ []) losses s)
+    longer_behind : (w : ℕ) (first all : List LinearRow) (g : LinearRow) (losses : List Loss) → IfLost (Strains w (first ++ all)) losses → IfLost (Strains w (first ++ (all ++ g ∷ []))) losses
+    longer_behind w first all g losses s = subst (λ (l : List LinearRow). IfLost (Strains w l) losses) (append_assoc first all (g ∷ [])) (lost_longer w (first ++ all) (g ∷ []) losses s)
 
 -- ---- the row is left out
 not_empty : {A : Type 0} (xs : List A) (x : A) → xs ++ x ∷ [] ≡ [] → ⊥
 not_empty [] x e = cc
 not_empty (y ∷ xs) x e = cc
 
-first_lost : (all : List Given) (s : Shape) (loss : Loss) → IsCone s → s.taken ≡ all → loss.chosen ≡ s.taken →
+first_lost : (all : List LinearRow) (s : Shape) (loss : Loss) → IsCone s → s.taken ≡ all → loss.chosen ≡ s.taken →
     ConeStrains (suc s.dims) loss.further.equal loss.further.row s.lines s.rays loss.cause → Strains (suc s.dims) (all ++ loss.further ∷ []) loss
 first_lost all s loss k same e strained = record {
   rest = loss.further ∷ [];
-  begins = ap (λ (l : List Given). l ++ loss.further ∷ []) (sym (e ∙ same));
+  begins = ap (λ (l : List LinearRow). l ++ loss.further ∷ []) (sym (e ∙ same));
   next = inl ([], refl);
   lines = s.lines;
   rays = s.rays;
-  dual = subst (λ (l : List Given). AreDual (suc s.dims) (system_of l) (all_rows s.lines s.rays)) (sym e) k.dual;
+  dual = subst (λ (l : List LinearRow). AreDual (suc s.dims) (system_of l) (all_rows s.lines s.rays)) (sym e) k.dual;
   canonical = k.canonical;
   strained = strained_of (suc s.dims) loss.chosen loss.further s.lines s.rays loss.cause strained;
 }
 
-lost_end : (first all kept : List Given) (s : Shape) (losses : List Loss) (loss : Loss) → IsCone s → IsConversion first all kept s losses → loss.chosen ≡ s.taken →
+lost_end : (first all kept : List LinearRow) (s : Shape) (losses : List Loss) (loss : Loss) → IsCone s → IsConversion first all kept s losses → loss.chosen ≡ s.taken →
     ConeStrains (suc s.dims) loss.further.equal loss.further.row s.lines s.rays loss.cause → IfLost (Strains (suc s.dims) ((first ++ all) ++ loss.further ∷ [])) (losses ++ loss ∷ [])
-lost_end first all kept s [] loss k c e strained = first_lost (first ++ all) s loss k (c.taken ∙ ap (λ (l : List Given). first ++ l) (c.whole refl)) e strained
+lost_end first all kept s [] loss k c e strained =
+    first_lost (first ++ all) s loss k (c.taken ∙ ap (λ (l : List LinearRow). first ++ l) (c.whole refl)) e strained
 lost_end first all kept s (earlier ∷ later) loss k c e strained = strains_longer (suc s.dims) (first ++ all) (loss.further ∷ []) earlier c.strain
 
 -- as the code tells it: after a row that was left out the cone is as it was
-pub conversion_left_out : (first all kept : List Given) (old new : Shape) (losses after : List Loss) (loss : Loss) (g : Given) (strained : Strained) (cause : Cause) (taken : List Given) → IsCone new →
+pub conversion_left_out : (first all kept : List LinearRow) (old new : Shape) (losses after : List Loss) (loss : Loss) (g : LinearRow) (strained : Strained) (cause : Cause) (taken : List LinearRow) →
+    IsCone new →
     new ≡ old → taken ≡ new.taken →
     loss ≡ record { chosen = taken; further = g; cause = cause } → cause ≡ cause_of strained → after ≡ losses ++ loss ∷ [] → IsConeError old g.equal g.row (of_cone.Strained strained) →
     IsConversion first all kept old losses → IsConversion first (all ++ g ∷ []) kept new after
@@ -132,21 +135,21 @@ conversion_left_out first all kept old new losses after loss g strained cause ta
       taken = here.taken;
       among = λ x i. Contains-append_left all (g ∷ []) x (here.among x i);
       whole = λ none. absurd (not_empty losses loss none);
-      strain = subst (λ (l : List Given). IfLost (Strains (suc new.dims) l) (losses ++ loss ∷ [])) (append_assoc first all (g ∷ []))
-          (subst (λ (f : Given). IfLost (Strains (suc new.dims) ((first ++ all) ++ f ∷ [])) (losses ++ loss ∷ [])) (ap (λ (l : Loss). l.further) el) told);
+      strain = subst (λ (l : List LinearRow). IfLost (Strains (suc new.dims) l) (losses ++ loss ∷ [])) (append_assoc first all (g ∷ []))
+          (subst (λ (f : LinearRow). IfLost (Strains (suc new.dims) ((first ++ all) ++ f ∷ [])) (losses ++ loss ∷ [])) (ap (λ (l : Loss). l.further) el) told);
       tried = tried_left (suc new.dims) first all kept losses g loss (ap (λ (l : Loss). l.chosen) el ∙ et ∙ here.taken) (ap (λ (l : Loss). l.further) el)
-          (subst (λ (f : Given). Strains (suc new.dims) ((first ++ kept) ++ f ∷ []) loss) (ap (λ (l : Loss). l.further) el)
+          (subst (λ (f : LinearRow). Strains (suc new.dims) ((first ++ kept) ++ f ∷ []) loss) (ap (λ (l : Loss). l.further) el)
           (first_lost (first ++ kept) new loss k here.taken (ap (λ (l : Loss). l.chosen) el ∙ et)
           (subst (λ (l : Loss). ConeStrains (suc new.dims) l.further.equal l.further.row new.lines new.rays l.cause) (sym el) strains))) here.tried;
     })
 
 -- ---- row by row
-pub taken_next : {K : Type 0} (equal : K → Bool) (first kept : List Given) (rows : List (List ℤ)) (kinds : List K) (i : ℕ) (own : List (List ℤ)) → rows ≡ own → length kinds ≡ length own →
+pub taken_next : {K : Type 0} (equal : K → Bool) (first kept : List LinearRow) (rows : List (List ℤ)) (kinds : List K) (i : ℕ) (own : List (List ℤ)) → rows ≡ own → length kinds ≡ length own →
     i < length rows →
     (r : List ℤ) (d : K) (new : Shape) (losses : List Loss) → r ≡ get_or rows i r → IsConversion first
     (given_by equal (take i rows) (take i kinds) ++ record { row = r; equal = equal (get_or kinds i d) } ∷ []) kept new losses →
     IsConversion first (given_by equal (take (i + 1) rows) (take (i + 1) kinds)) kept new losses
 taken_next equal first kept rows kinds i own eo n h r d new losses er c =
-    let g : Given = record { row = r; equal = equal (get_or kinds i d) } in
+    let g : LinearRow = record { row = r; equal = equal (get_or kinds i d) } in
     let before = given_by equal (take i rows) (take i kinds) in
-    subst (λ (l : List Given). IsConversion first l kept new losses) (given_pushed equal rows kinds i own eo n h before (before ++ g ∷ []) g r d er refl refl refl) c
+    subst (λ (l : List LinearRow). IsConversion first l kept new losses) (given_pushed equal rows kinds i own eo n h before (before ++ g ∷ []) g r d er refl refl refl) c

@@ -9,18 +9,18 @@ use Rattle.std.proofs.lemmas.Bool.Decides.{Decides-int_eq}
 use Rattle.std.proofs.lemmas.Int.{ints}
 use Rattle.std.proofs.lemmas.List.Elements.{Contains-append_cases, Contains-append_left, Contains-append_right, Contains-get_or}
 use Rattle.lra_bits.specs.Matrix.{Matrix, unmarked}
-use Rattle.lra_linear.specs.Vectors.{product, negated}
-use Rattle.lra_linear.specs.Cones.{all_rows, both_ways, with_row}
-use Rattle.lra_linear.specs.Canonical.{IsCanonical}
-use Rattle.lra_linear.specs.ConeStrain.{IsMet, row_limit}
-use Rattle.lra_linear.proofs.DoubleDescription.{LineCase}
-use Rattle.lra_linear.specs.Descriptions.{Given, system_of}
-use Rattle.lra_linear.proofs.FlatRows.{flats_from, member_primitive}
-use Rattle.lra_linear.proofs.LineCase.{line_case_kept, line_case_dual}
-use Rattle.lra_linear.proofs.Lines.{signed_from, in_lines, in_lines_negated}
-use Rattle.lra_linear.proofs.Membership.{contains_cases, contains_head, contains_tail}
-use Rattle.lra_linear.proofs.Products.{negated_length, dot_negated, negated_twice}
-use Rattle.lra_linear.proofs.Signs.{between_opposites}
+use Rattle.lra_linear_spec.specs.Vectors.{product, negated}
+use Rattle.lra_linear_spec.specs.Cones.{all_rows, both_ways, with_row}
+use Rattle.lra_linear_spec.specs.Canonical.{IsCanonical}
+use Rattle.lra_linear_spec.specs.ConeStrain.{IsIntersection, row_limit}
+use Rattle.lra_linear_spec.proofs.DoubleDescription.{LineCase}
+use Rattle.lra_linear_spec.specs.Descriptions.{LinearRow, system_of}
+use Rattle.lra_linear_spec.proofs.FlatRows.{flats_from, member_primitive}
+use Rattle.lra_linear_spec.proofs.LineCase.{line_case_kept, line_case_dual}
+use Rattle.lra_linear_spec.proofs.Lines.{signed_from, in_lines, in_lines_negated}
+use Rattle.lra_linear_spec.proofs.Membership.{contains_cases, contains_head, contains_tail}
+use Rattle.lra_linear_spec.proofs.Products.{negated_length, dot_negated, negated_twice}
+use Rattle.lra_linear_spec.proofs.Signs.{between_opposites}
 use Rattle.lra_cone.specs.Cones.{Shape, IsCone, tight_values, saturation_rows, saturation_of}
 use Rattle.lra_steps.specs.declared.line_step.Across.{Across}
 use Rattle.lra_steps.specs.declared.pairs.Pair.{Pair}
@@ -33,11 +33,11 @@ use Rattle.lra_cone.proofs.TightRows.{values_end, rows_length, rows_append, rows
 use Rattle.lra_cone.proofs.Cutting.{inside_rays, unmarked_are, cut_case, pair_rows}
 use Rattle.lra_cone.proofs.Taking.{to_end, from_end, line_case, flat_rows, values_line, kept_rows}
 
-abbrev pub taken_last : Shape → Given → List (List ℤ) → List (List ℤ) → Shape
+abbrev pub taken_last : Shape → LinearRow → List (List ℤ) → List (List ℤ) → Shape
 taken_last s g lines rays = record { dims = s.dims; taken = s.taken ++ g ∷ []; lines = lines; rays = rays }
 
 -- what is met is what the rows with the one taken in describe
-pub cone_of : (s : Shape) (g : Given) (lines rays : List (List ℤ)) → IsCone s → IsMet (suc s.dims) g.equal g.row (all_rows s.lines s.rays) (all_rows lines rays) → IsCanonical lines rays →
+pub cone_of : (s : Shape) (g : LinearRow) (lines rays : List (List ℤ)) → IsCone s → IsIntersection (suc s.dims) g.equal g.row (all_rows s.lines s.rays) (all_rows lines rays) → IsCanonical lines rays →
     length rays ≤ row_limit → IsCone (taken_last s g lines rays)
 cone_of s g lines rays k met canonical few = record {
   dual = system_same (suc s.dims) (with_row g.equal g.row (system_of s.taken)) (system_of (s.taken ++ g ∷ [])) (all_rows lines rays) (to_end s.taken g) (from_end s.taken g)
@@ -77,12 +77,14 @@ case_widths w equal c lines rays new_lines new_rays x old t m = elim (Contains-a
       | inr i ↦ old_line r (Contains-append_right x.before (x.line ∷ x.after) r (contains_tail x.line r x.after i))
     ]
 
-pub line_met : (s : Shape) (g : Given) (lines rays : List (List ℤ)) → IsCone s → length g.row ≡ suc s.dims → LineCase g.equal g.row s.lines s.rays lines rays →
-    IsMet (suc s.dims) g.equal g.row (all_rows s.lines s.rays) (all_rows lines rays)
+pub line_met : (s : Shape) (g : LinearRow) (lines rays : List (List ℤ)) → IsCone s → length g.row ≡ suc s.dims →
+    LineCase g.equal g.row s.lines s.rays lines rays →
+    IsIntersection (suc s.dims) g.equal g.row (all_rows s.lines s.rays) (all_rows lines rays)
 line_met s g lines rays k w x = λ system d. line_case_dual (suc s.dims) g.equal g.row s.lines s.rays lines rays x w k.dual.row_widths
     (case_widths (suc s.dims) g.equal g.row s.lines s.rays lines rays x k.dual.row_widths) system d
 
-pub line_canonical : (s : Shape) (g : Given) (lines rays : List (List ℤ)) → IsCone s → LineCase g.equal g.row s.lines s.rays lines rays → IsCanonical lines rays
+pub line_canonical : (s : Shape) (g : LinearRow) (lines rays : List (List ℤ)) → IsCone s → LineCase g.equal g.row s.lines s.rays lines rays →
+    IsCanonical lines rays
 line_canonical s g lines rays k x = line_case_kept (suc s.dims) g.equal g.row s.lines s.rays lines rays x k.canonical
 
 -- each row taken in is tight at a line, in either direction
@@ -93,7 +95,7 @@ line_tight s k l line m sign c i =
     (at (negated line) (in_lines_negated s.lines line m)) in
     elim sign [ inl e ↦ ap (product c) e ∙ z | inr e ↦ ap (product c) e ∙ dot_negated c line ∙ ap neg_ℤ z ]
 
-pub line_matrix : (s : Shape) (g : Given) (lines rays : List (List ℤ)) → IsCone s → LineCase g.equal g.row s.lines s.rays lines rays →
+pub line_matrix : (s : Shape) (g : LinearRow) (lines rays : List (List ℤ)) → IsCone s → LineCase g.equal g.row s.lines s.rays lines rays →
     flat_matrix g.equal (saturation_of s.taken s.rays) ≡ saturation_of (s.taken ++ g ∷ []) rays
 line_matrix s g lines rays k x =
     let l = x.signed in
@@ -117,7 +119,7 @@ line_matrix s g lines rays k x =
         go true e = absurd (never z h ((Decides-int_eq z (pos 0)).0 e))
         go false e = refl
 
-    end_length : (taken : List Given) → length (taken ++ g ∷ []) ≡ suc (length taken)
+    end_length : (taken : List LinearRow) → length (taken ++ g ∷ []) ≡ suc (length taken)
     end_length [] = refl
     end_length (y ∷ taken) = ap suc (end_length taken)
 
@@ -137,17 +139,18 @@ both_flat c lines h l m =
     let x = signed_from lines l m in
     elim x.sign [ inl e ↦ ap (product c) e ∙ h x.line x.has | inr e ↦ ap (product c) e ∙ dot_negated c x.line ∙ ap neg_ℤ (h x.line x.has) ]
 
-pub ray_met : (s : Shape) (g : Given) (rays : List (List ℤ)) → IsCone s → length g.row ≡ suc s.dims → ((l : List ℤ) → Contains s.lines l → product g.row l ≡ pos 0) →
+pub ray_met : (s : Shape) (g : LinearRow) (rays : List (List ℤ)) → IsCone s → length g.row ≡ suc s.dims → ((l : List ℤ) → Contains s.lines l → product g.row l ≡ pos 0) →
     RayCase g.equal g.row (system_of s.taken) s.rays rays →
-    IsMet (suc s.dims) g.equal g.row (all_rows s.lines s.rays) (all_rows s.lines rays)
+    IsIntersection (suc s.dims) g.equal g.row (all_rows s.lines s.rays) (all_rows s.lines rays)
 ray_met s g rays k w flat x = new_met (suc s.dims) g.row (system_of s.taken) s.lines s.rays k.dual k.canonical g.equal rays (both_flat g.row s.lines flat) x w
 
-pub ray_canonical : (s : Shape) (g : Given) (rays : List (List ℤ)) → IsCone s → ((l : List ℤ) → Contains s.lines l → product g.row l ≡ pos 0) → RayCase g.equal g.row (system_of s.taken) s.rays rays →
+pub ray_canonical : (s : Shape) (g : LinearRow) (rays : List (List ℤ)) → IsCone s → ((l : List ℤ) → Contains s.lines l → product g.row l ≡ pos 0) →
+    RayCase g.equal g.row (system_of s.taken) s.rays rays →
     IsCanonical s.lines rays
 ray_canonical s g rays k flat x = new_canonical (suc s.dims) g.row (system_of s.taken) s.lines s.rays k.dual k.canonical g.equal rays (both_flat g.row s.lines flat) x
 
 -- ---- as the code comes to the cases
-pub flatten_case : (s : Shape) (g : Given) (place : ℕ) (line : Across) (of_lines of_rays : List ℤ) (lines rays : List (List ℤ)) → IsCone s → of_lines ≡ map (product g.row) s.lines →
+pub flatten_case : (s : Shape) (g : LinearRow) (place : ℕ) (line : Across) (of_lines of_rays : List ℤ) (lines rays : List (List ℤ)) → IsCone s → of_lines ≡ map (product g.row) s.lines →
     of_rays ≡ map (product g.row) s.rays → IsLastAcross of_lines (length of_lines) (Some place) →
     IsTurned (get_or s.lines place []) place (get_or of_lines place (pos 0)) line → AreFlatLines line of_lines s.lines lines → AreFlatRays g.equal line of_rays s.rays rays →
     LineCase g.equal g.row s.lines s.rays lines rays
@@ -191,7 +194,8 @@ rays_have_one_width s list k e = subst HaveOneWidth (sym e) (λ i j h l. ray_wid
     sym (ray_width s k (get_or s.rays j []) (Contains-get_or s.rays j [] l)))
 
 -- too many rays
-pub too_many_rays : (s : Shape) (g : Given) (lines rays : List (List ℤ)) (count : ℕ) → IsCone s → length g.row ≡ suc s.dims → LineCase g.equal g.row s.lines s.rays lines rays → count ≡ length rays →
+pub too_many_rays : (s : Shape) (g : LinearRow) (lines rays : List (List ℤ)) (count : ℕ) → IsCone s → length g.row ≡ suc s.dims → LineCase g.equal g.row s.lines s.rays lines rays →
+    count ≡ length rays →
     row_limit < count → TooManyRays s g.equal g.row count
 too_many_rays s g lines rays count k w x e h = record {
   new_lines = lines;
@@ -203,7 +207,7 @@ too_many_rays s g lines rays count k w x e h = record {
 }
 
 -- ---- the case without a line, and its matrix
-pub cut_taken : (s : Shape) (g : Given) (products : List ℤ) (m : Matrix) (cut : Cut) → IsCone s → products ≡ map (product g.row) s.rays → m ≡ saturation_of s.taken s.rays →
+pub cut_taken : (s : Shape) (g : LinearRow) (products : List ℤ) (m : Matrix) (cut : Cut) → IsCone s → products ≡ map (product g.row) s.rays → m ≡ saturation_of s.taken s.rays →
     IsCut g.equal products s.rays m cut →
     RayCase g.equal g.row (system_of s.taken) s.rays (unmarked cut.gone (s.rays ++ cut.rays.items))
 cut_taken s g products m cut k ep em x =
@@ -215,7 +219,7 @@ cut_taken s g products m cut k ep em x =
     unmarked_are g.equal g.row s.rays cut.rays.items (length x.pairs) in
     subst (RayCase g.equal g.row (system_of s.taken) s.rays) (sym are) (cut_case (suc s.dims) g.row s.taken s.lines s.rays k.dual k.canonical g.equal x.pairs cut.rays.items pairs sums)
 
-pub cut_matrix : (s : Shape) (g : Given) (products : List ℤ) (m : Matrix) (cut : Cut) (made : Matrix) → IsCone s → products ≡ map (product g.row) s.rays → m ≡ saturation_of s.taken s.rays →
+pub cut_matrix : (s : Shape) (g : LinearRow) (products : List ℤ) (m : Matrix) (cut : Cut) (made : Matrix) → IsCone s → products ≡ map (product g.row) s.rays → m ≡ saturation_of s.taken s.rays →
     (x : IsCut g.equal products s.rays m cut) →
     made ≡ record { width = suc m.width; rows = unmarked cut.gone (lengthened_rows m.rows (map (λ p. int_eq p (pos 0)) products) ++ tight_rows x.pairs) } →
     made ≡ saturation_of (s.taken ++ g ∷ []) (unmarked cut.gone (s.rays ++ cut.rays.items))
@@ -224,7 +228,7 @@ cut_matrix s g products m cut made k ep em x is =
     let each : (p : Pair) → Contains x.pairs p → IsAdjacentPair (map (product g.row) s.rays) (saturation_rows s.taken s.rays) p =
     λ p i. subst (λ (q : List ℤ). IsAdjacentPair q (saturation_rows s.taken s.rays) p) ep (subst (λ (y : Matrix). IsAdjacentPair products y.rows p) em (x.are_pairs.each p i)) in
     let later = pair_rows (suc s.dims) g.row s.taken s.lines s.rays k.dual k.canonical x.pairs cut.rays.items g refl each sums in
-    let all : List Given = s.taken ++ g ∷ [] in
+    let all : List LinearRow = s.taken ++ g ∷ [] in
     is ∙ ap (λ (y : Matrix). record { width = suc y.width; rows = unmarked cut.gone (lengthened_rows y.rows (map (λ p. int_eq p (pos 0)) products) ++ tight_rows x.pairs) }) em ∙
     ap (λ (q : List ℤ). record { width = suc (length s.taken); rows = unmarked cut.gone (lengthened_rows (saturation_rows s.taken s.rays) (map (λ p. int_eq p (pos 0)) q) ++ tight_rows x.pairs) }) ep ∙
     ap (λ (y : List (List Bool)). record { width = suc (length s.taken); rows = unmarked cut.gone (y ++ tight_rows x.pairs) }) (sym (kept_rows s.taken g s.rays)) ∙
@@ -233,18 +237,18 @@ cut_matrix s g products m cut made k ep em x is =
     ap (λ (y : List (List Bool)). record { width = suc (length s.taken); rows = y }) (rows_unmarked all cut.gone (s.rays ++ cut.rays.items)) ∙
     ap (λ (n : ℕ). record { width = n; rows = saturation_rows all (unmarked cut.gone (s.rays ++ cut.rays.items)) }) (sym (end_length s.taken g))
   where
-    end_length : (taken : List Given) (g : Given) → length (taken ++ g ∷ []) ≡ suc (length taken)
+    end_length : (taken : List LinearRow) (g : LinearRow) → length (taken ++ g ∷ []) ≡ suc (length taken)
     end_length [] g = refl
     end_length (y ∷ taken) g = ap suc (end_length taken g)
 
-pub cone_again : (s : Shape) (g : Given) (lines rays : List (List ℤ)) (n : ℕ) (taken : List Given) → n ≡ s.dims → taken ≡ s.taken ++ g ∷ [] → IsCone (taken_last s g lines rays) →
+pub cone_again : (s : Shape) (g : LinearRow) (lines rays : List (List ℤ)) (n : ℕ) (taken : List LinearRow) → n ≡ s.dims → taken ≡ s.taken ++ g ∷ [] → IsCone (taken_last s g lines rays) →
     IsCone (record { dims = n; taken = taken; lines = lines; rays = rays })
 cone_again s g lines rays n taken e f k =
     subst (λ (m : ℕ). IsCone (record { dims = m; taken = taken; lines = lines; rays = rays })) (sym e)
-    (subst (λ (t : List Given). IsCone (record { dims = s.dims; taken = t; lines = lines; rays = rays })) (sym f) k)
+    (subst (λ (t : List LinearRow). IsCone (record { dims = s.dims; taken = t; lines = lines; rays = rays })) (sym f) k)
 
 -- ---- sizes
-pub saturation_equal : (taken : List Given) (rays : List (List ℤ)) (m : Matrix) → m ≡ saturation_of taken rays → All (λ r. length r ≡ m.width) m.rows
+pub saturation_equal : (taken : List LinearRow) (rays : List (List ℤ)) (m : Matrix) → m ≡ saturation_of taken rays → All (λ r. length r ≡ m.width) m.rows
 saturation_equal taken rays m e =
     subst (λ (y : Matrix). All (λ r. length r ≡ y.width) y.rows) (sym e)
     (λ i d h. let l : i < length rays = omega (arith, h, rows_length taken rays) in ap length (get_or_default (saturation_rows taken rays) i d [] h ∙ row_at taken rays i l) ∙
@@ -282,7 +286,7 @@ inside_length equal c (r ∷ rays) = by_test (is_inside equal (product c r)) (in
     by_test true e = ap suc e
     by_test false e = e
 
-pub cut_few : (s : Shape) (g : Given) (products : List ℤ) (m : Matrix) (cut : Cut) → products ≡ map (product g.row) s.rays → IsCut g.equal products s.rays m cut →
+pub cut_few : (s : Shape) (g : LinearRow) (products : List ℤ) (m : Matrix) (cut : Cut) → products ≡ map (product g.row) s.rays → IsCut g.equal products s.rays m cut →
     length (unmarked cut.gone (s.rays ++ cut.rays.items)) ≤ row_limit
 cut_few s g products m cut ep x =
     let are : unmarked cut.gone (s.rays ++ cut.rays.items) ≡ inside_rays g.equal g.row s.rays ++ cut.rays.items =

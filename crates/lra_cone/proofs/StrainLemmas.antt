@@ -6,22 +6,22 @@ use Rattle.std.proofs.lemmas.Int.{ints}
 use Rattle.std.proofs.lemmas.List.{get_or-map, get_or-take, length-map, length-append}
 use Rattle.std.proofs.lemmas.List.Elements.{Contains-append_left, Contains-append_right, Contains-get_or}
 use Rattle.lra_bits.specs.Matrix.{Matrix}
-use Rattle.lra_linear.specs.declared.Excess as E
-use Rattle.lra_linear.specs.Vectors.{entry, product, negated}
-use Rattle.lra_linear.specs.CheckedArithmetic.{checked_blend}
-use Rattle.lra_linear.specs.Cones.{all_rows, both_ways}
-use Rattle.lra_linear.specs.ConeStrain.{HasTooMany, PairPasses, ProductPasses}
-use Rattle.lra_linear.specs.declared.Cause.{Cause}
-use Rattle.lra_linear.specs.declared.Cause.TheVariants as cause
-use Rattle.lra_linear.specs.Descriptions.{Given}
-use Rattle.lra_linear.specs.Echelon.{IsEchelon}
-use Rattle.lra_linear.proofs.Combinations.{generated_row, generated_same}
-use Rattle.lra_linear.proofs.LinearMaps.{generated_right}
-use Rattle.lra_linear.proofs.Lines.{in_lines, in_lines_negated}
-use Rattle.lra_linear.proofs.LowestTerms.{lowest_exists}
-use Rattle.lra_linear.proofs.Membership.{contains_split}
-use Rattle.lra_linear.proofs.Products.{entry_negated, dot_negated, negated_twice}
-use Rattle.lra_linear.proofs.Signs.{not_both}
+use Rattle.lra_linear_spec.specs.declared.Excess as E
+use Rattle.lra_linear_spec.specs.Vectors.{entry, product, negated}
+use Rattle.lra_linear_spec.specs.CheckedArithmetic.{checked_blend}
+use Rattle.lra_linear_spec.specs.Cones.{all_rows, both_ways}
+use Rattle.lra_linear_spec.specs.ConeStrain.{HasTooMany, PairPasses, ProductPasses}
+use Rattle.lra_linear_spec.specs.declared.Cause.{Cause}
+use Rattle.lra_linear_spec.specs.declared.Cause.TheVariants as cause
+use Rattle.lra_linear_spec.specs.Descriptions.{LinearRow}
+use Rattle.lra_linear_spec.specs.Echelon.{IsEchelon}
+use Rattle.lra_linear_spec.proofs.Combinations.{generated_row, generated_same}
+use Rattle.lra_linear_spec.proofs.LinearMaps.{generated_right}
+use Rattle.lra_linear_spec.proofs.Lines.{in_lines, in_lines_negated}
+use Rattle.lra_linear_spec.proofs.LowestTerms.{lowest_exists}
+use Rattle.lra_linear_spec.proofs.Membership.{contains_split}
+use Rattle.lra_linear_spec.proofs.Products.{entry_negated, dot_negated, negated_twice}
+use Rattle.lra_linear_spec.proofs.Signs.{not_both}
 use Rattle.lra_steps.specs.declared.line_step.Across.{Across}
 use Rattle.lra_steps.specs.declared.pairs.Pair as Q
 use Rattle.lra_steps.specs.declared.strained.Family.{Family}
@@ -243,7 +243,8 @@ combinations_exist products rays (p ∷ pairs) =
     let rest = combinations_exist products rays pairs in
     (first.0 ∷ rest.0, (first.1, rest.1))
 
-pub cut_cone_error : (s : Shape) (g : Given) (products : List ℤ) (m : Matrix) (e : C.ConeError) → IsCone s → length g.row ≡ suc s.dims → ((l : List ℤ) → Contains s.lines l → product g.row l ≡ pos 0) →
+pub cut_cone_error : (s : Shape) (g : LinearRow) (products : List ℤ) (m : Matrix) (e : C.ConeError) → IsCone s → length g.row ≡ suc s.dims →
+    ((l : List ℤ) → Contains s.lines l → product g.row l ≡ pos 0) →
     products ≡ map (product g.row) s.rays → m ≡ saturation_of s.taken s.rays →
     IsCutError g.equal products s.rays m e → IsConeError s g.equal g.row e
 cut_cone_error s g products m of_cone.Memory k w flat ep em x = tt

@@ -1,13 +1,13 @@
 -- What holds of a cone once a row was to be taken in, by what came of it.
 use Rattle.std.proofs.Common.{◌≡◌, ◌++◌, ◌∷◌, [], suc, ap, Result, Ok, Err}
 use Rattle.std.specs.Result.{OnErr, OnOk}
-use Rattle.lra_linear.specs.Descriptions.{Given}
-use Rattle.lra_linear.specs.Cones.{all_rows}
-use Rattle.lra_linear.specs.ConeStrain.{IsMet}
+use Rattle.lra_linear_spec.specs.Descriptions.{LinearRow}
+use Rattle.lra_linear_spec.specs.Cones.{all_rows}
+use Rattle.lra_linear_spec.specs.ConeStrain.{IsIntersection}
 use Rattle.lra_steps.specs.declared.strained.ConeError.{ConeError}
 use Rattle.lra_cone.specs.Cones.{Shape, IsTakenIn}
 
-module _ {T : Type 0} (old : Shape) (g : Given) (new : Shape) where
+module _ {T : Type 0} (old : Shape) (g : LinearRow) (new : Shape) where
   pub dims_then : (r : Result T ConeError) → OnOk r (IsTakenIn old g new) → OnErr r (new ≡ old) → new.dims ≡ old.dims
   dims_then (Ok v) x _ = x.dims
   dims_then (Err e) _ same = ap (λ (s : Shape). s.dims) same
@@ -16,6 +16,6 @@ module _ {T : Type 0} (old : Shape) (g : Given) (new : Shape) where
   taken_then (Ok v) x = x.taken
   taken_then (Err e) _ = tt
 
-  pub met_then : (r : Result T ConeError) → OnOk r (IsTakenIn old g new) → OnOk r (IsMet (suc old.dims) g.equal g.row (all_rows old.lines old.rays) (all_rows new.lines new.rays))
+  pub met_then : (r : Result T ConeError) → OnOk r (IsTakenIn old g new) → OnOk r (IsIntersection (suc old.dims) g.equal g.row (all_rows old.lines old.rays) (all_rows new.lines new.rays))
   met_then (Ok v) x = x.met
   met_then (Err e) _ = tt

@@ -6,23 +6,24 @@ use Rattle.std.specs.List.{Contains}
 use Rattle.std.proofs.lemmas.Bool.Decides.{Decides-int_eq}
 use Rattle.std.proofs.lemmas.List.{take-map, get_or_default}
 use Rattle.std.proofs.lemmas.List.Elements.{Contains-append_cases, Contains-append_left}
-use Rattle.lra_linear.specs.Vectors.{entry, product, negated}
-use Rattle.lra_linear.specs.LowestTerms.{IsPrimitive}
-use Rattle.lra_linear.specs.Cones.{with_row}
-use Rattle.lra_linear.proofs.DoubleDescription.{Flat, Flats, LineCase}
-use Rattle.lra_linear.specs.Descriptions.{Given, system_of}
-use Rattle.lra_linear.proofs.FlatRows.{flat_dot}
-use Rattle.lra_linear.proofs.Membership.{contains_none, contains_cases, contains_head, contains_tail}
-use Rattle.lra_linear.proofs.Products.{dot_negated, dot_linear, dot_same, dot_scale}
-use Rattle.lra_linear.proofs.Ring.{ring, v, ⊖, ◌⊕◌, ◌⊗◌}
-use Rattle.lra_linear.proofs.Signs.{as_nat, positive_nat, no_product, no_factor, positive_is_nonnegative}
+use Rattle.lra_linear_spec.specs.Vectors.{entry, product, negated}
+use Rattle.lra_linear_spec.specs.LowestTerms.{IsPrimitive}
+use Rattle.lra_linear_spec.specs.Cones.{with_row}
+use Rattle.lra_linear_spec.proofs.DoubleDescription.{Flat, Flats, LineCase}
+use Rattle.lra_linear_spec.specs.Descriptions.{LinearRow, system_of}
+use Rattle.lra_linear_spec.proofs.FlatRows.{flat_dot}
+use Rattle.lra_linear_spec.proofs.Membership.{contains_none, contains_cases, contains_head, contains_tail}
+use Rattle.lra_linear_spec.proofs.Products.{dot_negated, dot_linear, dot_same, dot_scale}
+use Rattle.lra_linear_spec.proofs.Ring.{ring, v, ⊖, ◌⊕◌, ◌⊗◌}
+use Rattle.lra_linear_spec.proofs.Signs.{as_nat, positive_nat, no_product, no_factor, positive_is_nonnegative}
 use Rattle.lra_steps.specs.declared.line_step.Across.{Across}
 use Rattle.lra_cone.specs.Cones.{tight_values, saturation_rows}
 use Rattle.lra_steps.specs.Steps.{IsTurned, IsFlattened, AreFlattened, AreFlatLines, AreFlatRays, lengthened_rows}
 use Rattle.lra_cone.proofs.TightRows.{with_has, with_later, values_end}
 
 -- ---- the system with the row at its end
-pub to_end : (taken : List Given) (g : Given) (s : List ℤ) → Contains (with_row g.equal g.row (system_of taken)) s → Contains (system_of (taken ++ g ∷ [])) s
+pub to_end : (taken : List LinearRow) (g : LinearRow) (s : List ℤ) → Contains (with_row g.equal g.row (system_of taken)) s →
+    Contains (system_of (taken ++ g ∷ [])) s
 to_end [] g s m = m
 to_end (x ∷ taken) g s m = elim (split g.equal g.row (system_of (x ∷ taken)) s m) [
   | inl i ↦ with_later x.equal x.row (system_of (taken ++ g ∷ [])) s (to_end taken g s (more g.equal g.row (system_of taken) s i))
@@ -40,7 +41,8 @@ to_end (x ∷ taken) g s m = elim (split g.equal g.row (system_of (x ∷ taken))
     more true r system s m = Contains-append_left (r ∷ negated r ∷ []) system s m
     more false r system s m = Contains-append_left (r ∷ []) system s m
 
-pub from_end : (taken : List Given) (g : Given) (s : List ℤ) → Contains (system_of (taken ++ g ∷ [])) s → Contains (with_row g.equal g.row (system_of taken)) s
+pub from_end : (taken : List LinearRow) (g : LinearRow) (s : List ℤ) → Contains (system_of (taken ++ g ∷ [])) s →
+    Contains (with_row g.equal g.row (system_of taken)) s
 from_end [] g s m = m
 from_end (x ∷ taken) g s m = elim (split x.equal x.row (system_of (taken ++ g ∷ [])) s m) [
   | inl i ↦ with_later g.equal g.row (system_of (x ∷ taken)) s (more x.equal x.row (system_of taken) s i)
@@ -155,7 +157,7 @@ same_test x y h k = go (int_eq x (pos 0)) (int_eq y (pos 0)) refl refl
     go true false e f = absurd (let q : true ≡ false = sym ((Decides-int_eq y (pos 0)).1 (h ((Decides-int_eq x (pos 0)).0 e))) ∙ f in cc)
     go false true e f = absurd (let q : true ≡ false = sym ((Decides-int_eq x (pos 0)).1 (k ((Decides-int_eq y (pos 0)).0 f))) ∙ e in cc)
 
-pub values_same : (taken : List Given) (t r : List ℤ) → ((s : List ℤ) → Contains (system_of taken) s → (product s t ≡ pos 0 → product s r ≡ pos 0) × (product s r ≡ pos 0 → product s t ≡ pos 0)) →
+pub values_same : (taken : List LinearRow) (t r : List ℤ) → ((s : List ℤ) → Contains (system_of taken) s → (product s t ≡ pos 0 → product s r ≡ pos 0) × (product s r ≡ pos 0 → product s t ≡ pos 0)) →
     tight_values taken t ≡ tight_values taken r
 values_same [] t r h = refl
 values_same (g ∷ taken) t r h =
@@ -165,7 +167,7 @@ values_same (g ∷ taken) t r h =
     ap (λ (b : Bool). b ∷ tight_values taken t) first ∙ ap (λ (x : List Bool). int_eq (product g.row r) (pos 0) ∷ x) rest
 
 -- at a line all are tight
-pub values_line : (taken : List Given) (l : List ℤ) → ((s : List ℤ) → Contains (system_of taken) s → product s l ≡ pos 0) → tight_values taken l ≡ replicate (length taken) true
+pub values_line : (taken : List LinearRow) (l : List ℤ) → ((s : List ℤ) → Contains (system_of taken) s → product s l ≡ pos 0) → tight_values taken l ≡ replicate (length taken) true
 values_line [] l h = refl
 values_line (g ∷ taken) l h =
     ap (λ (b : Bool). b ∷ tight_values taken l) ((Decides-int_eq (product g.row l) (pos 0)).1 (h g.row (with_has g.equal g.row (system_of taken)))) ∙
@@ -184,7 +186,7 @@ flat_tight c l r t s f above on =
       λ z. no_product f.times (product s t) f.positive (whole ∙ ap (λ y. a *ℤ y) z ∙ ring (v a ⊗ v (pos 0)) (v (pos 0)) (omega arith)),
     )
 
-pub flat_rows : (taken : List Given) (g : Given) (l : List ℤ) (rs ts : List (List ℤ)) → pos 0 <ℤ product g.row l → ((s : List ℤ) → Contains (system_of taken) s → product s l ≡ pos 0) →
+pub flat_rows : (taken : List LinearRow) (g : LinearRow) (l : List ℤ) (rs ts : List (List ℤ)) → pos 0 <ℤ product g.row l → ((s : List ℤ) → Contains (system_of taken) s → product s l ≡ pos 0) →
     Flats g.row l rs ts →
     saturation_rows (taken ++ g ∷ []) ts ≡ lengthened_rows (saturation_rows taken rs) (replicate (length (saturation_rows taken rs)) true)
 flat_rows taken g l [] [] above on f = refl
@@ -197,7 +199,7 @@ flat_rows taken g l (r ∷ rs) (t ∷ ts) above on f =
     ap (λ (x : List Bool). x ∷ saturation_rows (taken ++ g ∷ []) ts) here ∙ ap (λ (x : List (List Bool)). (tight_values taken r ++ true ∷ []) ∷ x) (flat_rows taken g l rs ts above on f.1)
 
 -- without a line across: the rays as they are
-pub kept_rows : (taken : List Given) (g : Given) (rays : List (List ℤ)) → saturation_rows (taken ++ g ∷ []) rays ≡
+pub kept_rows : (taken : List LinearRow) (g : LinearRow) (rays : List (List ℤ)) → saturation_rows (taken ++ g ∷ []) rays ≡
     lengthened_rows (saturation_rows taken rays) (map (λ p. int_eq p (pos 0)) (map (product g.row) rays))
 kept_rows taken g [] = refl
 kept_rows taken g (r ∷ rays) = ap (λ (x : List Bool). x ∷ saturation_rows (taken ++ g ∷ []) rays) (values_end taken g r) ∙

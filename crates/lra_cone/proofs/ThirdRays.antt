@@ -6,15 +6,15 @@ use Rattle.std.proofs.lemmas.Int.{ints}
 use Rattle.std.proofs.lemmas.List.{length-append}
 use Rattle.std.proofs.lemmas.List.Elements.{Contains-append_left, Contains-append_right}
 use Rattle.std.specs.List.{Contains}
-use Rattle.lra_linear.specs.Cones.{AreDual, Described, Solves, all_rows, both_ways}
-use Rattle.lra_linear.specs.Vectors.{blend, dot, entry, product, signed_sum, sum_of}
-use Rattle.lra_linear.proofs.LinearMaps.{sum_nonneg}
-use Rattle.lra_linear.proofs.Lines.{described_generated}
-use Rattle.lra_linear.proofs.Membership.{contains_cases, contains_head, contains_none, contains_tail}
-use Rattle.lra_linear.proofs.Products.{blend_length, dot_add, dot_linear, dot_plus, dot_same, dot_scale, dot_zero, entry_blend, product_comm}
-use Rattle.lra_linear.proofs.Ring.{mul_nonnegative, ring, v, ◌⊕◌, ◌⊗◌}
-use Rattle.lra_linear.proofs.Saturation.{TightToo, tight_sum}
-use Rattle.lra_linear.proofs.Signs.{add_nonnegative, no_product, zero_at_least}
+use Rattle.lra_linear_spec.specs.Cones.{AreDual, Described, Solves, all_rows, both_ways}
+use Rattle.lra_linear_spec.specs.Vectors.{blend, dot, entry, product, signed_sum, sum_of}
+use Rattle.lra_linear_spec.proofs.LinearMaps.{sum_nonneg}
+use Rattle.lra_linear_spec.proofs.Lines.{described_generated}
+use Rattle.lra_linear_spec.proofs.Membership.{contains_cases, contains_head, contains_none, contains_tail}
+use Rattle.lra_linear_spec.proofs.Products.{blend_length, dot_add, dot_linear, dot_plus, dot_same, dot_scale, dot_zero, entry_blend, product_comm}
+use Rattle.lra_linear_spec.proofs.Ring.{mul_nonnegative, ring, v, ◌⊕◌, ◌⊗◌}
+use Rattle.lra_linear_spec.proofs.Saturation.{TightToo, tight_sum}
+use Rattle.lra_linear_spec.proofs.Signs.{add_nonnegative, no_product, zero_at_least}
 use Rattle.lra_canon.specs.Reduced.{SolvesAll}
 use Rattle.lra_canon.proofs.Solutions.{signed_spanned, solves_all, spanned_solved}
 use Rattle.lra_cone.proofs.Homogeneous.{Vanish, as_forms, forms_many, other_factor, root, zero_or}

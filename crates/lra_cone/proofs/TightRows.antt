@@ -7,12 +7,12 @@ use Rattle.std.proofs.lemmas.Bool.Decides.{Decides-int_eq}
 use Rattle.std.proofs.lemmas.Int.{ints}
 use Rattle.lra_bits.specs.Matrix.{unmarked}
 use Rattle.lra_bits.specs.TruthValues.{IsSubset, both}
-use Rattle.lra_linear.specs.Vectors.{entry, dot, product, negated}
-use Rattle.lra_linear.specs.Cones.{with_row}
-use Rattle.lra_linear.specs.Descriptions.{Given, system_of}
-use Rattle.lra_linear.proofs.Membership.{contains_cases, contains_head, contains_tail, contains_none}
-use Rattle.lra_linear.proofs.Products.{negated_dot}
-use Rattle.lra_linear.proofs.Widening.{zero_said}
+use Rattle.lra_linear_spec.specs.Vectors.{entry, dot, product, negated}
+use Rattle.lra_linear_spec.specs.Cones.{with_row}
+use Rattle.lra_linear_spec.specs.Descriptions.{LinearRow, system_of}
+use Rattle.lra_linear_spec.proofs.Membership.{contains_cases, contains_head, contains_tail, contains_none}
+use Rattle.lra_linear_spec.proofs.Products.{negated_dot}
+use Rattle.lra_linear_spec.proofs.Widening.{zero_said}
 use Rattle.std.proofs.lemmas.Bool.{and_parts}
 use Rattle.lra_cone.specs.Cones.{tight_values, saturation_rows}
 
@@ -52,7 +52,7 @@ tight_either c s u (inl e) h = ap (λ (x : List ℤ). dot x u) e ∙ h
 tight_either c s u (inr e) h = ap (λ (x : List ℤ). dot x u) e ∙ negated_dot c u ∙ ap neg_ℤ h
 
 -- ---- wherever two are tight, a third is
-pub subset_said : (taken : List Given) (u d r : List ℤ) → IsSubset (both (tight_values taken u) (tight_values taken d)) (tight_values taken r) →
+pub subset_said : (taken : List LinearRow) (u d r : List ℤ) → IsSubset (both (tight_values taken u) (tight_values taken d)) (tight_values taken r) →
     (s : List ℤ) → Contains (system_of taken) s → dot s (entry u) ≡ pos 0 → dot s (entry d) ≡ pos 0 → dot s (entry r) ≡ pos 0
 subset_said [] u d r h s m e f = absurd (contains_none s m)
 subset_said (g ∷ taken) u d r h s m e f = elim (with_cases g.equal g.row (system_of taken) s m) [
@@ -61,7 +61,7 @@ subset_said (g ∷ taken) u d r h s m e f = elim (with_cases g.equal g.row (syst
   | inr n ↦ subset_said taken u d r (λ k. h (suc k)) s n e f
 ]
 
-pub subset_from : (taken : List Given) (u d r : List ℤ) → ((s : List ℤ) → Contains (system_of taken) s → dot s (entry u) ≡ pos 0 → dot s (entry d) ≡ pos 0 → dot s (entry r) ≡ pos 0) →
+pub subset_from : (taken : List LinearRow) (u d r : List ℤ) → ((s : List ℤ) → Contains (system_of taken) s → dot s (entry u) ≡ pos 0 → dot s (entry d) ≡ pos 0 → dot s (entry r) ≡ pos 0) →
     IsSubset (both (tight_values taken u) (tight_values taken d)) (tight_values taken r)
 subset_from [] u d r h k e = e
 subset_from (g ∷ taken) u d r h zero e =
@@ -70,30 +70,30 @@ subset_from (g ∷ taken) u d r h zero e =
 subset_from (g ∷ taken) u d r h (suc k) e = subset_from taken u d r (λ s m. h s (with_later g.equal g.row (system_of taken) s m)) k e
 
 -- ---- the matrix
-pub values_length : (taken : List Given) (r : List ℤ) → length (tight_values taken r) ≡ length taken
+pub values_length : (taken : List LinearRow) (r : List ℤ) → length (tight_values taken r) ≡ length taken
 values_length [] r = refl
 values_length (g ∷ taken) r = ap suc (values_length taken r)
 
-pub rows_length : (taken : List Given) (rays : List (List ℤ)) → length (saturation_rows taken rays) ≡ length rays
+pub rows_length : (taken : List LinearRow) (rays : List (List ℤ)) → length (saturation_rows taken rays) ≡ length rays
 rows_length taken [] = refl
 rows_length taken (r ∷ rays) = ap suc (rows_length taken rays)
 
-pub row_at : (taken : List Given) (rays : List (List ℤ)) (i : ℕ) → i < length rays → get_or (saturation_rows taken rays) i [] ≡ tight_values taken (get_or rays i [])
+pub row_at : (taken : List LinearRow) (rays : List (List ℤ)) (i : ℕ) → i < length rays → get_or (saturation_rows taken rays) i [] ≡ tight_values taken (get_or rays i [])
 row_at taken [] i h = absurd (omega (arith, h))
 row_at taken (r ∷ rays) zero h = refl
 row_at taken (r ∷ rays) (suc i) h = row_at taken rays i (omega (arith, h))
 
-pub rows_append : (taken : List Given) (rays more : List (List ℤ)) → saturation_rows taken (rays ++ more) ≡ saturation_rows taken rays ++ saturation_rows taken more
+pub rows_append : (taken : List LinearRow) (rays more : List (List ℤ)) → saturation_rows taken (rays ++ more) ≡ saturation_rows taken rays ++ saturation_rows taken more
 rows_append taken [] more = refl
 rows_append taken (r ∷ rays) more = ap (λ (x : List (List Bool)). tight_values taken r ∷ x) (rows_append taken rays more)
 
-pub rows_unmarked : (taken : List Given) (marks : List Bool) (rays : List (List ℤ)) → unmarked marks (saturation_rows taken rays) ≡ saturation_rows taken (unmarked marks rays)
+pub rows_unmarked : (taken : List LinearRow) (marks : List Bool) (rays : List (List ℤ)) → unmarked marks (saturation_rows taken rays) ≡ saturation_rows taken (unmarked marks rays)
 rows_unmarked taken marks [] = refl
 rows_unmarked taken [] (r ∷ rays) = refl
 rows_unmarked taken (true ∷ marks) (r ∷ rays) = rows_unmarked taken marks rays
 rows_unmarked taken (false ∷ marks) (r ∷ rays) = ap (λ (x : List (List Bool)). tight_values taken r ∷ x) (rows_unmarked taken marks rays)
 
 -- one more row taken in
-pub values_end : (taken : List Given) (g : Given) (r : List ℤ) → tight_values (taken ++ g ∷ []) r ≡ tight_values taken r ++ int_eq (product g.row r) (pos 0) ∷ []
+pub values_end : (taken : List LinearRow) (g : LinearRow) (r : List ℤ) → tight_values (taken ++ g ∷ []) r ≡ tight_values taken r ++ int_eq (product g.row r) (pos 0) ∷ []
 values_end [] g r = refl
 values_end (x ∷ taken) g r = ap (λ (y : List Bool). int_eq (product x.row r) (pos 0) ∷ y) (values_end taken g r)

@@ -5,23 +5,23 @@ use Rattle.std.specs.List.{Contains}
 use Rattle.std.proofs.lemmas.Bool.{cases_lt}
 use Rattle.std.proofs.lemmas.Int.{ints}
 use Rattle.std.proofs.lemmas.List.{append_assoc}
-use Rattle.lra_linear.specs.Vectors.{entry, dot, negated, zeros, behind_zero, units}
-use Rattle.lra_linear.specs.Cones.{Generated, both_ways, all_rows, AreDual}
-use Rattle.lra_linear.specs.Canonical.{IsCanonical}
-use Rattle.lra_linear.specs.Descriptions.{Given}
-use Rattle.lra_linear.specs.Echelon.{Before, IsEchelon}
-use Rattle.lra_linear.specs.OperationStrain.{unit_row}
-use Rattle.lra_linear.proofs.Combinations.{generated_row}
-use Rattle.lra_linear.proofs.LinearMaps.{generated_through}
-use Rattle.lra_linear.proofs.Lines.{signed_from, in_lines, in_lines_negated, generated_described, whole_described}
-use Rattle.lra_linear.proofs.LowestTerms.{primitive_at}
-use Rattle.lra_linear.proofs.Membership.{contains_none, contains_cases, contains_head, contains_tail, split_none, map_has, map_from}
-use Rattle.lra_linear.proofs.Products.{negated_dot, negated_length, entry_past}
-use Rattle.lra_linear.proofs.Ring.{ring, v, ◌⊕◌, ◌⊗◌}
-use Rattle.lra_linear.proofs.Signs.{between_opposites}
-use Rattle.lra_linear.proofs.OneSpelling.{dot_zeros}
+use Rattle.lra_linear_spec.specs.Vectors.{entry, dot, negated, zeros, behind_zero, units}
+use Rattle.lra_linear_spec.specs.Cones.{Generated, both_ways, all_rows, AreDual}
+use Rattle.lra_linear_spec.specs.Canonical.{IsCanonical}
+use Rattle.lra_linear_spec.specs.Descriptions.{LinearRow}
+use Rattle.lra_linear_spec.specs.Echelon.{Before, IsEchelon}
+use Rattle.lra_linear_spec.specs.OperationStrain.{unit_row}
+use Rattle.lra_linear_spec.proofs.Combinations.{generated_row}
+use Rattle.lra_linear_spec.proofs.LinearMaps.{generated_through}
+use Rattle.lra_linear_spec.proofs.Lines.{signed_from, in_lines, in_lines_negated, generated_described, whole_described}
+use Rattle.lra_linear_spec.proofs.LowestTerms.{primitive_at}
+use Rattle.lra_linear_spec.proofs.Membership.{contains_none, contains_cases, contains_head, contains_tail, split_none, map_has, map_from}
+use Rattle.lra_linear_spec.proofs.Products.{negated_dot, negated_length, entry_past}
+use Rattle.lra_linear_spec.proofs.Ring.{ring, v, ◌⊕◌, ◌⊗◌}
+use Rattle.lra_linear_spec.proofs.Signs.{between_opposites}
+use Rattle.lra_linear_spec.proofs.OneSpelling.{dot_zeros}
 use Rattle.lra_canon.proofs.Solutions.{behind_zero_from}
-use Rattle.lra_linear.proofs.UnitRows.{unit_here, unit_length, unit_other}
+use Rattle.lra_linear_spec.proofs.UnitRows.{unit_here, unit_length, unit_other}
 use Rattle.lra_cone.specs.Cones.{IsCone, columns_from, unit_lines, whole_space}
 
 -- ---- unit rows
@@ -190,8 +190,8 @@ columns_end n column items new r h e f i =
     none n column h = omega (arith, h)
 
 -- ---- the cone that is made
-pub whole_made : (n d : ℕ) (taken : List Given) (lines rays : List (List ℤ)) → d ≡ n → taken ≡ [] → lines ≡ unit_lines n → rays ≡ [] →
+pub whole_made : (n d : ℕ) (taken : List LinearRow) (lines rays : List (List ℤ)) → d ≡ n → taken ≡ [] → lines ≡ unit_lines n → rays ≡ [] →
     (record { dims = d; taken = taken; lines = lines; rays = rays }) ≡ whole_space n
 whole_made n d taken lines rays ed et el er =
-    ap (λ (x : ℕ). record { dims = x; taken = taken; lines = lines; rays = rays }) ed ∙ ap (λ (x : List Given). record { dims = n; taken = x; lines = lines; rays = rays }) et ∙
+    ap (λ (x : ℕ). record { dims = x; taken = taken; lines = lines; rays = rays }) ed ∙ ap (λ (x : List LinearRow). record { dims = n; taken = x; lines = lines; rays = rays }) et ∙
     ap (λ (x : List (List ℤ)). record { dims = n; taken = []; lines = x; rays = rays }) el ∙ ap (λ (x : List (List ℤ)). record { dims = n; taken = []; lines = unit_lines n; rays = x }) er

@@ -2,18 +2,18 @@
 use Rattle.std.specs.Prelude.{◌≡◌, ℕ, zero, suc, ◌≤◌, ℤ, pos, Bool, List, [], ◌∷◌, ◌++◌, length, map}
 use Rattle.std.specs.Ordering.{int_eq}
 use Rattle.lra_bits.specs.Matrix.{Matrix}
-use Rattle.lra_linear.specs.Vectors.{product}
-use Rattle.lra_linear.specs.OperationStrain.{unit_row}
-use Rattle.lra_linear.specs.Cones.{all_rows, AreDual}
-use Rattle.lra_linear.specs.Canonical.{IsCanonical}
-use Rattle.lra_linear.specs.Descriptions.{Given, system_of}
-use Rattle.lra_linear.specs.ConeStrain.{IsMet, row_limit}
+use Rattle.lra_linear_spec.specs.Vectors.{product}
+use Rattle.lra_linear_spec.specs.OperationStrain.{unit_row}
+use Rattle.lra_linear_spec.specs.Cones.{all_rows, AreDual}
+use Rattle.lra_linear_spec.specs.Canonical.{IsCanonical}
+use Rattle.lra_linear_spec.specs.Descriptions.{LinearRow, system_of}
+use Rattle.lra_linear_spec.specs.ConeStrain.{IsIntersection, row_limit}
 
 -- The rows taken in so far, each an inequality or an equality, and the lines and rays. Each row has one column more
 -- than there are dimensions.
 pub record Shape : Type 0 where
   pub dims : ℕ
-  pub taken : List Given
+  pub taken : List LinearRow
   pub lines : List (List ℤ)
   pub rays : List (List ℤ)
 
@@ -25,16 +25,16 @@ pub record IsCone (s : Shape) : Type 0 where
   pub few : length s.rays ≤ row_limit
 
 -- for each row taken in, whether it is tight at r (has product 0 with it)
-abbrev pub tight_values : List Given → List ℤ → List Bool
+abbrev pub tight_values : List LinearRow → List ℤ → List Bool
 tight_values [] r = []
 tight_values (g ∷ taken) r = int_eq (product g.row r) (pos 0) ∷ tight_values taken r
 
-abbrev pub saturation_rows : List Given → List (List ℤ) → List (List Bool)
+abbrev pub saturation_rows : List LinearRow → List (List ℤ) → List (List Bool)
 saturation_rows taken [] = []
 saturation_rows taken (r ∷ rays) = tight_values taken r ∷ saturation_rows taken rays
 
 -- a row for each ray, with a column for each row taken in: true where that is tight at the ray
-abbrev pub saturation_of : List Given → List (List ℤ) → Matrix
+abbrev pub saturation_of : List LinearRow → List (List ℤ) → Matrix
 saturation_of taken rays = record { width = length taken; rows = saturation_rows taken rays }
 
 -- so many columns from the start up, and column 0 last
@@ -51,7 +51,7 @@ abbrev pub whole_space : ℕ → Shape
 whole_space n = record { dims = n; taken = []; lines = unit_lines n; rays = [] }
 
 -- the row is taken in last, and what the old rows describe with it the new ones describe
-pub record IsTakenIn (old : Shape) (g : Given) (new : Shape) : Type 0 where
+pub record IsTakenIn (old : Shape) (g : LinearRow) (new : Shape) : Type 0 where
   pub dims : new.dims ≡ old.dims
   pub taken : new.taken ≡ old.taken ++ g ∷ []
-  pub met : IsMet (suc old.dims) g.equal g.row (all_rows old.lines old.rays) (all_rows new.lines new.rays)
+  pub met : IsIntersection (suc old.dims) g.equal g.row (all_rows old.lines old.rays) (all_rows new.lines new.rays)

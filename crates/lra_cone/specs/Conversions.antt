@@ -1,25 +1,25 @@
 -- Conversions of lists: the cone of the rows that were taken in one by one.
 use Rattle.std.specs.Prelude.{◌≡◌, ◌⊎◌, ℕ, suc, List, [], ◌∷◌, ◌++◌}
 use Rattle.std.specs.List.{Contains}
-use Rattle.lra_linear.specs.Strain.{Loss, Strains}
-use Rattle.lra_linear.specs.Descriptions.{Given}
+use Rattle.lra_linear_spec.specs.Strain.{Loss, Strains}
+use Rattle.lra_linear_spec.specs.Descriptions.{LinearRow}
 use Rattle.lra_cone.specs.Cones.{Shape}
 use Rattle.lra_cone.specs.Losses.{IfLost}
 
 -- Behind those taken in all these were tried in their order. Each was taken in, and is kept; or it was left out behind
 -- those that were taken in until then, which strain with it: so the next loss tells.
-abbrev pub AreTried : ℕ → List Given → List Given → List Given → List Loss → Type 0
+abbrev pub AreTried : ℕ → List LinearRow → List LinearRow → List LinearRow → List Loss → Type 0
 AreTried w taken [] kept losses = (kept ≡ []) × (losses ≡ [])
 AreTried w taken (g ∷ all) kept losses =
-    ((more : List Given) × (kept ≡ g ∷ more) × AreTried w (taken ++ g ∷ []) all more losses)
+    ((more : List LinearRow) × (kept ≡ g ∷ more) × AreTried w (taken ++ g ∷ []) all more losses)
     ⊎ ((loss : Loss) × (others : List Loss) × (losses ≡ loss ∷ others) × (loss.chosen ≡ taken) × (loss.further ≡ g)
     × Strains w (taken ++ g ∷ []) loss × AreTried w taken all kept others)
 
 -- Behind the first rows all were tried in their order: those kept are among them, and are all where none was left out;
 -- the first that was left out strains.
-pub record IsConversion (first all kept : List Given) (cone : Shape) (losses : List Loss) : Type 0 where
+pub record IsConversion (first all kept : List LinearRow) (cone : Shape) (losses : List Loss) : Type 0 where
   pub taken : cone.taken ≡ first ++ kept
-  pub among : (g : Given) → Contains kept g → Contains all g
+  pub among : (g : LinearRow) → Contains kept g → Contains all g
   pub whole : losses ≡ [] → kept ≡ all
   pub strain : IfLost (Strains (suc cone.dims) (first ++ all)) losses
   pub tried : AreTried (suc cone.dims) first all kept losses

@@ -1,6 +1,6 @@
 -- Rows that were left out.
 use Rattle.std.specs.Prelude.{List, [], ◌∷◌}
-use Rattle.lra_linear.specs.Strain as strain
+use Rattle.lra_linear_spec.specs.Strain as strain
 
 -- the first of the losses is as told; nothing is told of later ones
 abbrev pub IfLost : (strain.Loss → Type 0) → List strain.Loss → Type 0

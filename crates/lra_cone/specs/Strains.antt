@@ -1,11 +1,11 @@
 -- What is told where a cone doesn't take a row in: the rows of the cone with which a number passes the range, or how
 -- many rays there would be.
 use Rattle.std.specs.Prelude.{◌≡◌, ℕ, suc, ◌⊎◌, neg_ℤ, ℤ, Bool, List, Err}
-use Rattle.lra_linear.specs.declared.Excess as E
-use Rattle.lra_linear.specs.Vectors.{product, negated}
-use Rattle.lra_linear.specs.Cones.{all_rows}
-use Rattle.lra_linear.specs.CheckedArithmetic.{checked_product, checked_blend}
-use Rattle.lra_linear.specs.ConeStrain.{PairAcross, HasTooMany}
+use Rattle.lra_linear_spec.specs.declared.Excess as E
+use Rattle.lra_linear_spec.specs.Vectors.{product, negated}
+use Rattle.lra_linear_spec.specs.Cones.{all_rows}
+use Rattle.lra_linear_spec.specs.CheckedArithmetic.{checked_product, checked_blend}
+use Rattle.lra_linear_spec.specs.ConeStrain.{PairAcross, HasTooMany}
 use Rattle.lra_steps.specs.declared.strained.Family.{Family}
 use Rattle.lra_steps.specs.declared.strained.Family.TheVariants.{Lines, Rays}
 use Rattle.lra_steps.specs.declared.strained.Member.{Member}

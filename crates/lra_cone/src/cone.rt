@@ -3,15 +3,15 @@
 ghost use Rattle.std.specs.Prelude.{◌≡◌, ◌≢◌, ◌++◌, ◌∷◌, [], suc, pos, ◌<◌, ◌≤◌, slice_index_or};
 ghost use Rattle.std.specs.Prelude.{Some, length, map, IfOk, IfErr, OnOk, OnErr};
 ghost use Rattle.std.specs.List.{All};
-ghost use Rattle.lra_linear.specs.Range.{InRange};
-ghost use Rattle.lra_linear.specs.Vectors.{product};
-ghost use Rattle.lra_linear.specs.Cones.{all_rows};
-ghost use Rattle.lra_linear.specs.Descriptions.{inequality};
-ghost use Rattle.lra_linear.specs.Polyhedra.{positivity};
-ghost use Rattle.lra_linear.specs.ConeStrain.{IsMet};
+ghost use Rattle.lra_linear_spec.specs.Range.{InRange};
+ghost use Rattle.lra_linear_spec.specs.Vectors.{product};
+ghost use Rattle.lra_linear_spec.specs.Cones.{all_rows};
+ghost use Rattle.lra_linear_spec.specs.Descriptions.{inequality};
+ghost use Rattle.lra_linear_spec.specs.Polyhedra.{positivity};
+ghost use Rattle.lra_linear_spec.specs.ConeStrain.{IsIntersection};
 ghost use Rattle.lra_sys.specs.Dimensions.{too_many_dimensions};
 ghost use Rattle.lra_sys.specs.Listed.{constraints};
-ghost use Rattle.lra_linear.specs.Kinds.{is_equality};
+ghost use Rattle.lra_linear_spec.specs.Kinds.{is_equality};
 ghost use Rattle.lra_cone.specs.Cones.{Shape, IsCone, IsTakenIn, saturation_of, saturation_rows, whole_space};
 ghost use Rattle.lra_steps.specs.Pairs.{IsCut};
 ghost use Rattle.lra_steps.specs.Steps.{IsLastAcross};
@@ -165,7 +165,7 @@ impl Cone {
         ensures dims { self.new.dims ≡ self.old.dims }
         ensures taken { OnOk result (self.new.taken ≡ self.old.taken ++
             record { row = row.now; equal = is_equality kind } ∷ []) }
-        ensures met { OnOk result (IsMet (suc self.old.dims) (is_equality kind) row.now
+        ensures met { OnOk result (IsIntersection (suc self.old.dims) (is_equality kind) row.now
             (all_rows self.old.lines self.old.rays) (all_rows self.new.lines self.new.rays)) }
         ensures strained { IfErr result (IsConeError self.old (is_equality kind) row.now) }
         ensures unchanged { OnErr result (self.new ≡ self.old) }

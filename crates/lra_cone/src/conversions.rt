@@ -1,10 +1,10 @@
 //! Rows taken in one by one; those that strain the cone are left out.
 
 ghost use Rattle.std.specs.Prelude.{◌≡◌, ◌++◌, ◌∷◌, [], List, suc, length, ◌<◌, IfOk, OnOk};
-ghost use Rattle.lra_linear.specs.Descriptions.{Given};
+ghost use Rattle.lra_linear_spec.specs.Descriptions.{LinearRow};
 ghost use Rattle.lra_sys.specs.Dimensions.{too_many_dimensions};
 ghost use Rattle.lra_sys.specs.Listed.{constraints};
-ghost use Rattle.lra_linear.specs.Kinds.{is_equality};
+ghost use Rattle.lra_linear_spec.specs.Kinds.{is_equality};
 ghost use Rattle.lra_cone.specs.Conversions.{IsConversion};
 
 use crate::cone::Cone;
@@ -29,7 +29,7 @@ impl Conversion {
         requires dims { self.old.kept.dims ≡ self.old.cone.dims }
         ensures dims { OnOk result (self.new.cone.dims ≡ self.old.cone.dims) }
         ensures kept_dims { OnOk result (self.new.kept.dims ≡ self.old.kept.dims) }
-        ensures taken { OnOk result ((first all : List Given) →
+        ensures taken { OnOk result ((first all : List LinearRow) →
             IsConversion first all (constraints self.old.kept) self.old.cone self.old.losses.items →
             IsConversion first (all ++ record { row = row.now; equal = is_equality kind } ∷ [])
             (constraints self.new.kept)

@@ -2,10 +2,10 @@
 
 ghost use Rattle.std.specs.Prelude.{◌≡◌, IfOk};
 ghost use Rattle.lra_sys.specs.Listed.{constraints};
-ghost use Rattle.lra_linear.specs.Kinds.{is_equality};
-ghost use Rattle.lra_linear.specs.Strain as told;
+ghost use Rattle.lra_linear_spec.specs.Kinds.{is_equality};
+ghost use Rattle.lra_linear_spec.specs.Strain as told;
 
-use lra_linear::Cause;
+use lra_linear_spec::Cause;
 use lra_row::Row;
 use lra_sys::{ConKind, ConSys};
 use std::alloc::{AllocError, Global};
@@ -19,9 +19,9 @@ pub struct GivenRow {
 }
 
 impl Model for GivenRow {
-    ghost use Rattle.lra_linear.specs.Descriptions.{Given};
+    ghost use Rattle.lra_linear_spec.specs.Descriptions.{LinearRow};
 
-    ghost Value = { Given };
+    ghost Value = { LinearRow };
 
     ghost view = { λ g. record { row = g.row; equal = g.equal } };
 }
@@ -44,7 +44,7 @@ pub struct Loss {
 }
 
 impl Model for Loss {
-    ghost use Rattle.lra_linear.specs.Strain as told;
+    ghost use Rattle.lra_linear_spec.specs.Strain as told;
 
     ghost Value = { told.Loss };
 

@@ -2,10 +2,10 @@
 
 ghost use Rattle.std.specs.Prelude.{◌≡◌, ◌≢◌, [], suc, map, ◌<◌, IfOk};
 ghost use Rattle.std.specs.List.{Contains};
-ghost use Rattle.lra_linear.specs.Descriptions.{Given, Con, Gen};
-ghost use Rattle.lra_linear.specs.OperationStrain.{with_positivity};
-ghost use Rattle.lra_linear.specs.Points.{IsWithin, SameSet};
-ghost use Rattle.lra_linear.specs.Strain.{Strains};
+ghost use Rattle.lra_linear_spec.specs.Descriptions.{LinearRow, Con, Gen};
+ghost use Rattle.lra_linear_spec.specs.OperationStrain.{with_positivity};
+ghost use Rattle.lra_linear_spec.specs.Points.{IsWithin, SameSet};
+ghost use Rattle.lra_linear_spec.specs.Strain.{Strains};
 ghost use Rattle.lra_sys.specs.Dimensions.{too_many_dimensions};
 ghost use Rattle.lra_sys.specs.Listed.{constraints, generators, FitKinds};
 ghost use Rattle.lra_descriptions.specs.ShownLists.{AreGeneratorsOf, AreConstraintsOf, dual_kind};
@@ -28,7 +28,8 @@ pub fn generate(alloc: Global, rows: &ConSys) -> Result<(ConSys, GenSys, Vec<Los
     ensures dims { IfOk result (λ r. (r.0.dims ≡ rows.now.dims) × (r.1.dims ≡ rows.now.dims)) }
     ensures points { IfOk result (λ r. SameSet rows.now.dims (Con (constraints r.0)) (Gen (generators r.1))) }
     ensures exact { IfOk result (λ r. r.2.items ≡ [] → constraints r.0 ≡ constraints rows.now) }
-    ensures among { IfOk result (λ r. (g : Given) → Contains (constraints r.0) g → Contains (constraints rows.now) g) }
+    ensures among { IfOk result
+        (λ r. (g : LinearRow) → Contains (constraints r.0) g → Contains (constraints rows.now) g) }
     ensures strain { IfOk result (λ r.
         IfLost (Strains (suc rows.now.dims) (with_positivity rows.now.dims (constraints rows.now))) r.2.items) }
     ensures canonical { IfOk result (λ r. AreGeneratorsOf rows.now.dims (constraints r.0) (generators r.1)) }

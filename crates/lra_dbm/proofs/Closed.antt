@@ -3,7 +3,7 @@ use Rattle.std.proofs.Common.{◌≡◌, ℕ, ◌+◌, ◌*◌, ◌-◌, ◌/◌
 use Rattle.std.specs.Prelude.{◌+ℤ◌, ◌-ℤ◌, neg_ℤ}
 use Rattle.std.proofs.lemmas.Int.{ints}
 use Rattle.std.proofs.lemmas.Bool.Decides.{eqb_tells}
-use Rattle.lra_linear.specs.Vectors.{entry}
+use Rattle.lra_linear_spec.specs.Vectors.{entry}
 use Rattle.lra_dbm.specs.Entry.{◌⊑◌, ◌⊞◌, half_of, within_range, passes_range}
 use Rattle.lra_dbm.specs.Tight.{Entries, opposite, signed_value, with_sign, IsStore}
 use Rattle.lra_dbm.proofs.Ways.{IsTightlyClosed, Below}

@@ -2,7 +2,7 @@
 use Rattle.std.proofs.Common.{◌≡◌, ℕ, ◌*◌, ◌<◌, ◌≤◌, inl, inr, ℤ, pos, Option, None, Some, refl, sym, ap, ◌∙◌, arith, Bool, true, false, cond}
 use Rattle.std.specs.Prelude.{◌+ℤ◌}
 use Rattle.std.proofs.lemmas.Int.{ints, clamps}
-use Rattle.lra_linear.specs.Range.{in_range}
+use Rattle.lra_linear_spec.specs.Range.{in_range}
 use Rattle.lra_dbm.specs.Entry.{◌⊑◌, ◌⊞◌, lesser, half_of, within_range}
 use Rattle.lra_dbm.specs.Tight.{opposite}
 use Rattle.lra_dbm.specs.Cells.{cell, entries, IsMatrix}

@@ -11,7 +11,7 @@ use Rattle.lra_dbm.specs.Tight.{Entries, opposite}
 use Rattle.lra_dbm.proofs.Ways.{Below}
 use Rattle.lra_dbm.specs.Cells.{Cells, cell, entries, entered, IsMatrix}
 use Rattle.lra_dbm.specs.Steps.{Progress, in_turn, lowered}
-use Rattle.lra_linear.specs.Range.{in_range}
+use Rattle.lra_linear_spec.specs.Range.{in_range}
 use Rattle.lra_dbm.proofs.EntryLemmas.{le_refl, le_same, le_none, le_trans, le_antisym, lesser_left, lesser_right, lesser_is, le_lesser}
 use Rattle.lra_dbm.proofs.Strong.{opposite_twice, half_bounds}
 use Rattle.lra_dbm.proofs.CellLemmas.{entries_inside, length-written, written_twin, written_same, written_cases}

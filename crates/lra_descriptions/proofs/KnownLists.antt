@@ -9,9 +9,9 @@ use Rattle.std.proofs.lemmas.List.{map-id, replicate-append-replicate, take_all,
 use Rattle.std.proofs.lemmas.List.Elements.{All-contains, All-from_get_or, All-push, All-take, Contains-append_right}
 use Rattle.std.proofs.lemmas.List.Sorted.{All-permutation, length_permutation}
 use Rattle.lra_bits.specs.Matrix.{Matrix}
-use Rattle.lra_linear.specs.RowOrder.{row_cmp}
-use Rattle.lra_linear.specs.declared.GenKind.TheVariants.{Point, Ray, Line}
-use Rattle.lra_linear.proofs.Membership.{contains_head, contains_tail}
+use Rattle.lra_linear_spec.specs.RowOrder.{row_cmp}
+use Rattle.lra_linear_spec.specs.declared.GenKind.TheVariants.{Point, Ray, Line}
+use Rattle.lra_linear_spec.proofs.Membership.{contains_head, contains_tail}
 use Rattle.lra_canon.specs.MarkedRows.{AreToldBy, bits_in, rows_in}
 use Rattle.lra_canon.specs.declared.order.Marked.{Marked}
 use Rattle.lra_canon.proofs.MarkedOrder.{row_at, rows_length, rows_shuffled, told_bits, told_shuffled}

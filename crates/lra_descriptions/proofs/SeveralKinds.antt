@@ -1,17 +1,17 @@
 -- Lists whose rows are of several kinds.
 use Rattle.std.proofs.Common.{◌≡◌, Bool, true, false, List, [], ◌∷◌, ◌++◌, length, map, replicate, refl, ap, ◌∙◌, arith, ℤ}
 use Rattle.std.specs.List.{Contains}
-use Rattle.lra_linear.specs.Vectors.{negated}
-use Rattle.lra_linear.specs.Cones.{both_ways, with_row}
-use Rattle.lra_linear.specs.Descriptions.{Given, given_as, system_of}
-use Rattle.lra_linear.proofs.Membership.{contains_head, contains_tail}
-use Rattle.lra_linear.specs.Kinds.{is_equality, is_line}
+use Rattle.lra_linear_spec.specs.Vectors.{negated}
+use Rattle.lra_linear_spec.specs.Cones.{both_ways, with_row}
+use Rattle.lra_linear_spec.specs.Descriptions.{LinearRow, rows_as, system_of}
+use Rattle.lra_linear_spec.proofs.Membership.{contains_head, contains_tail}
+use Rattle.lra_linear_spec.specs.Kinds.{is_equality, is_line}
 use Rattle.lra_sys.specs.Listed.{given_by, FitsKind, FitKinds}
-use Rattle.lra_linear.specs.declared.GenKind.{GenKind}
-use Rattle.lra_linear.specs.declared.GenKind.TheVariants.{Point, Ray, Line}
+use Rattle.lra_linear_spec.specs.declared.GenKind.{GenKind}
+use Rattle.lra_linear_spec.specs.declared.GenKind.TheVariants.{Point, Ray, Line}
 use Rattle.lra_descriptions.specs.ShownLists.{dual_kind}
 
-pub system_append : (xs ys : List Given) → system_of (xs ++ ys) ≡ system_of xs ++ system_of ys
+pub system_append : (xs ys : List LinearRow) → system_of (xs ++ ys) ≡ system_of xs ++ system_of ys
 system_append [] ys = refl
 system_append (x ∷ xs) ys = by_kind x.equal (system_append xs ys)
   where
@@ -19,11 +19,11 @@ system_append (x ∷ xs) ys = by_kind x.equal (system_append xs ys)
     by_kind true e = ap (λ (l : List (List ℤ)). x.row ∷ negated x.row ∷ l) e
     by_kind false e = ap (λ (l : List (List ℤ)). x.row ∷ l) e
 
-pub system_rays : (rows : List (List ℤ)) → system_of (given_as false rows) ≡ rows
+pub system_rays : (rows : List (List ℤ)) → system_of (rows_as false rows) ≡ rows
 system_rays [] = refl
 system_rays (r ∷ rows) = ap (λ (l : List (List ℤ)). r ∷ l) (system_rays rows)
 
-pub system_lines : (rows : List (List ℤ)) → system_of (given_as true rows) ≡ both_ways rows
+pub system_lines : (rows : List (List ℤ)) → system_of (rows_as true rows) ≡ both_ways rows
 system_lines [] = refl
 system_lines (r ∷ rows) = ap (λ (l : List (List ℤ)). r ∷ negated r ∷ l) (system_lines rows)
 
@@ -32,11 +32,11 @@ pub given_append : {K : Type 0} (equal : K → Bool) (xs ys : List (List ℤ)) (
 given_append equal [] ys [] ls n = refl
 given_append equal [] ys (k ∷ ks) ls n = absurd (omega (arith, n))
 given_append equal (x ∷ xs) ys [] ls n = absurd (omega (arith, n))
-given_append equal (x ∷ xs) ys (k ∷ ks) ls n = ap (λ (l : List Given). record { row = x; equal = equal k } ∷ l) (given_append equal xs ys ks ls (omega (arith, n)))
+given_append equal (x ∷ xs) ys (k ∷ ks) ls n = ap (λ (l : List LinearRow). record { row = x; equal = equal k } ∷ l) (given_append equal xs ys ks ls (omega (arith, n)))
 
-pub given_same : {K : Type 0} (equal : K → Bool) (rows : List (List ℤ)) (k : K) → given_by equal rows (replicate (length rows) k) ≡ given_as (equal k) rows
+pub given_same : {K : Type 0} (equal : K → Bool) (rows : List (List ℤ)) (k : K) → given_by equal rows (replicate (length rows) k) ≡ rows_as (equal k) rows
 given_same equal [] k = refl
-given_same equal (r ∷ rows) k = ap (λ (l : List Given). record { row = r; equal = equal k } ∷ l) (given_same equal rows k)
+given_same equal (r ∷ rows) k = ap (λ (l : List LinearRow). record { row = r; equal = equal k } ∷ l) (given_same equal rows k)
 
 pub fit_append : (xs ys : List (List ℤ)) (ks ls : List GenKind) → length xs ≡ length ks → FitKinds xs ks → FitKinds ys ls → FitKinds (xs ++ ys) (ks ++ ls)
 fit_append [] ys [] ls n f g = g
@@ -52,7 +52,7 @@ fit_same (r ∷ rows) k f = (f r (contains_head r rows), fit_same rows k (λ t m
 pub dual_given : (rows : List (List ℤ)) (kinds : List GenKind) → given_by is_equality rows (map dual_kind kinds) ≡ given_by is_line rows kinds
 dual_given [] kinds = refl
 dual_given (r ∷ rows) [] = refl
-dual_given (r ∷ rows) (k ∷ kinds) = ap (λ (l : List Given). record { row = r; equal = is_equality (dual_kind k) } ∷ l) (dual_given rows kinds) ∙
+dual_given (r ∷ rows) (k ∷ kinds) = ap (λ (l : List LinearRow). record { row = r; equal = is_equality (dual_kind k) } ∷ l) (dual_given rows kinds) ∙
     ap (λ (b : Bool). record { row = r; equal = b } ∷ given_by is_line rows kinds) (same k)
   where
     same : (k : GenKind) → is_equality (dual_kind k) ≡ is_line k

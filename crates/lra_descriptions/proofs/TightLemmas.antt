@@ -7,13 +7,13 @@ use Rattle.std.proofs.lemmas.List.{append-nil, ext_get_or, get_or-map, get_or_ap
 use Rattle.lra_bits.specs.Matrix.{Matrix}
 use Rattle.lra_bits.specs.TruthValues.{value_at}
 use Rattle.lra_bits.specs.Turned.{AreColumns}
-use Rattle.lra_linear.specs.Descriptions.{Given}
-use Rattle.lra_linear.specs.Kinds.{is_equality, is_line}
-use Rattle.lra_linear.specs.Vectors.{product}
-use Rattle.lra_linear.specs.declared.ConKind.{ConKind}
-use Rattle.lra_linear.specs.declared.GenKind.{GenKind}
-use Rattle.lra_linear.proofs.Membership.{contains_head, contains_tail}
-use Rattle.lra_linear.proofs.Products.{product_comm}
+use Rattle.lra_linear_spec.specs.Descriptions.{LinearRow}
+use Rattle.lra_linear_spec.specs.Kinds.{is_equality, is_line}
+use Rattle.lra_linear_spec.specs.Vectors.{product}
+use Rattle.lra_linear_spec.specs.declared.ConKind.{ConKind}
+use Rattle.lra_linear_spec.specs.declared.GenKind.{GenKind}
+use Rattle.lra_linear_spec.proofs.Membership.{contains_head, contains_tail}
+use Rattle.lra_linear_spec.proofs.Products.{product_comm}
 use Rattle.lra_sys.specs.Listed.{Listed, constraints, generators, given_by}
 use Rattle.lra_descriptions.specs.Tightness.{GoesWith, TellsFirst, saturated, saturation_of, tight_at, tight_matrix}
 
@@ -106,9 +106,9 @@ given_many equal [] kinds n = refl
 given_many equal (x ∷ rows) [] n = absurd (omega (arith, n))
 given_many equal (x ∷ rows) (k ∷ kinds) n = ap suc (given_many equal rows kinds (omega (arith, n)))
 
-rows_tight : {K : Type 0} (equal : K → Bool) (generators : List Given) (columns : List (List ℤ)) (rows : List (List ℤ)) (kinds : List K) → length kinds ≡
+rows_tight : {K : Type 0} (equal : K → Bool) (generators : List LinearRow) (columns : List (List ℤ)) (rows : List (List ℤ)) (kinds : List K) → length kinds ≡
     length rows →
-    ((r : List ℤ) → tight_at columns r ≡ saturated generators r) → map (tight_at columns) rows ≡ map (λ (s : Given). saturated generators s.row)
+    ((r : List ℤ) → tight_at columns r ≡ saturated generators r) → map (tight_at columns) rows ≡ map (λ (s : LinearRow). saturated generators s.row)
     (given_by equal rows kinds)
 rows_tight equal generators columns [] kinds n h = refl
 rows_tight equal generators columns (x ∷ rows) [] n h = absurd (omega (arith, n))

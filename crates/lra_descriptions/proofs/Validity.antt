@@ -5,12 +5,12 @@ use Rattle.std.specs.List.{All, Contains}
 use Rattle.std.proofs.lemmas.List.{get_or_default}
 use Rattle.std.proofs.lemmas.List.Elements.{All-contains, Contains-append_cases, Contains-append_left, Contains-append_right}
 use Rattle.std.proofs.Math.Seq.{take_all, take-suc}
-use Rattle.lra_linear.specs.CheckedArithmetic.{checked_product}
-use Rattle.lra_linear.specs.Vectors.{product}
-use Rattle.lra_linear.specs.Descriptions.{Given, HoldsWith}
-use Rattle.lra_linear.proofs.Membership.{all_from, contains_cases, contains_head, contains_none, contains_tail, each_one}
-use Rattle.lra_linear.specs.declared.GenKind.{GenKind}
-use Rattle.lra_linear.specs.declared.GenKind.TheVariants.{Point}
+use Rattle.lra_linear_spec.specs.CheckedArithmetic.{checked_product}
+use Rattle.lra_linear_spec.specs.Vectors.{product}
+use Rattle.lra_linear_spec.specs.Descriptions.{LinearRow, HoldsWith}
+use Rattle.lra_linear_spec.proofs.Membership.{all_from, contains_cases, contains_head, contains_none, contains_tail, each_one}
+use Rattle.lra_linear_spec.specs.declared.GenKind.{GenKind}
+use Rattle.lra_linear_spec.specs.declared.GenKind.TheVariants.{Point}
 use Rattle.lra_sys.specs.Listed.{given_by}
 use Rattle.lra_sys.proofs.GivenRows.{given_pushed, all_given}
 use Rattle.lra_descriptions.specs.ShownLists.{IsSeenValid}
@@ -25,20 +25,20 @@ pub valid_next : {K : Type 0} (equal : K → Bool) (e : Bool) (r : List ℤ) (ro
     IsOk (checked_product r g) → HoldsWith e p → HoldsWith (equal (get_or kinds i d)) p → IsSeenValid e r (given_by equal (take i rows) (take i kinds)) →
     IsSeenValid e r (given_by equal (take (i + 1) rows) (take (i + 1) kinds))
 valid_next equal e r rows kinds i own eo n h g d p eg ep ok first second before x m =
-    let here : Given = record { row = g; equal = equal (get_or kinds i d) } in
+    let here : LinearRow = record { row = g; equal = equal (get_or kinds i d) } in
     let list = given_by equal (take i rows) (take i kinds) in
     let more = given_pushed equal rows kinds i own eo n h list (list ++ here ∷ []) here g d eg refl refl refl in
-    elim (Contains-append_cases list (here ∷ []) x (subst (λ (l : List Given). Contains l x) (sym more) m)) [
+    elim (Contains-append_cases list (here ∷ []) x (subst (λ (l : List LinearRow). Contains l x) (sym more) m)) [
       | inl j ↦ before x j
       | inr j ↦ elim (contains_cases here x [] j) [
-        | inl q ↦ subst (λ (y : Given). IsOk (checked_product r y.row) × HoldsWith e (product r y.row) × HoldsWith y.equal (product r y.row)) q
+        | inl q ↦ subst (λ (y : LinearRow). IsOk (checked_product r y.row) × HoldsWith e (product r y.row) × HoldsWith y.equal (product r y.row)) q
             (ok, subst (HoldsWith e) ep first, subst (HoldsWith (equal (get_or kinds i d))) ep second)
         | inr z ↦ absurd (contains_none x z)
       ]
     ]
 
-pub valid_none : (e : Bool) (r : List ℤ) (list : List Given) → list ≡ [] → IsSeenValid e r list
-valid_none e r list el g m = absurd (contains_none g (subst (λ (l : List Given). Contains l g) el m))
+pub valid_none : (e : Bool) (r : List ℤ) (list : List LinearRow) → list ≡ [] → IsSeenValid e r list
+valid_none e r list el g m = absurd (contains_none g (subst (λ (l : List LinearRow). Contains l g) el m))
 
 pub valid_all : {K : Type 0} (equal : K → Bool) (e : Bool) (r : List ℤ) (rows own : List (List ℤ)) (kinds own_kinds : List K) (i : ℕ) → rows ≡ own → kinds ≡ own_kinds → length kinds ≡ length own →
     i ≡ length rows → IsSeenValid e r (given_by equal (take i rows) (take i kinds)) → IsSeenValid e r (given_by equal own own_kinds)
@@ -52,8 +52,8 @@ given_there : {K : Type 0} (equal : K → Bool) (rows : List (List ℤ)) (kinds 
 given_there equal [] kinds i g d n h e = absurd (omega (arith, h))
 given_there equal (r ∷ rows) [] i g d n h e = absurd (omega (arith, n))
 given_there equal (r ∷ rows) (k ∷ kinds) zero g d n h e = subst (λ (x : List ℤ). Contains (given_by equal (r ∷ rows) (k ∷ kinds)) (record { row = x; equal = equal k })) (sym e)
-    (contains_head (let x : Given = record { row = r; equal = equal k } in x) (given_by equal rows kinds))
-given_there equal (r ∷ rows) (k ∷ kinds) (suc i) g d n h e = contains_tail (let x : Given = record { row = r; equal = equal k } in x) (record { row = g; equal = equal (get_or kinds i d) })
+    (contains_head (let x : LinearRow = record { row = r; equal = equal k } in x) (given_by equal rows kinds))
+given_there equal (r ∷ rows) (k ∷ kinds) (suc i) g d n h e = contains_tail (let x : LinearRow = record { row = r; equal = equal k } in x) (record { row = g; equal = equal (get_or kinds i d) })
     (given_by equal rows kinds) (given_there equal rows kinds i g d (omega (arith, n)) (omega (arith, h)) e)
 
 -- where one of the list passes the range, or isn't as a kind asks, the row isn't seen to be valid
@@ -85,7 +85,7 @@ passes_not f (Ok x) e o = cc
 passes_not f (Err g) e o = cc
 
 -- ---- rows that are gone through: those kept are the ones that are seen to be valid
-abbrev pub AreSeen : Bool → List Given → List (List ℤ) → List (List ℤ) → Type 0
+abbrev pub AreSeen : Bool → List LinearRow → List (List ℤ) → List (List ℤ) → Type 0
 AreSeen e list rows kept = (r : List ℤ) → (Contains kept r ↔ (Contains rows r × IsSeenValid e r list))
 
 one_more_gone : (rows : List (List ℤ)) (i : ℕ) (g : List ℤ) → i < length rows → g ≡ get_or rows i g → take (i + 1) rows ≡ take i rows ++ g ∷ []
@@ -93,7 +93,7 @@ one_more_gone rows i g h eg =
     let next : i + 1 ≡ suc i = omega arith in
     ap (λ (j : ℕ). take j rows) next ∙ take-suc rows i g h ∙ ap (λ (x : List ℤ). take i rows ++ x ∷ []) (sym eg)
 
-pub seen_kept : (e : Bool) (list : List Given) (rows kept after : List (List ℤ)) (i : ℕ) (g copied : List ℤ) → i < length rows → g ≡ get_or rows i g → IsSeenValid e g list →
+pub seen_kept : (e : Bool) (list : List LinearRow) (rows kept after : List (List ℤ)) (i : ℕ) (g copied : List ℤ) → i < length rows → g ≡ get_or rows i g → IsSeenValid e g list →
     copied ≡ g → after ≡ kept ++ copied ∷ [] →
     AreSeen e list (take i rows) kept → AreSeen e list (take (i + 1) rows) after
 seen_kept e list rows kept after i g copied h eg valid ec ea before r =
@@ -111,7 +111,7 @@ seen_kept e list rows kept after i g copied h eg valid ec ea before r =
           ]),
     )
 
-pub seen_passed : (e : Bool) (list : List Given) (rows kept after : List (List ℤ)) (i : ℕ) (g : List ℤ) → i < length rows → g ≡ get_or rows i g → ¬ IsSeenValid e g list → after ≡ kept →
+pub seen_passed : (e : Bool) (list : List LinearRow) (rows kept after : List (List ℤ)) (i : ℕ) (g : List ℤ) → i < length rows → g ≡ get_or rows i g → ¬ IsSeenValid e g list → after ≡ kept →
     AreSeen e list (take i rows) kept → AreSeen e list (take (i + 1) rows) after
 seen_passed e list rows kept after i g h eg out ea before r =
     let gone = one_more_gone rows i g h eg in (
@@ -124,15 +124,15 @@ seen_passed e list rows kept after i g h eg out ea before r =
           ]),
     )
 
-pub seen_none : (e : Bool) (list : List Given) (rows kept : List (List ℤ)) → kept ≡ [] → AreSeen e list (take 0 rows) kept
+pub seen_none : (e : Bool) (list : List LinearRow) (rows kept : List (List ℤ)) → kept ≡ [] → AreSeen e list (take 0 rows) kept
 seen_none e list rows kept ek r = (
   λ has. absurd (contains_none r (subst (λ (l : List (List ℤ)). Contains l r) ek has)),
   λ both. absurd (contains_none r both.0),
 )
 
-pub seen_all : (e : Bool) (list : List Given) (rows kept : List (List ℤ)) (i : ℕ) → length rows ≤ i → AreSeen e list (take i rows) kept → AreSeen e list rows kept
+pub seen_all : (e : Bool) (list : List LinearRow) (rows kept : List (List ℤ)) (i : ℕ) → length rows ≤ i → AreSeen e list (take i rows) kept → AreSeen e list rows kept
 seen_all e list rows kept i h told = subst (λ (l : List (List ℤ)). AreSeen e list l kept) (take_all i rows h) told
 
 -- those kept have what each of the rows has
-pub kept_widths : (w : ℕ) (e : Bool) (list : List Given) (rows kept : List (List ℤ)) → All (λ r. length r ≡ w) rows → AreSeen e list rows kept → All (λ r. length r ≡ w) kept
+pub kept_widths : (w : ℕ) (e : Bool) (list : List LinearRow) (rows kept : List (List ℤ)) → All (λ r. length r ≡ w) rows → AreSeen e list rows kept → All (λ r. length r ≡ w) kept
 kept_widths w e list rows kept all told = all_from (λ (r : List ℤ). length r ≡ w) kept (λ r has. All-contains (λ (x : List ℤ). length x ≡ w) rows r all ((told r).0 has).0)

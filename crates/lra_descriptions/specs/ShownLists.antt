@@ -6,27 +6,27 @@ use Rattle.std.specs.List.{Contains}
 use Rattle.std.specs.List.Sorted.{IsPermutation, IsSorted}
 use Rattle.std.specs.Ordering.{is_eq}
 use Rattle.lra_sys.specs.Listed.{Listed}
-use Rattle.lra_linear.specs.declared.ConKind.{ConKind}
-use Rattle.lra_linear.specs.declared.ConKind.TheVariants.{Ge, Eq}
-use Rattle.lra_linear.specs.declared.GenKind.{GenKind}
-use Rattle.lra_linear.specs.declared.GenKind.TheVariants.{Point, Ray, Line}
-use Rattle.lra_linear.specs.CheckedArithmetic.{checked_product}
-use Rattle.lra_linear.specs.Vectors.{entry, product}
-use Rattle.lra_linear.specs.Cones.{all_rows, AreDual}
-use Rattle.lra_linear.specs.Canonical.{IsCanonical}
-use Rattle.lra_linear.specs.RowOrder.{row_cmp, inequality_cmp, Ascends}
-use Rattle.lra_linear.specs.Points.{IsEmptySet}
-use Rattle.lra_linear.specs.Descriptions.{Given, inequality, given_as, system_of, HoldsWith, Con, Gen}
-use Rattle.lra_linear.specs.Polyhedra.{positivity, falsity}
+use Rattle.lra_linear_spec.specs.declared.ConKind.{ConKind}
+use Rattle.lra_linear_spec.specs.declared.ConKind.TheVariants.{Ge, Eq}
+use Rattle.lra_linear_spec.specs.declared.GenKind.{GenKind}
+use Rattle.lra_linear_spec.specs.declared.GenKind.TheVariants.{Point, Ray, Line}
+use Rattle.lra_linear_spec.specs.CheckedArithmetic.{checked_product}
+use Rattle.lra_linear_spec.specs.Vectors.{entry, product}
+use Rattle.lra_linear_spec.specs.Cones.{all_rows, AreDual}
+use Rattle.lra_linear_spec.specs.Canonical.{IsCanonical}
+use Rattle.lra_linear_spec.specs.RowOrder.{row_cmp, inequality_cmp, Ascends}
+use Rattle.lra_linear_spec.specs.Points.{IsEmptySet}
+use Rattle.lra_linear_spec.specs.Descriptions.{LinearRow, inequality, rows_as, system_of, HoldsWith, Con, Gen}
+use Rattle.lra_linear_spec.specs.Polyhedra.{positivity, falsity}
 
 -- ---- generators, as they are shown
 -- Points, rays and lines, each in order, that are the canonical description of the solutions of the system; column 0 of
 -- none of these is below 0, and of some is above 0.
-pub record HasGenerators (n : ℕ) (system : List (List ℤ)) (generators : List Given) : Type 0 where
+pub record HasGenerators (n : ℕ) (system : List (List ℤ)) (generators : List LinearRow) : Type 0 where
   pub points : List (List ℤ)
   pub rays : List (List ℤ)
   pub lines : List (List ℤ)
-  pub are : generators ≡ given_as false points ++ given_as false rays ++ given_as true lines
+  pub are : generators ≡ rows_as false points ++ rows_as false rays ++ rows_as true lines
   pub dual : AreDual (suc n) system (all_rows lines (points ++ rays))
   pub canonical : IsCanonical lines (points ++ rays)
   pub points_ascend : Ascends row_cmp points
@@ -36,7 +36,7 @@ pub record HasGenerators (n : ℕ) (system : List (List ℤ)) (generators : List
   pub some_point : points ≢ []
 
 -- the canonical generators of the constraints; none where these have no point
-abbrev pub AreGeneratorsOf : ℕ → List Given → List Given → Type 0
+abbrev pub AreGeneratorsOf : ℕ → List LinearRow → List LinearRow → Type 0
 AreGeneratorsOf n rows generators =
     ((generators ≡ []) × IsEmptySet n (Con rows))
     ⊎ HasGenerators n (system_of (inequality (positivity n) ∷ rows)) generators
@@ -44,11 +44,11 @@ AreGeneratorsOf n rows generators =
 -- ---- constraints, as they are shown
 -- Equalities and inequalities, each in order. The facets are the inequalities, with the positivity row where that isn't
 -- redundant; with the equalities they are the canonical description of what is valid on the generators.
-pub record HasConstraints (n : ℕ) (generators : List (List ℤ)) (rows : List Given) : Type 0 where
+pub record HasConstraints (n : ℕ) (generators : List (List ℤ)) (rows : List LinearRow) : Type 0 where
   pub equalities : List (List ℤ)
   pub inequalities : List (List ℤ)
   pub facets : List (List ℤ)
-  pub are : rows ≡ given_as true equalities ++ given_as false inequalities
+  pub are : rows ≡ rows_as true equalities ++ rows_as false inequalities
   pub shown : (r : List ℤ) → Contains inequalities r → Contains facets r × (r ≢ positivity n)
   pub all_shown : (r : List ℤ) → Contains facets r → (r ≡ positivity n) ⊎ Contains inequalities r
   pub dual : AreDual (suc n) generators (all_rows equalities facets)
@@ -56,7 +56,7 @@ pub record HasConstraints (n : ℕ) (generators : List (List ℤ)) (rows : List 
   pub inequalities_ascend : Ascends inequality_cmp inequalities
 
 -- the canonical constraints of the generators; -1 >= 0 where these have no point
-abbrev pub AreConstraintsOf : ℕ → List Given → List Given → Type 0
+abbrev pub AreConstraintsOf : ℕ → List LinearRow → List LinearRow → Type 0
 AreConstraintsOf n generators rows =
     ((rows ≡ inequality (falsity n) ∷ []) × IsEmptySet n (Gen generators))
     ⊎ ((¬ (IsEmptySet n (Gen generators))) × HasConstraints n (system_of generators) rows)
@@ -111,17 +111,17 @@ dual_kind Ray = Ge
 dual_kind Line = Eq
 
 -- the product with each is as both kinds ask
-abbrev pub IsValid : Bool → List ℤ → List Given → Type 0
+abbrev pub IsValid : Bool → List ℤ → List LinearRow → Type 0
 IsValid equal r list =
-    (g : Given) → Contains list g → HoldsWith equal (product r g.row) × HoldsWith g.equal (product r g.row)
+    (g : LinearRow) → Contains list g → HoldsWith equal (product r g.row) × HoldsWith g.equal (product r g.row)
 
 -- and with each product in the range
-abbrev pub IsSeenValid : Bool → List ℤ → List Given → Type 0
-IsSeenValid equal r list = (g : Given) → Contains list g
+abbrev pub IsSeenValid : Bool → List ℤ → List LinearRow → Type 0
+IsSeenValid equal r list = (g : LinearRow) → Contains list g
     → IsOk (checked_product r g.row) × HoldsWith equal (product r g.row) × HoldsWith g.equal (product r g.row)
 
 -- of these lines and rays those that are seen to be valid on each of the rows
-pub record ShowsValid (n : ℕ) (all_lines all_rays : List (List ℤ)) (given : List Given) (list : Listed ConKind)
+pub record ShowsValid (n : ℕ) (all_lines all_rays : List (List ℤ)) (given : List LinearRow) (list : Listed ConKind)
     : Type 0 where
   pub lines : List (List ℤ)
   pub rays : List (List ℤ)

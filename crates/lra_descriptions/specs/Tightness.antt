@@ -3,8 +3,8 @@ use Rattle.std.specs.Prelude.{◌≡◌, ◌<◌, ℕ, ℤ, pos, Bool, true, Lis
 use Rattle.std.specs.List.{Contains}
 use Rattle.std.specs.Ordering.{int_eq}
 use Rattle.lra_bits.specs.Matrix.{Matrix}
-use Rattle.lra_linear.specs.Descriptions.{Given}
-use Rattle.lra_linear.specs.Vectors.{product}
+use Rattle.lra_linear_spec.specs.Descriptions.{LinearRow}
+use Rattle.lra_linear_spec.specs.Vectors.{product}
 
 -- for each of the columns, whether the row has product 0 with it
 abbrev pub tight_at : List (List ℤ) → List ℤ → List Bool
@@ -15,11 +15,11 @@ abbrev pub tight_matrix : List (List ℤ) → List (List ℤ) → Matrix
 tight_matrix columns rows = record { width = length columns; rows = map (tight_at columns) rows }
 
 -- for each of the generators, whether the row has product 0 with it
-abbrev pub saturated : List Given → List ℤ → List Bool
+abbrev pub saturated : List LinearRow → List ℤ → List Bool
 saturated generators r = map (λ g. int_eq (product r g.row) (pos 0)) generators
 
 -- a row for each of the constraints, with a column for each of the generators: true exactly where their product is 0
-abbrev pub saturation_of : List Given → List Given → Matrix
+abbrev pub saturation_of : List LinearRow → List LinearRow → Matrix
 saturation_of rows generators = record {
   width = length generators;
   rows = map (λ r. saturated generators r.row) rows;

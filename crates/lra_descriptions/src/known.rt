@@ -3,8 +3,8 @@
 ghost use Rattle.std.specs.Prelude.{◌≡◌, ◌++◌, ◌∷◌, [], ◌<◌, ◌≤◌, suc, length, replicate, IfOk, OnOk};
 ghost use Rattle.std.specs.Prelude.{ℕ, ℤ, Bool, true, cond, List};
 ghost use Rattle.std.specs.List.{All};
-ghost use Rattle.lra_linear.specs.Polyhedra.{positivity};
-ghost use Rattle.lra_linear.specs.declared.GenKind.TheVariants.{Point, Ray, Line};
+ghost use Rattle.lra_linear_spec.specs.Polyhedra.{positivity};
+ghost use Rattle.lra_linear_spec.specs.declared.GenKind.TheVariants.{Point, Ray, Line};
 ghost use Rattle.lra_sys.specs.Dimensions.{too_many_dimensions};
 ghost use Rattle.lra_canon.specs.MarkedRows.{bits_in, rows_in, AreToldBy};
 ghost use Rattle.lra_descriptions.specs.ShownLists.{points_of, directions_of, without};

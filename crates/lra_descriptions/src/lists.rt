@@ -2,13 +2,13 @@
 
 ghost use Rattle.std.specs.Prelude.{◌≡◌, ◌↔◌, ◌∷◌, [], ℤ, List, suc, length, map, ◌<◌, IsTrue, IsFalse, IfOk};
 ghost use Rattle.std.specs.List.{All, Contains};
-ghost use Rattle.lra_linear.specs.OperationStrain.{unit_row};
-ghost use Rattle.lra_linear.specs.Vectors.{negated};
+ghost use Rattle.lra_linear_spec.specs.OperationStrain.{unit_row};
+ghost use Rattle.lra_linear_spec.specs.Vectors.{negated};
 ghost use Rattle.lra_sys.specs.Dimensions.{too_many_dimensions};
 ghost use Rattle.lra_sys.specs.Listed.{constraints};
-ghost use Rattle.lra_linear.specs.Kinds.{is_equality};
-ghost use Rattle.lra_linear.specs.declared.ConKind.TheVariants.{Ge};
-ghost use Rattle.lra_linear.specs.declared.GenKind.TheVariants.{Point};
+ghost use Rattle.lra_linear_spec.specs.Kinds.{is_equality};
+ghost use Rattle.lra_linear_spec.specs.declared.ConKind.TheVariants.{Ge};
+ghost use Rattle.lra_linear_spec.specs.declared.GenKind.TheVariants.{Point};
 ghost use Rattle.lra_descriptions.specs.ShownLists.{dual_kind, IsSeenValid};
 
 use lra_row::Row;

@@ -4,13 +4,13 @@ ghost use Rattle.std.specs.Prelude.{◌≡◌, ◌++◌, ◌<◌, suc, pos, int_
 ghost use Rattle.std.specs.List.{All};
 ghost use Rattle.std.specs.List.Sorted.{IsPermutation, IsSorted};
 ghost use Rattle.std.specs.Ordering.{is_eq};
-ghost use Rattle.lra_linear.specs.Vectors.{entry};
-ghost use Rattle.lra_linear.specs.RowOrder.{row_cmp};
-ghost use Rattle.lra_linear.specs.Polyhedra.{positivity};
+ghost use Rattle.lra_linear_spec.specs.Vectors.{entry};
+ghost use Rattle.lra_linear_spec.specs.RowOrder.{row_cmp};
+ghost use Rattle.lra_linear_spec.specs.Polyhedra.{positivity};
 ghost use Rattle.lra_descriptions.specs.ShownLists.{points_of, directions_of, without, ShowsGenerators};
 ghost use Rattle.lra_descriptions.specs.ShownLists.{ShowsConstraints};
 ghost use Rattle.lra_sys.specs.Dimensions.{too_many_dimensions};
-ghost use Rattle.lra_linear.specs.declared.GenKind.TheVariants.{Point, Ray, Line};
+ghost use Rattle.lra_linear_spec.specs.declared.GenKind.TheVariants.{Point, Ray, Line};
 
 use lra_canon::{Order, canonical_order};
 use lra_row::Row;

@@ -2,7 +2,7 @@
 use Rattle.std.specs.Prelude.{pos, negsuc, [], ◌∷◌, refl}
 use Rattle.std.proofs.Common.{inr, inl, lit<}
 use Rattle.lra_domain.specs.Actions.{Leads, assign, embed, remove_last}
-use Rattle.lra_linear.specs.Descriptions.{Holds, equality}
+use Rattle.lra_linear_spec.specs.Descriptions.{Holds, equality}
 use Rattle.lra_domain.specs.Rank.{RankBelow}
 
 -- y = x + 1 at x = 4, y = 0

@@ -3,7 +3,7 @@
 use Rattle.std.specs.Prelude.{◌≡◌, ◌≢◌, ◌↔◌, ◌≤◌, ℕ, ℤ, List, [], length, Option, None}
 use Rattle.lra_lin.specs.Form.{Form, form_value}
 use Rattle.lra_sys.specs.Listed.{Listed}
-use Rattle.lra_linear.specs.declared.ConKind.{ConKind}
+use Rattle.lra_linear_spec.specs.declared.ConKind.{ConKind}
 use Rattle.lra_domain.specs.Actions.{Action, Leads, Within}
 use Rattle.lra_domain.specs.Bounds.{IsBetween}
 use Rattle.lra_domain.specs.declared.Mode.{Mode}

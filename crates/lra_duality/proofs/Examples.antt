@@ -2,28 +2,28 @@
 use Rattle.std.proofs.Common.{◌≡◌, All, List, [], ◌∷◌, pos, ℤ, refl, ◌-◌, ◌^◌, false, true, inl, inr, arith}
 use Rattle.std.proofs.lemmas.Int.{ints}
 use Rattle.std.proofs.lemmas.List.Elements.{All-nil, All-cons}
-use Rattle.lra_linear.specs.Descriptions.{Given, generator, line, inequality, equality}
-use Rattle.lra_linear.proofs.LowestTerms.{primitive_at}
+use Rattle.lra_linear_spec.specs.Descriptions.{LinearRow, generator, line, inequality, equality}
+use Rattle.lra_linear_spec.proofs.LowestTerms.{primitive_at}
 use Rattle.lra_duality.specs.declared.inclusion.Inclusion.TheVariants.{No, Wide}
 use Rattle.lra_duality.specs.declared.maximum.Maximum.TheVariants.{At, Unbounded}
 use Rattle.lra_duality.specs.Inclusions.{Meets, MeetsAll, IsInclusion}
 use Rattle.lra_duality.specs.Maxima.{DoesNotImprove, IsAtMost, IsBelow, IsMaximum, OfPoint, StaysInRange}
 
 -- the points with x2 from 0 to 1
-abbrev strip_generators : List Given
+abbrev strip_generators : List LinearRow
 strip_generators = generator (pos 1 ∷ pos 0 ∷ pos 0 ∷ []) ∷ generator (pos 1 ∷ pos 0 ∷ pos 1 ∷ []) ∷
     line (pos 0 ∷ pos 1 ∷ pos 0 ∷ []) ∷ []
 
-abbrev level : Given
+abbrev level : LinearRow
 level = equality (pos 0 ∷ pos 0 ∷ pos 1 ∷ [])
 
-abbrev low : Given
+abbrev low : LinearRow
 low = generator (pos 1 ∷ pos 0 ∷ pos 0 ∷ [])
 
-abbrev high : Given
+abbrev high : LinearRow
 high = generator (pos 1 ∷ pos 0 ∷ pos 1 ∷ [])
 
-abbrev along : Given
+abbrev along : LinearRow
 along = line (pos 0 ∷ pos 1 ∷ pos 0 ∷ [])
 
 one_not_zero : (let z : ℤ = pos 1 in z) ≡ pos 0 → ⊥
@@ -56,7 +56,7 @@ strip_not_in_line = record {
 }
 
 -- a line is not in a half plane, though its point is
-abbrev right_side : Given
+abbrev right_side : LinearRow
 right_side = inequality (pos 0 ∷ pos 1 ∷ pos 0 ∷ [])
 
 pub line_not_in_half : IsInclusion (right_side ∷ [])
@@ -86,10 +86,10 @@ line_not_in_half = record {
 }
 
 -- the first pair whose product passes the range decides: 2 times the greatest number
-abbrev twice : Given
+abbrev twice : LinearRow
 twice = inequality (pos 0 ∷ pos 2 ∷ pos 0 ∷ [])
 
-abbrev far_point : Given
+abbrev far_point : LinearRow
 far_point = generator (pos 1 ∷ pos (2 ^ 127 - 1) ∷ pos 0 ∷ [])
 
 pub far_point_passes : IsInclusion (twice ∷ []) (far_point ∷ []) (Wide 0 0)
@@ -112,10 +112,10 @@ far_point_passes = record {
 }
 
 -- ---- on the points with x2 from 0 to 1, x1 has no greatest value: it changes along the line
-all_two : (P : Given → Type 0) (a b : Given) → P a → P b → All P (a ∷ b ∷ [])
+all_two : (P : LinearRow → Type 0) (a b : LinearRow) → P a → P b → All P (a ∷ b ∷ [])
 all_two P a b h k = All-cons P a (b ∷ []) h (All-cons P b [] k (All-nil P))
 
-all_three : (P : Given → Type 0) (a b c : Given) → P a → P b → P c → All P (a ∷ b ∷ c ∷ [])
+all_three : (P : LinearRow → Type 0) (a b c : LinearRow) → P a → P b → P c → All P (a ∷ b ∷ c ∷ [])
 all_three P a b c h k l = All-cons P a (b ∷ c ∷ []) h (all_two P b c k l)
 
 abbrev first_coordinate : List ℤ

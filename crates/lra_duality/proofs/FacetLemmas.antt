@@ -5,21 +5,21 @@ use Rattle.std.specs.Ordering.{int_eq}
 use Rattle.std.proofs.lemmas.List.{get_or-map, length-map, length-append}
 use Rattle.lra_bits.specs.Matrix.{Matrix}
 use Rattle.lra_bits.specs.TruthValues.{both, IsSubset}
-use Rattle.lra_linear.specs.ConeStrain.{row_limit}
-use Rattle.lra_linear.specs.Descriptions.{Given, inequality, lines_of, rays_of, system_of}
-use Rattle.lra_linear.specs.Kinds.{is_equality}
-use Rattle.lra_linear.specs.Polyhedra.{HasPoint, IsPolyhedron, Polyhedron, positivity}
-use Rattle.lra_linear.proofs.Saturation.{TightToo}
-use Rattle.lra_linear.specs.Vectors.{entry, product}
-use Rattle.lra_linear.specs.declared.ConKind.{ConKind}
-use Rattle.lra_linear.specs.declared.ConKind.TheVariants.{Ge}
-use Rattle.lra_linear.proofs.Products.{product_comm}
+use Rattle.lra_linear_spec.specs.ConeStrain.{row_limit}
+use Rattle.lra_linear_spec.specs.Descriptions.{LinearRow, inequality, lines_of, rays_of, system_of}
+use Rattle.lra_linear_spec.specs.Kinds.{is_equality}
+use Rattle.lra_linear_spec.specs.Polyhedra.{HasPoint, IsPolyhedron, Polyhedron, positivity}
+use Rattle.lra_linear_spec.proofs.Saturation.{TightToo}
+use Rattle.lra_linear_spec.specs.Vectors.{entry, product}
+use Rattle.lra_linear_spec.specs.declared.ConKind.{ConKind}
+use Rattle.lra_linear_spec.specs.declared.ConKind.TheVariants.{Ge}
+use Rattle.lra_linear_spec.proofs.Products.{product_comm}
 use Rattle.lra_cone.specs.Cones.{IsCone, Shape, saturation_of as by_rays, saturation_rows, tight_values}
 use Rattle.lra_descriptions.specs.ShownLists.{dual_kind}
 use Rattle.lra_descriptions.proofs.SeveralKinds.{dual_given}
 use Rattle.lra_cone.proofs.TightRows.{rows_append, subset_from, subset_said}
 use Rattle.lra_sys.specs.Listed.{Listed, constraints, generators, given_by}
-use Rattle.lra_linear.specs.declared.GenKind.{GenKind}
+use Rattle.lra_linear_spec.specs.declared.GenKind.{GenKind}
 use Rattle.lra_duality.specs.Saturations.{IsCovered, IsCoveredAt, saturated, saturation_of}
 use Rattle.lra_sys.proofs.FirstMembers.{front}
 use Rattle.lra_duality.proofs.KeptCones.{fewer_rays, with_some}
@@ -28,7 +28,7 @@ use Rattle.lra_duality.proofs.SaturationLemmas.{given_length}
 use Rattle.lra_duality.proofs.StartLemmas.{rays_more, rays_same}
 
 -- ---- tight rows by values
-values_are : (generators : List Given) (r : List ℤ) → saturated generators r ≡ tight_values generators r
+values_are : (generators : List LinearRow) (r : List ℤ) → saturated generators r ≡ tight_values generators r
 values_are [] r = refl
 values_are (g ∷ generators) r =
     ap (λ (z : ℤ). int_eq z (pos 0) ∷ saturated generators r) (product_comm r g.row) ∙ ap (λ (l : List Bool). int_eq (product g.row r) (pos 0) ∷ l) (values_are generators r)
@@ -41,41 +41,43 @@ both_same : (values : List Bool) → both values values ≡ values
 both_same [] = refl
 both_same (b ∷ values) = ap (λ (x : Bool). x ∷ both values values) (both_once b) ∙ ap (λ (l : List Bool). b ∷ l) (both_same values)
 
-values_said : (generators : List Given) (u r : List ℤ) → IsSubset (saturated generators u) (saturated generators r) → TightToo (system_of generators) (entry u) (entry r)
+values_said : (generators : List LinearRow) (u r : List ℤ) → IsSubset (saturated generators u) (saturated generators r) → TightToo (system_of generators) (entry u) (entry r)
 values_said generators u r h s m e =
     subset_said generators u u r
     (subst (λ (l : List Bool). IsSubset l (tight_values generators r)) (sym (both_same (tight_values generators u)))
     (subst (λ (l : List Bool). IsSubset (tight_values generators u) l) (values_are generators r) (subst (λ (l : List Bool). IsSubset l (saturated generators r)) (values_are generators u) h)))
     s m e e
 
-values_from : (generators : List Given) (u r : List ℤ) → TightToo (system_of generators) (entry u) (entry r) → IsSubset (saturated generators u) (saturated generators r)
+values_from : (generators : List LinearRow) (u r : List ℤ) → TightToo (system_of generators) (entry u) (entry r) → IsSubset (saturated generators u) (saturated generators r)
 values_from generators u r tight =
     subst (λ (l : List Bool). IsSubset l (saturated generators r)) (sym (values_are generators u))
     (subst (λ (l : List Bool). IsSubset (tight_values generators u) l) (sym (values_are generators r))
     (subst (λ (l : List Bool). IsSubset l (tight_values generators r)) (both_same (tight_values generators u)) (subset_from generators u u r (λ s m e f. tight s m e))))
 
 -- ---- the constraint at a place
-given_at : {K : Type 0} (equal : K → Bool) (rows : List (List ℤ)) (kinds : List K) (i : ℕ) (k : K) (d : Given) → length kinds ≡ length rows → i < length rows →
+given_at : {K : Type 0} (equal : K → Bool) (rows : List (List ℤ)) (kinds : List K) (i : ℕ) (k : K) (d : LinearRow) → length kinds ≡ length rows →
+    i < length rows →
     get_or (given_by equal rows kinds) i d ≡ record { row = get_or rows i []; equal = equal (get_or kinds i k) }
 given_at equal [] kinds i k d n h = absurd (omega (arith, h))
 given_at equal (x ∷ rows) [] i k d n h = absurd (omega (arith, n))
 given_at equal (x ∷ rows) (kind ∷ kinds) zero k d n h = refl
 given_at equal (x ∷ rows) (kind ∷ kinds) (suc i) k d n h = given_at equal rows kinds i k d (omega (arith, n)) (omega (arith, h))
 
-row_values : (given generators : List Given) (m : Matrix) (i : ℕ) (d : Given) → m ≡ saturation_of given generators → i < length given →
+row_values : (given generators : List LinearRow) (m : Matrix) (i : ℕ) (d : LinearRow) → m ≡ saturation_of given generators → i < length given →
     get_or m.rows i [] ≡ saturated generators (get_or given i d).row
 row_values given generators m i d e h =
-    ap (λ (x : Matrix). get_or x.rows i []) e ∙ get_or-map (λ (r : Given). saturated generators r.row) given i d [] h
+    ap (λ (x : Matrix). get_or x.rows i []) e ∙ get_or-map (λ (r : LinearRow). saturated generators r.row) given i d [] h
 
-pub values_at : {K : Type 0} (equal : K → Bool) (rows : List (List ℤ)) (kinds : List K) (generators : List Given) (m : Matrix) (i : ℕ) (k : K) → length kinds ≡ length rows → i < length rows →
+pub values_at : {K : Type 0} (equal : K → Bool) (rows : List (List ℤ)) (kinds : List K) (generators : List LinearRow) (m : Matrix) (i : ℕ) (k : K) → length kinds ≡ length rows → i < length rows →
     m ≡ saturation_of (given_by equal rows kinds) generators → get_or m.rows i [] ≡ saturated generators (get_or rows i [])
 values_at equal rows kinds generators m i k n h e =
-    let d : Given = record { row = []; equal = false } in
+    let d : LinearRow = record { row = []; equal = false } in
     let l = given_length equal rows kinds n in
-    row_values (given_by equal rows kinds) generators m i d e (omega (arith, l, h)) ∙ ap (λ (g : Given). saturated generators g.row) (given_at equal rows kinds i k d n h)
+    row_values (given_by equal rows kinds) generators m i d e (omega (arith, l, h)) ∙ ap (λ (g : LinearRow). saturated generators g.row) (given_at equal rows kinds i k d n h)
 
 -- ---- which generators the inequalities are tight at, one after the other
-pub tight_more : {K : Type 0} (equal : K → Bool) (generators : List Given) (rows : List (List ℤ)) (kinds : List K) (i : ℕ) (r : List ℤ) (k : K) (line : Bool) (bits : List Bool) (m old new : Matrix) →
+pub tight_more : {K : Type 0} (equal : K → Bool) (generators : List LinearRow) (rows : List (List ℤ)) (kinds : List K) (i : ℕ) (r : List ℤ) (k : K) (line : Bool) (bits : List Bool)
+    (m old new : Matrix) →
     length kinds ≡ length rows → i < length rows → r ≡ get_or rows i r → r ≡ get_or rows i [] → line ≡ equal (get_or kinds i k) → line ≡ false → bits ≡ get_or m.rows i [] →
     m ≡ saturation_of (given_by equal rows kinds) generators → new ≡ record old { rows = old.rows ++ bits ∷ [] } →
     old ≡ by_rays generators (rays_of (front equal rows kinds i)) → new ≡ by_rays generators (rays_of (front equal rows kinds (i + 1)))
@@ -87,12 +89,12 @@ tight_more equal generators rows kinds i r k line bits m old new n h er ed el l 
     ap (λ (x : List (List Bool)). record { width = length generators; rows = x }) (sym (rows_append generators rays (r ∷ []))) ∙
     ap (by_rays generators) (sym (rays_more equal rows kinds i r k line n h er el l))
 
-pub tight_left : {K : Type 0} (equal : K → Bool) (generators : List Given) (rows : List (List ℤ)) (kinds : List K) (i : ℕ) (r : List ℤ) (k : K) (line : Bool) (old : Matrix) →
+pub tight_left : {K : Type 0} (equal : K → Bool) (generators : List LinearRow) (rows : List (List ℤ)) (kinds : List K) (i : ℕ) (r : List ℤ) (k : K) (line : Bool) (old : Matrix) →
     length kinds ≡ length rows → i < length rows → r ≡ get_or rows i r → line ≡ equal (get_or kinds i k) → line ≡ true → old ≡ by_rays generators (rays_of (front equal rows kinds i)) →
     old ≡ by_rays generators (rays_of (front equal rows kinds (i + 1)))
 tight_left equal generators rows kinds i r k line old n h er el l eo = eo ∙ ap (by_rays generators) (sym (rays_same equal rows kinds i r k line n h er el l))
 
-pub tight_none : (given generators : List Given) (m start : Matrix) (width : ℕ) → m ≡ saturation_of given generators → width ≡ m.width → start ≡ record { width = width; rows = [] } →
+pub tight_none : (given generators : List LinearRow) (m start : Matrix) (width : ℕ) → m ≡ saturation_of given generators → width ≡ m.width → start ≡ record { width = width; rows = [] } →
     start ≡ by_rays generators []
 tight_none given generators m start width em ew es = es ∙ ap (λ (w : ℕ). (let x : Matrix = record { width = w; rows = [] } in x)) (ew ∙ ap (λ (x : Matrix). x.width) em)
 
@@ -112,7 +114,7 @@ covered_yes kinds rows values row place equal b e f er both = (
 )
 
 -- what it means
-covered_by : (list : Listed ConKind) (generators : List Given) (m : Matrix) (u : List ℤ) → length list.kinds ≡ length list.rows → m ≡ saturation_of (constraints list) generators →
+covered_by : (list : Listed ConKind) (generators : List LinearRow) (m : Matrix) (u : List ℤ) → length list.kinds ≡ length list.rows → m ≡ saturation_of (constraints list) generators →
     IsCovered list.kinds m.rows (saturated generators u) → (r : List ℤ) × Contains (constraints list) (inequality r) × TightToo (system_of generators) (entry u) (entry r)
 covered_by list generators m u n e c =
     let i = c.place in
@@ -120,13 +122,13 @@ covered_by list generators m u n e c =
     let l = given_length is_equality list.rows list.kinds n in
     let r = get_or list.rows i [] in
     let same : get_or (constraints list) i (inequality r) ≡ inequality r = given_at is_equality list.rows list.kinds i Ge (inequality r) n h ∙
-    ap (λ (b : Bool). (let g : Given = record { row = r; equal = b } in g)) c.by.inequality in (
+    ap (λ (b : Bool). (let g : LinearRow = record { row = r; equal = b } in g)) c.by.inequality in (
       r,
       (i, omega (arith, l, h), same),
       values_said generators u r (subst (IsSubset (saturated generators u)) (values_at is_equality list.rows list.kinds generators m i Ge n h e) c.by.tight),
     )
 
-alone_from : (list : Listed ConKind) (generators : List Given) (m : Matrix) (u : List ℤ) → length list.kinds ≡ length list.rows → m ≡ saturation_of (constraints list) generators →
+alone_from : (list : Listed ConKind) (generators : List LinearRow) (m : Matrix) (u : List ℤ) → length list.kinds ≡ length list.rows → m ≡ saturation_of (constraints list) generators →
     ¬ (IsCovered list.kinds m.rows (saturated generators u)) → (r : List ℤ) → Contains (constraints list) (inequality r) → ¬ (TightToo (system_of generators) (entry u) (entry r))
 alone_from list generators m u n e alone r k tight =
     let i = k.0 in
@@ -138,19 +140,19 @@ alone_from list generators m u n e alone r k tight =
       place = i;
       inside = omega (arith, n, h);
       by = record {
-        inequality = sym (ap (λ (x : Given). x.equal) at);
+        inequality = sym (ap (λ (x : LinearRow). x.equal) at);
         tight = subst (IsSubset (saturated generators u)) (sym (values_at is_equality list.rows list.kinds generators m i Ge n h e))
-            (values_from generators u (get_or list.rows i []) (subst (λ (x : List ℤ). TightToo (system_of generators) (entry u) (entry x)) (ap (λ (x : Given). x.row) at) tight));
+            (values_from generators u (get_or list.rows i []) (subst (λ (x : List ℤ). TightToo (system_of generators) (entry u) (entry x)) (ap (λ (x : LinearRow). x.row) at) tight));
       };
     })
 
 -- ---- as the code tells it
-pub seen : (n : ℕ) (rows given : List Given) (taken : Listed ConKind) (lines rays others : List (List ℤ)) → taken.dims ≡ n → constraints taken ≡ given → lines ≡ lines_of rows → rays ≡ others →
+pub seen : (n : ℕ) (rows given : List LinearRow) (taken : Listed ConKind) (lines rays others : List (List ℤ)) → taken.dims ≡ n → constraints taken ≡ given → lines ≡ lines_of rows → rays ≡ others →
     IsCone (record { dims = n; taken = given; lines = lines_of rows; rays = others }) → IsCone (record { dims = taken.dims; taken = constraints taken; lines = lines; rays = rays })
 seen n rows given taken lines rays others ed et el er k =
     let same : (let s : Shape = record { dims = n; taken = given; lines = lines_of rows; rays = others } in s) ≡ record { dims = taken.dims; taken = constraints taken; lines = lines; rays = rays } =
     ap (λ (m : ℕ). (let s : Shape = record { dims = m; taken = given; lines = lines_of rows; rays = others } in s)) (sym ed) ∙
-    ap (λ (t : List Given). (let s : Shape = record { dims = taken.dims; taken = t; lines = lines_of rows; rays = others } in s)) (sym et) ∙
+    ap (λ (t : List LinearRow). (let s : Shape = record { dims = taken.dims; taken = t; lines = lines_of rows; rays = others } in s)) (sym et) ∙
     ap (λ (l : List (List ℤ)). (let s : Shape = record { dims = taken.dims; taken = constraints taken; lines = l; rays = others } in s)) (sym el) ∙
     ap (λ (l : List (List ℤ)). (let s : Shape = record { dims = taken.dims; taken = constraints taken; lines = lines; rays = l } in s)) (sym er) in
     subst IsCone same k
@@ -160,7 +162,7 @@ pub taken_generators : (given : Listed GenKind) (taken : Listed ConKind) → tak
 taken_generators given taken er ek = ap (λ (y : List (List ℤ)). given_by is_equality y taken.kinds) er ∙ ap (given_by is_equality given.rows) ek ∙ dual_given given.rows given.kinds
 
 -- what the code has at hand
-pub record AtHand (list : Listed ConKind) (given : List Given) (rays : List (List ℤ)) (m : Matrix) (positive : List ℤ) (values : List Bool) : Type 0 where
+pub record AtHand (list : Listed ConKind) (given : List LinearRow) (rays : List (List ℤ)) (m : Matrix) (positive : List ℤ) (values : List Bool) : Type 0 where
   pub polyhedron : IsPolyhedron (record { dims = list.dims; rows = constraints list; generators = given })
   pub some : given ≢ []
   pub many : length list.kinds ≡ length list.rows
@@ -176,7 +178,7 @@ few_rays list n few =
     let r = fewer_rays (constraints list) in
     omega (arith, l, r, few)
 
-pub covered_start : (list : Listed ConKind) (given : List Given) (rays : List (List ℤ)) (m : Matrix) (positive : List ℤ) (values : List Bool) → AtHand list given rays m positive values →
+pub covered_start : (list : Listed ConKind) (given : List LinearRow) (rays : List (List ℤ)) (m : Matrix) (positive : List ℤ) (values : List Bool) → AtHand list given rays m positive values →
     IsCovered list.kinds m.rows values → IsCone (record { dims = list.dims; taken = given; lines = lines_of (constraints list); rays = rays })
 covered_start list given rays m positive values a c =
     let p : Polyhedron = record { dims = list.dims; rows = constraints list; generators = given } in
@@ -186,7 +188,7 @@ covered_start list given rays m positive values a c =
     let few : length (rays_of (constraints list)) ≤ row_limit = let f = few_rays list a.many a.few in omega (arith, f) in
     subst (λ (l : List (List ℤ)). IsCone (record { dims = list.dims; taken = given; lines = lines_of (constraints list); rays = l })) (sym a.rays_are) (covered_cone p h x.0 x.1 x.2 few)
 
-pub alone_start : (list : Listed ConKind) (given : List Given) (rays after : List (List ℤ)) (m : Matrix) (positive : List ℤ) (values : List Bool) → AtHand list given rays m positive values →
+pub alone_start : (list : Listed ConKind) (given : List LinearRow) (rays after : List (List ℤ)) (m : Matrix) (positive : List ℤ) (values : List Bool) → AtHand list given rays m positive values →
     ¬ (IsCovered list.kinds m.rows values) → after ≡ rays ++ positive ∷ [] → IsCone (record { dims = list.dims; taken = given; lines = lines_of (constraints list); rays = after })
 alone_start list given rays after m positive values a never ea =
     let p : Polyhedron = record { dims = list.dims; rows = constraints list; generators = given } in
@@ -200,10 +202,10 @@ alone_start list given rays after m positive values a never ea =
     subst (λ (l : List (List ℤ)). IsCone (record { dims = list.dims; taken = given; lines = lines_of (constraints list); rays = l })) (sym same) (alone_cone p h alone few)
 
 -- the matrices
-pub covered_matrix : (given : List Given) (rays shown : List (List ℤ)) (m : Matrix) → rays ≡ shown → m ≡ by_rays given shown → m ≡ by_rays given rays
+pub covered_matrix : (given : List LinearRow) (rays shown : List (List ℤ)) (m : Matrix) → rays ≡ shown → m ≡ by_rays given shown → m ≡ by_rays given rays
 covered_matrix given rays shown m er e = e ∙ ap (by_rays given) (sym er)
 
-pub alone_matrix : (given : List Given) (rays shown after : List (List ℤ)) (m new : Matrix) (positive : List ℤ) (values : List Bool) → rays ≡ shown → m ≡ by_rays given shown →
+pub alone_matrix : (given : List LinearRow) (rays shown after : List (List ℤ)) (m new : Matrix) (positive : List ℤ) (values : List Bool) → rays ≡ shown → m ≡ by_rays given shown →
     after ≡ rays ++ positive ∷ [] → values ≡ saturated given positive → new ≡ record m { rows = m.rows ++ values ∷ [] } → new ≡ by_rays given after
 alone_matrix given rays shown after m new positive values er e ea ev en =
     en ∙ ap (λ (x : Matrix). record x { rows = x.rows ++ values ∷ [] }) e ∙
@@ -212,12 +214,12 @@ alone_matrix given rays shown after m new positive values er e ea ev en =
     ap (by_rays given) (sym (ea ∙ ap (λ (l : List (List ℤ)). l ++ positive ∷ []) er))
 
 -- the sizes
-pub matrix_rows : (list : Listed ConKind) (given : List Given) (m : Matrix) → length list.kinds ≡ length list.rows → m ≡ saturation_of (constraints list) given → length m.rows ≡ length list.rows
+pub matrix_rows : (list : Listed ConKind) (given : List LinearRow) (m : Matrix) → length list.kinds ≡ length list.rows → m ≡ saturation_of (constraints list) given → length m.rows ≡ length list.rows
 matrix_rows list given m n e =
-    ap (λ (x : Matrix). length x.rows) e ∙ length-map (constraints list) (λ (s : Given). saturated given s.row) ∙ given_length is_equality list.rows list.kinds n
+    ap (λ (x : Matrix). length x.rows) e ∙ length-map (constraints list) (λ (s : LinearRow). saturated given s.row) ∙ given_length is_equality list.rows list.kinds n
 
-pub values_width : (given : List Given) (r : List ℤ) (values : List Bool) (m : Matrix) → values ≡ saturated given r → m.width ≡ length given → length values ≡ m.width
-values_width given r values m ev em = ap length ev ∙ length-map given (λ (g : Given). int_eq (product r g.row) (pos 0)) ∙ sym em
+pub values_width : (given : List LinearRow) (r : List ℤ) (values : List Bool) (m : Matrix) → values ≡ saturated given r → m.width ≡ length given → length values ≡ m.width
+values_width given r values m ev em = ap length ev ∙ length-map given (λ (g : LinearRow). int_eq (product r g.row) (pos 0)) ∙ sym em
 
 -- whether it is covered, of the kinds as listed
 pub covered_so : (kinds also : List ConKind) (rows : List (List Bool)) (values : List Bool) (b : Bool) → kinds ≡ also → IsTrue b ↔ IsCovered kinds rows values → b ≡ true → IsCovered also rows values

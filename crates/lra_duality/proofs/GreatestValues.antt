@@ -5,24 +5,24 @@ use Rattle.std.proofs.Common.{arith}
 use Rattle.std.specs.List.{All, Contains}
 use Rattle.std.proofs.lemmas.Int.{ints}
 use Rattle.std.proofs.lemmas.List.Elements.{All-contains}
-use Rattle.lra_linear.specs.Descriptions.{Given, given_as, inequality, system_of}
-use Rattle.lra_linear.specs.Points.{IsPoint}
-use Rattle.lra_linear.specs.Polyhedra.{HasPoint, IsPolyhedron, Polyhedron, positivity}
-use Rattle.lra_linear.specs.Vectors.{blend, entry, negated, product}
-use Rattle.lra_linear.proofs.Combinations.{generated_row}
-use Rattle.lra_linear.proofs.Descriptions.{FromGiven, gen_generated, generated_gen, system_from, system_has}
-use Rattle.lra_linear.proofs.Descriptions.{system_has_negated}
-use Rattle.lra_linear.proofs.LinearMaps.{generated_nonneg}
-use Rattle.lra_linear.proofs.Membership.{contains_head, contains_none}
-use Rattle.lra_linear.proofs.OneSpelling.{positivity_product}
-use Rattle.lra_linear.proofs.Polyhedra.{con_gen, generators_are_generators}
-use Rattle.lra_linear.proofs.Products.{dot_linear, dot_negated, dot_same, entry_blend, entry_negated, product_comm}
-use Rattle.lra_linear.proofs.Ring.{mul_nonnegative, ring, v, ⊖, ◌⊕◌, ◌⊗◌}
-use Rattle.lra_linear.proofs.SetOperations.{has_vertex, valid_on_rows}
-use Rattle.lra_linear.proofs.Lines.{zeros_length}
-use Rattle.lra_linear.specs.Kinds.{is_line}
+use Rattle.lra_linear_spec.specs.Descriptions.{LinearRow, rows_as, inequality, system_of}
+use Rattle.lra_linear_spec.specs.Points.{IsPoint}
+use Rattle.lra_linear_spec.specs.Polyhedra.{HasPoint, IsPolyhedron, Polyhedron, positivity}
+use Rattle.lra_linear_spec.specs.Vectors.{blend, entry, negated, product}
+use Rattle.lra_linear_spec.proofs.Combinations.{generated_row}
+use Rattle.lra_linear_spec.proofs.Descriptions.{FromGiven, gen_generated, generated_gen, system_from, system_has}
+use Rattle.lra_linear_spec.proofs.Descriptions.{system_has_negated}
+use Rattle.lra_linear_spec.proofs.LinearMaps.{generated_nonneg}
+use Rattle.lra_linear_spec.proofs.Membership.{contains_head, contains_none}
+use Rattle.lra_linear_spec.proofs.OneSpelling.{positivity_product}
+use Rattle.lra_linear_spec.proofs.Polyhedra.{con_gen, generators_are_generators}
+use Rattle.lra_linear_spec.proofs.Products.{dot_linear, dot_negated, dot_same, entry_blend, entry_negated, product_comm}
+use Rattle.lra_linear_spec.proofs.Ring.{mul_nonnegative, ring, v, ⊖, ◌⊕◌, ◌⊗◌}
+use Rattle.lra_linear_spec.proofs.SetOperations.{has_vertex, valid_on_rows}
+use Rattle.lra_linear_spec.proofs.Lines.{zeros_length}
+use Rattle.lra_linear_spec.specs.Kinds.{is_line}
 use Rattle.lra_sys.specs.Listed.{Listed, generators, given_by}
-use Rattle.lra_linear.specs.declared.GenKind.{GenKind}
+use Rattle.lra_linear_spec.specs.declared.GenKind.{GenKind}
 use Rattle.lra_duality.specs.Maxima.{DoesNotImprove, Improves, IsAtMost, IsGreatestValue, IsMaximum, IsUnbounded, OfPoint}
 use Rattle.lra_duality.specs.Maxima.{TellsMaximum}
 use Rattle.lra_duality.specs.declared.maximum.Maximum.{Maximum}
@@ -77,7 +77,7 @@ some_sign (negsuc k) n = inr (omega (arith, ints))
 neg_zero : (z y : ℤ) → y ≡ neg_ℤ z → z ≡ pos 0 → y ≡ pos 0
 neg_zero z y e h = omega (arith, ints, e, h)
 
-growth : (form : List ℤ) (list : List Given) (g : Given) → Contains list g → Improves form g →
+growth : (form : List ℤ) (list : List LinearRow) (g : LinearRow) → Contains list g → Improves form g →
     Growth form (system_of list)
 growth form list g k (level, inl ray) = record {
   direction = g.row;
@@ -95,10 +95,10 @@ growth form list g k (level, inr line) = elim (some_sign (product form g.row) li
   }
 ]
 
-unbounded_along : (p : Polyhedron) (form : List ℤ) → IsPolyhedron p → length form ≡ suc p.dims → (g : Given) →
+unbounded_along : (p : Polyhedron) (form : List ℤ) → IsPolyhedron p → length form ≡ suc p.dims → (g : LinearRow) →
     Contains p.generators g → Improves form g → IsUnbounded p form
 unbounded_along p form (inl none) e g k i most_value bound =
-    absurd (contains_none g (subst (λ (l : List Given). Contains l g) none.1 k))
+    absurd (contains_none g (subst (λ (l : List LinearRow). Contains l g) none.1 k))
 unbounded_along p form (inr h) e g k i most_value bound =
     let t = growth form p.generators g k i in
     let c = at_most_row p.dims form most_value (pos 1) in
@@ -133,7 +133,7 @@ level_least num den f d h level n =
     (subst (λ (z : ℤ). pos 0 ≤ℤ z) (ring (⊖ (v den) ⊗ v f) (v num ⊗ v (pos 0) ⊕ ⊖ (v den) ⊗ v f) (omega arith))
     (opposite_least den f h n))
 
-no_growth : (form : List ℤ) (g : Given) → DoesNotImprove form g → entry g.row 0 ≡ pos 0 →
+no_growth : (form : List ℤ) (g : LinearRow) → DoesNotImprove form g → entry g.row 0 ≡ pos 0 →
     ¬ (pos 0 <ℤ product form g.row)
 no_growth form g n level up = by_kind g.equal refl
   where
@@ -144,7 +144,7 @@ no_growth form g n level up = by_kind g.equal refl
         zero_above z h e = omega (arith, ints, h, e)
     by_kind false e = n (level, inl (e, up))
 
-no_fall : (form : List ℤ) (g : Given) → DoesNotImprove form g → g.equal ≡ true → entry g.row 0 ≡ pos 0 →
+no_fall : (form : List ℤ) (g : LinearRow) → DoesNotImprove form g → g.equal ≡ true → entry g.row 0 ≡ pos 0 →
     ¬ (pos 0 <ℤ product form (negated g.row))
 no_fall form g n e level up = n (
   level,
@@ -169,7 +169,7 @@ least_on_rows p form num den h e positive flat others t k =
     Least : List ℤ → Type 0
     Least t = pos 0 ≤ℤ ((num *ℤ entry t 0) +ℤ (neg_ℤ den *ℤ product form t))
 
-    of_given : (g : Given) → Contains p.generators g → Least g.row
+    of_given : (g : LinearRow) → Contains p.generators g → Least g.row
     of_given g m = elim (generators_are_generators p h g m) [
       | inl point ↦ least num den (product form g.row) (entry g.row 0)
           (All-contains (OfPoint (IsAtMost form num den)) p.generators g others m point.1)
@@ -177,7 +177,7 @@ least_on_rows p form num den h e positive flat others t k =
           (no_growth form g (All-contains (DoesNotImprove form) p.generators g flat m) level)
     ]
 
-    of_negated : (g : Given) → Contains p.generators g → g.equal ≡ true → Least (negated g.row)
+    of_negated : (g : LinearRow) → Contains p.generators g → g.equal ≡ true → Least (negated g.row)
     of_negated g m line = elim (generators_are_generators p h g m) [
       | inl point ↦ let z : true ≡ false = sym line ∙ point.0 in cc
       | inr level ↦ level_least num den (product form (negated g.row)) (entry (negated g.row) 0) positive
@@ -194,7 +194,7 @@ least_on_rows p form num den h e positive flat others t k =
 greatest_value : (p : Polyhedron) (form : List ℤ) (num den : ℤ) (place : ℕ) → IsPolyhedron p →
     length form ≡ suc p.dims → IsMaximum form p.generators (At num den place) → IsGreatestValue p form num den
 greatest_value p form num den place (inl none) e a = absurd (contains_none a.2.first.member
-    (subst (λ (l : List Given). Contains l a.2.first.member) none.1 (has_member _ _ p.generators place a.2.first)))
+    (subst (λ (l : List LinearRow). Contains l a.2.first.member) none.1 (has_member _ _ p.generators place a.2.first)))
 greatest_value p form num den place (inr h) e a =
     let first = a.2.first in
     let k : Contains p.generators first.member = has_member _ _ p.generators place first in
@@ -237,16 +237,16 @@ maximum_tells p form (Unbounded place) h e a = unbounded_along p form h e a.1.me
 maximum_tells p form (At num den place) h e a = greatest_value p form num den place h e a
 
 -- ---- the first generator is a point
-abbrev first_row : List Given → List ℤ
+abbrev first_row : List LinearRow → List ℤ
 first_row [] = []
 first_row (g ∷ list) = g.row
 
 first_point : (p : Polyhedron) (h : HasPoint p) → pos 0 <ℤ entry (first_row p.generators) 0
-first_point p h = subst (λ (l : List Given). pos 0 <ℤ entry (first_row l) 0) (sym h.generators_are)
+first_point p h = subst (λ (l : List LinearRow). pos 0 <ℤ entry (first_row l) 0) (sym h.generators_are)
     (by_points h.points h.some_point h.divisors)
   where
     by_points : (points : List (List ℤ)) → points ≢ [] → ((r : List ℤ) → Contains points r → pos 0 <ℤ entry r 0) →
-        pos 0 <ℤ entry (first_row (given_as false points ++ given_as false h.rays ++ given_as true h.lines)) 0
+        pos 0 <ℤ entry (first_row (rows_as false points ++ rows_as false h.rays ++ rows_as true h.lines)) 0
     by_points [] n d = absurd (n refl)
     by_points (q ∷ points) n d = d q (contains_head q points)
 
@@ -255,7 +255,7 @@ pub starts_with_point : (p : Polyhedron) (list : Listed GenKind) → IsPolyhedro
     pos 0 <ℤ entry (get_or list.rows 0 []) 0
 starts_with_point p list h e n k = by_lists list.rows list.kinds n k e
   where
-    by_first : (r : List ℤ) (given : Given) (later : List Given) → given.row ≡ r → given ∷ later ≡ p.generators →
+    by_first : (r : List ℤ) (given : LinearRow) (later : List LinearRow) → given.row ≡ r → given ∷ later ≡ p.generators →
         IsPolyhedron p → pos 0 <ℤ entry r 0
     by_first r given later s e (inl none) = let z : given ∷ later ≡ [] = e ∙ none.1 in cc
     by_first r given later s e (inr h) = subst (λ (x : List ℤ). pos 0 <ℤ entry x 0) (sym (ap first_row e) ∙ s)

@@ -6,22 +6,22 @@ use Rattle.std.specs.Prelude.{◌||◌, int_le, ◌↔◌, IsTrue}
 use Rattle.std.specs.List.{All, Contains}
 use Rattle.std.specs.Ordering.{int_eq}
 use Rattle.std.proofs.lemmas.List.Elements.{All-contains, Contains-append_right}
-use Rattle.lra_linear.specs.Descriptions.{Given, Con, HoldsWith}
-use Rattle.lra_linear.specs.Points.{IsWithin}
-use Rattle.lra_linear.specs.Polyhedra.{Polyhedron, IsPolyhedron}
-use Rattle.lra_linear.specs.Vectors.{product}
-use Rattle.lra_linear.specs.Widening.{holds_with}
-use Rattle.lra_linear.proofs.Membership.{contains_head, contains_none, list_all_at, list_all_from}
-use Rattle.lra_linear.proofs.Polyhedra.{con_gen}
-use Rattle.lra_linear.proofs.Widening.{holds_on_generators, valid_decides}
+use Rattle.lra_linear_spec.specs.Descriptions.{LinearRow, Con, HoldsWith}
+use Rattle.lra_linear_spec.specs.Points.{IsWithin}
+use Rattle.lra_linear_spec.specs.Polyhedra.{Polyhedron, IsPolyhedron}
+use Rattle.lra_linear_spec.specs.Vectors.{product}
+use Rattle.lra_linear_spec.specs.Widening.{holds_with}
+use Rattle.lra_linear_spec.proofs.Membership.{contains_head, contains_none, list_all_at, list_all_from}
+use Rattle.lra_linear_spec.proofs.Polyhedra.{con_gen}
+use Rattle.lra_linear_spec.proofs.Widening.{holds_on_generators, valid_decides}
 use Rattle.lra_duality.specs.declared.inclusion.Inclusion.{Inclusion}
 use Rattle.lra_duality.specs.declared.inclusion.Inclusion.TheVariants.{Yes, No, Wide}
 use Rattle.lra_sys.specs.FirstPlaces.{FirstAt}
 use Rattle.lra_duality.specs.Inclusions.{Meets, MeetsAll, IsInclusion, IsReply, TellsInclusion}
-use Rattle.lra_linear.specs.Kinds.{is_equality, is_line}
-use Rattle.lra_linear.specs.declared.ConKind.{ConKind}
+use Rattle.lra_linear_spec.specs.Kinds.{is_equality, is_line}
+use Rattle.lra_linear_spec.specs.declared.ConKind.{ConKind}
 use Rattle.lra_sys.specs.declared.membership.Holds as H
-use Rattle.lra_linear.specs.declared.GenKind.{GenKind}
+use Rattle.lra_linear_spec.specs.declared.GenKind.{GenKind}
 use Rattle.lra_sys.specs.Listed.{Listed, constraints, generators, given_by}
 use Rattle.lra_sys.proofs.FirstMembers.{err_from}
 
@@ -35,8 +35,8 @@ all_within p q h all x is_point c r k =
     (list_all_from (holds_with r) p.generators (λ g m. (All-contains (Meets g) q.rows r (All-contains (MeetsAll q.rows) p.generators g all m) k).1))
     x ((con_gen p h).0 x is_point c)
 
-not_within : (p q : Polyhedron) → IsPolyhedron p → (g r : Given) → Contains p.generators g → Contains q.rows r → holds_with r g ≡ false → ¬ (IsWithin p.dims (Con p.rows) (Con q.rows))
-not_within p q (inl none) g r m k fails w = contains_none g (subst (λ (l : List Given). Contains l g) none.1 m)
+not_within : (p q : Polyhedron) → IsPolyhedron p → (g r : LinearRow) → Contains p.generators g → Contains q.rows r → holds_with r g ≡ false → ¬ (IsWithin p.dims (Con p.rows) (Con q.rows))
+not_within p q (inl none) g r m k fails w = contains_none g (subst (λ (l : List LinearRow). Contains l g) none.1 m)
 not_within p q (inr h) g r m k fails w =
     let holds : holds_with r g ≡ true = list_all_at (holds_with r) p.generators ((valid_decides p h r).1 (λ x i c. w x i c r k)) g m in
     cc
@@ -58,7 +58,7 @@ inclusion_tells p q (Wide place row) h a =
     )
 
 -- of a list of rows
-pub yes_within : (p : Polyhedron) (rows : List Given) (answer : Inclusion) → IsPolyhedron p → IsInclusion rows p.generators answer → answer ≡ Yes →
+pub yes_within : (p : Polyhedron) (rows : List LinearRow) (answer : Inclusion) → IsPolyhedron p → IsInclusion rows p.generators answer → answer ≡ Yes →
     IsWithin p.dims (Con p.rows) (Con rows)
 yes_within p rows answer h a e =
     all_within p (record { dims = p.dims; rows = rows; generators = [] }) h (subst (IsInclusion rows p.generators) e a)
@@ -85,7 +85,7 @@ by_kinds b true d z h = said_zero b z h
 by_kinds b false true z h = said_zero b z h
 by_kinds b false false z h = said_at_least b z h
 
-holds_by_kinds : (b kind d : Bool) (z : ℤ) (r g : Given) → r.equal ≡ kind → g.equal ≡ d → z ≡ product r.row g.row → IsTrue b ↔ HoldsWith (kind || d) z → holds_with r g ≡ b
+holds_by_kinds : (b kind d : Bool) (z : ℤ) (r g : LinearRow) → r.equal ≡ kind → g.equal ≡ d → z ≡ product r.row g.row → IsTrue b ↔ HoldsWith (kind || d) z → holds_with r g ≡ b
 holds_by_kinds b kind d z r g ek ed ez h =
     ap (λ (k : Bool). cond (k || g.equal) (int_eq (product r.row g.row) (pos 0)) (int_le (pos 0) (product r.row g.row))) ek
     ∙ ap (λ (l : Bool). cond (kind || l) (int_eq (product r.row g.row) (pos 0)) (int_le (pos 0) (product r.row g.row))) ed
@@ -100,11 +100,11 @@ either_false true = refl
 either_false false = refl
 
 -- with a line, and with a point or a ray
-pub with_line : (b kind d : Bool) (z : ℤ) → d ≡ true → IsTrue b ↔ (z ≡ pos 0) → (r g : Given) → r.equal ≡ kind → g.equal ≡ d → z ≡ product r.row g.row → holds_with r g ≡ b
+pub with_line : (b kind d : Bool) (z : ℤ) → d ≡ true → IsTrue b ↔ (z ≡ pos 0) → (r g : LinearRow) → r.equal ≡ kind → g.equal ≡ d → z ≡ product r.row g.row → holds_with r g ≡ b
 with_line b kind d z l h r g ek ed ez =
     holds_by_kinds b kind true z r g ek (ed ∙ l) ez (subst (λ (k : Bool). IsTrue b ↔ HoldsWith k z) (sym (either_true kind)) h)
 
-pub with_ray : (b kind d : Bool) (z : ℤ) → d ≡ false → IsTrue b ↔ HoldsWith kind z → (r g : Given) → r.equal ≡ kind → g.equal ≡ d → z ≡ product r.row g.row → holds_with r g ≡ b
+pub with_ray : (b kind d : Bool) (z : ℤ) → d ≡ false → IsTrue b ↔ HoldsWith kind z → (r g : LinearRow) → r.equal ≡ kind → g.equal ≡ d → z ≡ product r.row g.row → holds_with r g ≡ b
 with_ray b kind d z l h r g ek ed ez =
     holds_by_kinds b kind false z r g ek (ed ∙ l) ez (subst (λ (k : Bool). IsTrue b ↔ HoldsWith k z) (sym (either_false kind)) h)
 
@@ -116,7 +116,7 @@ reply_seen list rows kinds r line also answer er ek el a =
     (subst (λ (ks : List ConKind). IsReply (given_by is_equality list.rows ks) (record { row = r; equal = line }) answer) ek
     (subst (λ (rs : List (List ℤ)). IsReply (given_by is_equality rs kinds) (record { row = r; equal = line }) answer) er a))
 
-pub seen_generators : (P : List Given → Type 0) (list : Listed GenKind) (rows : List (List ℤ)) (kinds : List GenKind) → rows ≡ list.rows → kinds ≡ list.kinds → P (given_by is_line rows kinds) →
+pub seen_generators : (P : List LinearRow → Type 0) (list : Listed GenKind) (rows : List (List ℤ)) (kinds : List GenKind) → rows ≡ list.rows → kinds ≡ list.kinds → P (given_by is_line rows kinds) →
     P (generators list)
 seen_generators P list rows kinds er ek a =
     subst (λ (ks : List GenKind). P (given_by is_line list.rows ks)) ek (subst (λ (rs : List (List ℤ)). P (given_by is_line rs kinds)) er a)

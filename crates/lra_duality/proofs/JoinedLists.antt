@@ -1,11 +1,11 @@
 -- Lists with their kinds, one behind the other.
 use Rattle.std.proofs.Common.{◌≡◌, ℕ, Bool, List, [], ◌∷◌, ◌++◌, length, ap, sym, ◌∙◌, subst, arith, ℤ, take, ◌≤◌}
 use Rattle.std.proofs.lemmas.List.{take_all}
-use Rattle.lra_linear.specs.Descriptions.{Given}
-use Rattle.lra_linear.specs.Kinds.{is_equality}
-use Rattle.lra_linear.specs.declared.ConKind.{ConKind}
+use Rattle.lra_linear_spec.specs.Descriptions.{LinearRow}
+use Rattle.lra_linear_spec.specs.Kinds.{is_equality}
+use Rattle.lra_linear_spec.specs.declared.ConKind.{ConKind}
 use Rattle.lra_sys.specs.Listed.{Listed, constraints, given_by, FitKinds}
-use Rattle.lra_linear.specs.declared.GenKind.{GenKind}
+use Rattle.lra_linear_spec.specs.declared.GenKind.{GenKind}
 use Rattle.lra_descriptions.proofs.SeveralKinds.{fit_append, given_append}
 
 -- as the code tells it
@@ -33,4 +33,4 @@ row_added list all more row r kind ea mr mk er m =
     ap (λ (l : List (List ℤ)). given_by is_equality l more.kinds) (mr ∙ ap (λ (s : Listed ConKind). s.rows ++ row ∷ []) ea)
     ∙ ap (given_by is_equality (list.rows ++ row ∷ [])) (mk ∙ ap (λ (s : Listed ConKind). s.kinds ++ kind ∷ []) ea)
     ∙ given_append is_equality list.rows (row ∷ []) list.kinds (kind ∷ []) (sym m)
-    ∙ ap (λ (y : List ℤ). constraints list ++ (let g : Given = record { row = y; equal = is_equality kind } in g) ∷ []) er
+    ∙ ap (λ (y : List ℤ). constraints list ++ (let g : LinearRow = record { row = y; equal = is_equality kind } in g) ∷ []) er

@@ -3,21 +3,21 @@ use Rattle.std.proofs.Common.{◌≡◌, ◌≢◌, ◌≤◌, ℕ, suc, Bool, [
 use Rattle.std.specs.List.{Contains}
 use Rattle.std.proofs.lemmas.Int.{ints}
 use Rattle.std.proofs.lemmas.List.Elements.{Contains-append_cases, Contains-append_left, Contains-append_right}
-use Rattle.lra_linear.specs.Canonical.{IsCanonical}
-use Rattle.lra_linear.specs.Cones.{AreDual, Generated, both_ways, all_rows}
-use Rattle.lra_linear.specs.ConeStrain.{row_limit}
-use Rattle.lra_linear.specs.Descriptions.{Given, inequality, given_as, lines_of, rays_of, system_of}
-use Rattle.lra_linear.specs.Polyhedra.{HasPoint, IsPolyhedron, Polyhedron, positivity}
-use Rattle.lra_linear.specs.declared.ConKind.{ConKind}
+use Rattle.lra_linear_spec.specs.Canonical.{IsCanonical}
+use Rattle.lra_linear_spec.specs.Cones.{AreDual, Generated, both_ways, all_rows}
+use Rattle.lra_linear_spec.specs.ConeStrain.{row_limit}
+use Rattle.lra_linear_spec.specs.Descriptions.{LinearRow, inequality, rows_as, lines_of, rays_of, system_of}
+use Rattle.lra_linear_spec.specs.Polyhedra.{HasPoint, IsPolyhedron, Polyhedron, positivity}
+use Rattle.lra_linear_spec.specs.declared.ConKind.{ConKind}
 use Rattle.lra_sys.specs.Listed.{Listed, constraints}
-use Rattle.lra_linear.specs.Vectors.{entry, product}
-use Rattle.lra_linear.proofs.Combinations.{generated_row}
-use Rattle.lra_linear.proofs.Descriptions.{dual_flipped, system_from, system_there}
-use Rattle.lra_linear.proofs.Lines.{in_lines, in_lines_negated, signed_from, zeros_length}
-use Rattle.lra_linear.proofs.Membership.{contains_cases, contains_head, contains_tail}
-use Rattle.lra_linear.proofs.OneSpelling.{columns_of, dual_same_cone, given_from, given_has, positivity_product}
-use Rattle.lra_linear.proofs.Polyhedra.{generators_lines, generators_rays}
-use Rattle.lra_linear.proofs.Products.{product_comm}
+use Rattle.lra_linear_spec.specs.Vectors.{entry, product}
+use Rattle.lra_linear_spec.proofs.Combinations.{generated_row}
+use Rattle.lra_linear_spec.proofs.Descriptions.{dual_flipped, system_from, system_there}
+use Rattle.lra_linear_spec.proofs.Lines.{in_lines, in_lines_negated, signed_from, zeros_length}
+use Rattle.lra_linear_spec.proofs.Membership.{contains_cases, contains_head, contains_tail}
+use Rattle.lra_linear_spec.proofs.OneSpelling.{columns_of, dual_same_cone, given_from, given_has, positivity_product}
+use Rattle.lra_linear_spec.proofs.Polyhedra.{generators_lines, generators_rays}
+use Rattle.lra_linear_spec.proofs.Products.{product_comm}
 use Rattle.lra_cone.specs.Cones.{IsCone, Shape}
 use Rattle.lra_duality.proofs.PolyhedronLemmas.{rows_width}
 
@@ -30,18 +30,18 @@ facet_taken p h t k = elim (Contains-append_cases h.facets (both_ways h.equaliti
     | inl e ↦ subst (Contains (positivity p.dims ∷ system_of p.rows)) (sym e) (contains_head (positivity p.dims) (system_of p.rows))
     | inr i ↦ contains_tail (positivity p.dims) t (system_of p.rows) (system_there p.rows t (record {
       given = inequality t;
-      has = subst (λ (l : List Given). Contains l (inequality t)) (sym h.rows_are)
-          (Contains-append_right (given_as true h.equalities) (given_as false h.inequalities) (inequality t) (given_has false h.inequalities t i));
+      has = subst (λ (l : List LinearRow). Contains l (inequality t)) (sym h.rows_are)
+          (Contains-append_right (rows_as true h.equalities) (rows_as false h.inequalities) (inequality t) (given_has false h.inequalities t i));
       sign = inl refl;
     }))
   ]
   | inr b ↦
       let s = signed_from h.equalities t b in
-      let g : Given = record { row = s.line; equal = true } in
+      let g : LinearRow = record { row = s.line; equal = true } in
       contains_tail (positivity p.dims) t (system_of p.rows) (system_there p.rows t (record {
         given = g;
-        has = subst (λ (l : List Given). Contains l g) (sym h.rows_are)
-            (Contains-append_left (given_as true h.equalities) (given_as false h.inequalities) g (given_has true h.equalities s.line s.has));
+        has = subst (λ (l : List LinearRow). Contains l g) (sym h.rows_are)
+            (Contains-append_left (rows_as true h.equalities) (rows_as false h.inequalities) g (given_has true h.equalities s.line s.has));
         sign = elim s.sign [ inl q ↦ inl q | inr q ↦ inr (refl, q) ];
       }))
 ]
@@ -49,7 +49,7 @@ facet_taken p h t k = elim (Contains-append_cases h.facets (both_ways h.equaliti
 row_facet : (p : Polyhedron) (h : HasPoint p) (t : List ℤ) → Contains (system_of p.rows) t → Contains (all_rows h.equalities h.facets) t
 row_facet p h t k =
     let f = system_from p.rows t k in
-    elim (Contains-append_cases (given_as true h.equalities) (given_as false h.inequalities) f.given (subst (λ (l : List Given). Contains l f.given) h.rows_are f.has)) [
+    elim (Contains-append_cases (rows_as true h.equalities) (rows_as false h.inequalities) f.given (subst (λ (l : List LinearRow). Contains l f.given) h.rows_are f.has)) [
       | inl e ↦
           let m = (given_from true h.equalities f.given e).1 in
           Contains-append_right h.facets (both_ways h.equalities) t (elim f.sign [
@@ -107,7 +107,7 @@ kept_cone p h few = record {
 }
 
 -- ---- as the code tells it
-pub fewer_rays : (list : List Given) → length (rays_of list) ≤ length list
+pub fewer_rays : (list : List LinearRow) → length (rays_of list) ≤ length list
 fewer_rays [] = omega arith
 fewer_rays (g ∷ list) = by_kind g.equal (fewer_rays list)
   where
@@ -119,7 +119,7 @@ pub with_some : (p : Polyhedron) → IsPolyhedron p → p.generators ≢ [] → 
 with_some p (inl none) some = absurd (some none.1)
 with_some p (inr h) some = h
 
-pub start_cone : (n : ℕ) (rows generators : List Given) (taken : Listed ConKind) (lines rays : List (List ℤ)) →
+pub start_cone : (n : ℕ) (rows generators : List LinearRow) (taken : Listed ConKind) (lines rays : List (List ℤ)) →
     IsPolyhedron (record { dims = n; rows = rows; generators = generators }) → generators ≢ [] → length generators ≤ row_limit → taken.dims ≡ n →
     constraints taken ≡ inequality (positivity n) ∷ rows → lines ≡ lines_of generators → rays ≡ rays_of generators →
     IsCone (record { dims = taken.dims; taken = constraints taken; lines = lines; rays = rays })
@@ -129,7 +129,8 @@ start_cone n rows generators taken lines rays h some few ed et el er =
     let made : Shape = record { dims = n; taken = inequality (positivity n) ∷ rows; lines = lines_of generators; rays = rays_of generators } in
     let same : made ≡ record { dims = taken.dims; taken = constraints taken; lines = lines; rays = rays } =
     ap (λ (m : ℕ). (let s : Shape = record { dims = m; taken = inequality (positivity n) ∷ rows; lines = lines_of generators; rays = rays_of generators } in s)) (sym ed) ∙
-    ap (λ (t : List Given). (let s : Shape = record { dims = taken.dims; taken = t; lines = lines_of generators; rays = rays_of generators } in s)) (sym et) ∙
+    ap (λ (t : List LinearRow). (let s : Shape = record { dims = taken.dims; taken = t; lines = lines_of generators; rays = rays_of generators } in s))
+    (sym et) ∙
     ap (λ (l : List (List ℤ)). (let s : Shape = record { dims = taken.dims; taken = constraints taken; lines = l; rays = rays_of generators } in s)) (sym el) ∙
     ap (λ (l : List (List ℤ)). (let s : Shape = record { dims = taken.dims; taken = constraints taken; lines = lines; rays = l } in s)) (sym er) in
     subst IsCone same (kept_cone p (with_some p h some) short)

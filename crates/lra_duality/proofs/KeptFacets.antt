@@ -3,25 +3,25 @@ use Rattle.std.proofs.Common.{◌≡◌, ◌≤◌, suc, true, false, [], List, 
 use Rattle.std.specs.List.{Contains}
 use Rattle.std.proofs.lemmas.Int.{ints}
 use Rattle.std.proofs.lemmas.List.Elements.{Contains-append_cases, Contains-append_left, Contains-append_right}
-use Rattle.lra_linear.specs.Canonical.{IsCanonical}
-use Rattle.lra_linear.specs.Cones.{AreDual, Generated, all_rows, both_ways}
-use Rattle.lra_linear.specs.ConeStrain.{row_limit}
-use Rattle.lra_linear.specs.Descriptions.{Given, inequality, given_as, lines_of, rays_of, system_of}
-use Rattle.lra_linear.specs.Polyhedra.{HasPoint, Polyhedron, positivity}
-use Rattle.lra_linear.specs.RowOrder.{Ascends, inequality_cmp}
-use Rattle.lra_linear.proofs.Saturation.{TightToo}
-use Rattle.lra_linear.specs.Vectors.{dot, entry, negated, product}
-use Rattle.lra_linear.proofs.Descriptions.{dual_flipped, in_all_rows, in_system}
-use Rattle.lra_linear.proofs.FlatRows.{generated_flat}
-use Rattle.lra_linear.proofs.Lines.{in_lines, in_lines_negated, signed_from}
-use Rattle.lra_linear.proofs.Membership.{NoRepeat, contains_cases, contains_head, contains_none, contains_split, contains_tail}
-use Rattle.lra_linear.proofs.OneSpelling.{given_from, given_has, positivity_product}
-use Rattle.lra_linear.proofs.Polyhedra.{generators_lines, generators_rays}
-use Rattle.lra_linear.proofs.Products.{dot_negated, product_comm}
-use Rattle.lra_linear.proofs.Redundancy.{drop_keeps, redundant_tight}
-use Rattle.lra_linear.proofs.RowOrder.{inequality_cmp_total, never_both}
-use Rattle.lra_linear.proofs.SetOperations.{has_vertex}
-use Rattle.lra_linear.proofs.Signs.{between_opposites}
+use Rattle.lra_linear_spec.specs.Canonical.{IsCanonical}
+use Rattle.lra_linear_spec.specs.Cones.{AreDual, Generated, all_rows, both_ways}
+use Rattle.lra_linear_spec.specs.ConeStrain.{row_limit}
+use Rattle.lra_linear_spec.specs.Descriptions.{LinearRow, inequality, rows_as, lines_of, rays_of, system_of}
+use Rattle.lra_linear_spec.specs.Polyhedra.{HasPoint, Polyhedron, positivity}
+use Rattle.lra_linear_spec.specs.RowOrder.{Ascends, inequality_cmp}
+use Rattle.lra_linear_spec.proofs.Saturation.{TightToo}
+use Rattle.lra_linear_spec.specs.Vectors.{dot, entry, negated, product}
+use Rattle.lra_linear_spec.proofs.Descriptions.{dual_flipped, in_all_rows, in_system}
+use Rattle.lra_linear_spec.proofs.FlatRows.{generated_flat}
+use Rattle.lra_linear_spec.proofs.Lines.{in_lines, in_lines_negated, signed_from}
+use Rattle.lra_linear_spec.proofs.Membership.{NoRepeat, contains_cases, contains_head, contains_none, contains_split, contains_tail}
+use Rattle.lra_linear_spec.proofs.OneSpelling.{given_from, given_has, positivity_product}
+use Rattle.lra_linear_spec.proofs.Polyhedra.{generators_lines, generators_rays}
+use Rattle.lra_linear_spec.proofs.Products.{dot_negated, product_comm}
+use Rattle.lra_linear_spec.proofs.Redundancy.{drop_keeps, redundant_tight}
+use Rattle.lra_linear_spec.proofs.RowOrder.{inequality_cmp_total, never_both}
+use Rattle.lra_linear_spec.proofs.SetOperations.{has_vertex}
+use Rattle.lra_linear_spec.proofs.Signs.{between_opposites}
 use Rattle.lra_cone.specs.Cones.{IsCone}
 use Rattle.lra_cone.proofs.RayCase.{beside_place, rows_same}
 use Rattle.lra_cone.proofs.Reordered.{canonical_again, dual_again}
@@ -97,12 +97,12 @@ once_end (y ∷ rows) x n fresh = (
 )
 
 -- ---- the constraints of both kinds
-pub lines_split : (equalities inequalities : List (List ℤ)) → lines_of (given_as true equalities ++ given_as false inequalities) ≡ equalities
+pub lines_split : (equalities inequalities : List (List ℤ)) → lines_of (rows_as true equalities ++ rows_as false inequalities) ≡ equalities
 lines_split [] [] = refl
 lines_split [] (r ∷ inequalities) = lines_split [] inequalities
 lines_split (r ∷ equalities) inequalities = ap (λ (l : List (List ℤ)). r ∷ l) (lines_split equalities inequalities)
 
-pub rays_split : (equalities inequalities : List (List ℤ)) → rays_of (given_as true equalities ++ given_as false inequalities) ≡ inequalities
+pub rays_split : (equalities inequalities : List (List ℤ)) → rays_of (rows_as true equalities ++ rows_as false inequalities) ≡ inequalities
 rays_split [] [] = refl
 rays_split [] (r ∷ inequalities) = ap (λ (l : List (List ℤ)). r ∷ l) (rays_split [] inequalities)
 rays_split (r ∷ equalities) inequalities = rays_split equalities inequalities
@@ -114,14 +114,15 @@ inequalities_are : (p : Polyhedron) (h : HasPoint p) → rays_of p.rows ≡ h.in
 inequalities_are p h = ap rays_of h.rows_are ∙ rays_split h.equalities h.inequalities
 
 inequality_in : (p : Polyhedron) (h : HasPoint p) (r : List ℤ) → Contains p.rows (inequality r) → Contains h.inequalities r
-inequality_in p h r k = elim (Contains-append_cases (given_as true h.equalities) (given_as false h.inequalities) (inequality r) (subst (λ (l : List Given). Contains l (inequality r)) h.rows_are k)) [
-  | inl e ↦ let no : false ≡ true = (given_from true h.equalities (inequality r) e).0 in cc
-  | inr i ↦ (given_from false h.inequalities (inequality r) i).1
-]
+inequality_in p h r k =
+    elim (Contains-append_cases (rows_as true h.equalities) (rows_as false h.inequalities) (inequality r) (subst (λ (l : List LinearRow). Contains l (inequality r)) h.rows_are k)) [
+      | inl e ↦ let no : false ≡ true = (given_from true h.equalities (inequality r) e).0 in cc
+      | inr i ↦ (given_from false h.inequalities (inequality r) i).1
+    ]
 
 inequality_there : (p : Polyhedron) (h : HasPoint p) (r : List ℤ) → Contains h.inequalities r → Contains p.rows (inequality r)
-inequality_there p h r i = subst (λ (l : List Given). Contains l (inequality r)) (sym h.rows_are)
-    (Contains-append_right (given_as true h.equalities) (given_as false h.inequalities) (inequality r) (given_has false h.inequalities r i))
+inequality_there p h r i = subst (λ (l : List LinearRow). Contains l (inequality r)) (sym h.rows_are)
+    (Contains-append_right (rows_as true h.equalities) (rows_as false h.inequalities) (inequality r) (given_has false h.inequalities r i))
 
 -- ---- the cone
 of_facets : (p : Polyhedron) (h : HasPoint p) (rays : List (List ℤ)) → ((t : List ℤ) → Contains h.facets t → Contains rays t) → ((t : List ℤ) → Contains rays t → Contains h.facets t) →

@@ -9,24 +9,24 @@ use Rattle.std.proofs.lemmas.List.{get_or_default}
 use Rattle.std.proofs.lemmas.List.Elements.{All-contains}
 use Rattle.std.proofs.Math.Nat.{mul-div_cancel', dvd_of_mul-dvd-mul_right, mul-dvd-mul_right, one-dvd}
 use Rattle.std.proofs.lemmas.Nat.Gcd.{dvd_antisymm}
-use Rattle.lra_linear.specs.CheckedArithmetic.{checked_product, checked_product_from}
-use Rattle.lra_linear.specs.Descriptions.{Given}
-use Rattle.lra_linear.specs.LowestTerms.{IsPrimitive}
-use Rattle.lra_linear.specs.Vectors.{entry, negated, product}
-use Rattle.lra_linear.specs.declared.Excess.{Excess}
-use Rattle.lra_linear.proofs.CheckedArithmetic.{checked_product_value, checked_product_in_range}
-use Rattle.lra_linear.proofs.LowestTerms.{signed_quotient_is}
-use Rattle.lra_linear.proofs.Membership.{all_from}
-use Rattle.lra_linear.proofs.Ring.{mul_nonnegative, ring, v, ⊖, ◌⊕◌, ◌⊗◌}
-use Rattle.lra_linear.proofs.Signs.{as_nat, cancel_same, divide_nonnegative, positive_is_nonnegative, positive_nat, positive_part}
-use Rattle.lra_linear.proofs.Signs.{times_positive}
-use Rattle.lra_linear.specs.Range.{InRange, in_range}
+use Rattle.lra_linear_spec.specs.CheckedArithmetic.{checked_product, checked_product_from}
+use Rattle.lra_linear_spec.specs.Descriptions.{LinearRow}
+use Rattle.lra_linear_spec.specs.LowestTerms.{IsPrimitive}
+use Rattle.lra_linear_spec.specs.Vectors.{entry, negated, product}
+use Rattle.lra_linear_spec.specs.declared.Excess.{Excess}
+use Rattle.lra_linear_spec.proofs.CheckedArithmetic.{checked_product_value, checked_product_in_range}
+use Rattle.lra_linear_spec.proofs.LowestTerms.{signed_quotient_is}
+use Rattle.lra_linear_spec.proofs.Membership.{all_from}
+use Rattle.lra_linear_spec.proofs.Ring.{mul_nonnegative, ring, v, ⊖, ◌⊕◌, ◌⊗◌}
+use Rattle.lra_linear_spec.proofs.Signs.{as_nat, cancel_same, divide_nonnegative, positive_is_nonnegative, positive_nat, positive_part}
+use Rattle.lra_linear_spec.proofs.Signs.{times_positive}
+use Rattle.lra_linear_spec.specs.Range.{InRange, in_range}
 use Rattle.lra_row.proofs.Ratio.{apart}
 use Rattle.lra_row.proofs.RowLemmas.{quotient_signed}
-use Rattle.lra_linear.specs.Kinds.{is_line}
+use Rattle.lra_linear_spec.specs.Kinds.{is_line}
 use Rattle.lra_sys.specs.Listed.{Listed, generators, given_by}
-use Rattle.lra_linear.specs.declared.GenKind.{GenKind}
-use Rattle.lra_linear.specs.declared.GenKind.TheVariants.{Point}
+use Rattle.lra_linear_spec.specs.declared.GenKind.{GenKind}
+use Rattle.lra_linear_spec.specs.declared.GenKind.TheVariants.{Point}
 use Rattle.lra_duality.specs.Maxima.{OfPoint, IsAtMost, IsBelow, HasValue, IsGreatest, IsMaximum, StaysInRange}
 use Rattle.lra_duality.specs.Maxima.{DoesNotImprove}
 use Rattle.lra_duality.specs.declared.maximum.Maximum.TheVariants.{At}
@@ -215,7 +215,7 @@ scaled_below form n d m e k x p em ee h = lt_step k (product form x *ℤ e) (m *
     (subst (λ (z : ℤ). (pos k *ℤ (product form x *ℤ e)) <ℤ z) (right_scaled n m k x em)
     (subst (λ (z : ℤ). z <ℤ (n *ℤ entry x 0)) (left_scaled form d e k x ee) h))
 
-scaled_greatest : (form : List ℤ) (list : List Given) (n d m e : ℤ) (k place : ℕ) → 0 < k → pos k *ℤ m ≡ n →
+scaled_greatest : (form : List ℤ) (list : List LinearRow) (n d m e : ℤ) (k place : ℕ) → 0 < k → pos k *ℤ m ≡ n →
     pos k *ℤ e ≡ d → IsGreatest form list n d place → IsGreatest form list m e place
 scaled_greatest form list n d m e k place p em ee h = record {
   first = record {
@@ -250,7 +250,7 @@ size m n k e = let f = sym (unsigned_abs-mul (pos k) m) ∙ ap unsigned_abs e in
 
 pub in_lowest_terms : (form : List ℤ) (n d p e g num den : ℤ) (place : ℕ) → n ≡ p → d ≡ e →
     IsGcd (unsigned_abs n) (unsigned_abs d) (unsigned_abs g) → pos 0 <ℤ g → pos 0 <ℤ e →
-    num ≡ int_div n g → den ≡ int_div d g → (list : List Given) → IsGreatest form list p e place →
+    num ≡ int_div n g → den ≡ int_div d g → (list : List LinearRow) → IsGreatest form list p e place →
     All (StaysInRange form) list → All (DoesNotImprove form) list →
     IsMaximum form list (At num den place)
 in_lowest_terms form n d p e g num den place np de h above k en ed list greatest stays flat = by_sign g h above en ed
@@ -269,11 +269,11 @@ in_lowest_terms form n d p e g num den place np de h above k en ed list greatest
         )
 
 -- ---- as the code tells it
-pub rows_seen : (P : List Given → Type 0) (list : Listed GenKind) (rows : List (List ℤ)) → rows ≡ list.rows →
+pub rows_seen : (P : List LinearRow → Type 0) (list : Listed GenKind) (rows : List (List ℤ)) → rows ≡ list.rows →
     P (generators list) → P (given_by is_line rows list.kinds)
 rows_seen P list rows e h = subst (λ (r : List (List ℤ)). P (given_by is_line r list.kinds)) (sym e) h
 
-pub both_seen : (P : List Given → Type 0) (list : Listed GenKind) (rows : List (List ℤ)) (kinds : List GenKind) →
+pub both_seen : (P : List LinearRow → Type 0) (list : Listed GenKind) (rows : List (List ℤ)) (kinds : List GenKind) →
     rows ≡ list.rows → kinds ≡ list.kinds → P (generators list) →
     P (given_by is_line rows kinds)
 both_seen P list rows kinds e f h = subst (λ (ks : List GenKind). P (given_by is_line rows ks)) (sym f)
@@ -283,7 +283,7 @@ pub many : (list : Listed GenKind) (rows : List (List ℤ)) (kinds : List GenKin
     kinds ≡ list.kinds → length kinds ≡ length list.rows → length list.kinds ≡ length rows
 many list rows kinds e f n = ap length (sym f) ∙ n ∙ ap length (sym e)
 
-pub seen_rows : (P : List Given → Type 0) (list : Listed GenKind) (rows : List (List ℤ)) → rows ≡ list.rows →
+pub seen_rows : (P : List LinearRow → Type 0) (list : Listed GenKind) (rows : List (List ℤ)) → rows ≡ list.rows →
     P (given_by is_line rows list.kinds) → P (generators list)
 seen_rows P list rows e h = subst (λ (r : List (List ℤ)). P (given_by is_line r list.kinds)) e h
 
@@ -292,7 +292,7 @@ pub row_there : (list : Listed GenKind) (rows : List (List ℤ)) (place : ℕ) (
 row_there list rows place r e er k = get_or_default list.rows place [] r k ∙
     ap (λ (rs : List (List ℤ)). get_or rs place r) (sym e) ∙ sym er
 
-pub greatest_there : (form : List ℤ) (list : List Given) (place : ℕ) (x r : List ℤ) → x ≡ r →
+pub greatest_there : (form : List ℤ) (list : List LinearRow) (place : ℕ) (x r : List ℤ) → x ≡ r →
     IsGreatest form list (product form x) (entry x 0) place →
     IsGreatest form list (product form r) (entry r 0) place
 greatest_there form list place x r e h = subst (λ (y : List ℤ). IsGreatest form list (product form y) (entry y 0) place)

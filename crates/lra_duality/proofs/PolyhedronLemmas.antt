@@ -2,24 +2,24 @@
 use Rattle.std.proofs.Common.{◌≡◌, ◌≢◌, ℕ, suc, true, false, List, [], ◌∷◌, length, ap, sym, ◌∙◌, subst, ℤ, inl, inr}
 use Rattle.std.specs.List.{Contains}
 use Rattle.std.proofs.lemmas.List.Elements.{Contains-append_cases, Contains-append_left, Contains-append_right}
-use Rattle.lra_linear.specs.Cones.{both_ways}
-use Rattle.lra_linear.specs.Descriptions.{Con, Given, inequality, given_as, system_of}
-use Rattle.lra_linear.specs.Points.{IsPoint, IsEmptySet}
-use Rattle.lra_linear.specs.Polyhedra.{Polyhedron, IsPolyhedron, HasPoint, falsity}
-use Rattle.lra_linear.specs.Vectors.{entry}
-use Rattle.lra_linear.proofs.Combinations.{generated_row}
-use Rattle.lra_linear.proofs.Descriptions.{generated_gen, system_from}
-use Rattle.lra_linear.proofs.Lines.{in_lines, zeros_length}
-use Rattle.lra_linear.proofs.Membership.{contains_head, contains_none, each_one}
-use Rattle.lra_linear.proofs.OneSpelling.{falsity_never, given_from}
-use Rattle.lra_linear.proofs.Polyhedra.{con_gen}
-use Rattle.lra_linear.proofs.Products.{negated_length}
-use Rattle.lra_linear.proofs.SetOperations.{has_vertex}
+use Rattle.lra_linear_spec.specs.Cones.{both_ways}
+use Rattle.lra_linear_spec.specs.Descriptions.{Con, LinearRow, inequality, rows_as, system_of}
+use Rattle.lra_linear_spec.specs.Points.{IsPoint, IsEmptySet}
+use Rattle.lra_linear_spec.specs.Polyhedra.{Polyhedron, IsPolyhedron, HasPoint, falsity}
+use Rattle.lra_linear_spec.specs.Vectors.{entry}
+use Rattle.lra_linear_spec.proofs.Combinations.{generated_row}
+use Rattle.lra_linear_spec.proofs.Descriptions.{generated_gen, system_from}
+use Rattle.lra_linear_spec.proofs.Lines.{in_lines, zeros_length}
+use Rattle.lra_linear_spec.proofs.Membership.{contains_head, contains_none, each_one}
+use Rattle.lra_linear_spec.proofs.OneSpelling.{falsity_never, given_from}
+use Rattle.lra_linear_spec.proofs.Polyhedra.{con_gen}
+use Rattle.lra_linear_spec.proofs.Products.{negated_length}
+use Rattle.lra_linear_spec.proofs.SetOperations.{has_vertex}
 
 -- ---- without a point
-pub falsity_is_empty : (n : ℕ) (rows : List Given) → rows ≡ inequality (falsity n) ∷ [] → IsEmptySet n (Con rows)
+pub falsity_is_empty : (n : ℕ) (rows : List LinearRow) → rows ≡ inequality (falsity n) ∷ [] → IsEmptySet n (Con rows)
 falsity_is_empty n rows e x is_point c =
-    falsity_never n x is_point (c (inequality (falsity n)) (subst (λ (l : List Given). Contains l (inequality (falsity n))) (sym e) (contains_head (inequality (falsity n)) [])))
+    falsity_never n x is_point (c (inequality (falsity n)) (subst (λ (l : List LinearRow). Contains l (inequality (falsity n))) (sym e) (contains_head (inequality (falsity n)) [])))
 
 -- one that isn't empty has a point
 pub with_point : (p : Polyhedron) → IsPolyhedron p → ¬ (IsEmptySet p.dims (Con p.rows)) → HasPoint p
@@ -27,7 +27,8 @@ with_point p (inl none) some = absurd (some (falsity_is_empty p.dims p.rows none
 with_point p (inr h) some = h
 
 pub some_generator : (p : Polyhedron) → HasPoint p → p.generators ≢ []
-some_generator p h e = contains_none (has_vertex p h).vertex (subst (λ (l : List Given). Contains (system_of l) (has_vertex p h).vertex) e (has_vertex p h).has)
+some_generator p h e =
+    contains_none (has_vertex p h).vertex (subst (λ (l : List LinearRow). Contains (system_of l) (has_vertex p h).vertex) e (has_vertex p h).has)
 
 pub empty_where_none : (p : Polyhedron) → IsPolyhedron p → p.generators ≡ [] → IsEmptySet p.dims (Con p.rows)
 empty_where_none p (inl none) e = falsity_is_empty p.dims p.rows none.0
@@ -41,9 +42,10 @@ none_where_empty p (inr h) e =
     absurd (e v.vertex is_point ((con_gen p (inr h)).1 v.vertex is_point (generated_gen p.generators (entry v.vertex) (generated_row (system_of p.generators) v.vertex v.has))))
 
 -- ---- the rows of a polyhedron have a column more than there are dimensions
-pub given_width : (p : Polyhedron) → IsPolyhedron p → (g : Given) → Contains p.rows g → length g.row ≡ suc p.dims
-given_width p (inl none) g k = each_one (λ (x : Given). length x.row ≡ suc p.dims) (inequality (falsity p.dims)) (ap suc (zeros_length p.dims)) g (subst (λ (l : List Given). Contains l g) none.0 k)
-given_width p (inr h) g k = elim (Contains-append_cases (given_as true h.equalities) (given_as false h.inequalities) g (subst (λ (l : List Given). Contains l g) h.rows_are k)) [
+pub given_width : (p : Polyhedron) → IsPolyhedron p → (g : LinearRow) → Contains p.rows g → length g.row ≡ suc p.dims
+given_width p (inl none) g k =
+    each_one (λ (x : LinearRow). length x.row ≡ suc p.dims) (inequality (falsity p.dims)) (ap suc (zeros_length p.dims)) g (subst (λ (l : List LinearRow). Contains l g) none.0 k)
+given_width p (inr h) g k = elim (Contains-append_cases (rows_as true h.equalities) (rows_as false h.inequalities) g (subst (λ (l : List LinearRow). Contains l g) h.rows_are k)) [
   | inl e ↦ h.dual.system_widths g.row
       (Contains-append_right h.facets (both_ways h.equalities) g.row (in_lines h.equalities g.row (given_from true h.equalities g e).1))
   | inr i ↦ h.dual.system_widths g.row

@@ -7,11 +7,11 @@ use Rattle.std.proofs.Math.Nat.{add-mod-mod, mul-le-mul, mul-le-mul_right}
 use Rattle.std.proofs.lemmas.Int.{fits_signed_mul, int_rem_euclid_is, ints, to_z-of_z, unsigned_abs-mul}
 use Rattle.std.proofs.lemmas.List.{take_all}
 use Rattle.std.specs.List.{All}
-use Rattle.lra_linear.specs.Range.{InRange}
-use Rattle.lra_linear.proofs.Products.{product_none}
+use Rattle.lra_linear_spec.specs.Range.{InRange}
+use Rattle.lra_linear_spec.proofs.Products.{product_none}
 use Rattle.std.specs.Int.{int_div_euclid, int_rem_euclid, w128}
-use Rattle.lra_linear.specs.Vectors.{product}
-use Rattle.lra_linear.proofs.Ring.{ring, v, ⊖, ◌⊕◌, ◌⊗◌}
+use Rattle.lra_linear_spec.specs.Vectors.{product}
+use Rattle.lra_linear_spec.proofs.Ring.{ring, v, ⊖, ◌⊕◌, ◌⊗◌}
 use Rattle.lra_row.proofs.Ratio.{euclid, rem_bounds}
 use Rattle.lra_duality.specs.Residues.{IsMultiple, IsResidue}
 

@@ -4,8 +4,8 @@ use Rattle.std.proofs.lemmas.List.{take_all}
 use Rattle.std.specs.Ordering.{int_eq}
 use Rattle.lra_bits.specs.Matrix.{Matrix}
 use Rattle.lra_bits.specs.TruthValues.{value_at}
-use Rattle.lra_linear.specs.Descriptions.{Given}
-use Rattle.lra_linear.specs.Vectors.{product}
+use Rattle.lra_linear_spec.specs.Descriptions.{LinearRow}
+use Rattle.lra_linear_spec.specs.Vectors.{product}
 use Rattle.lra_steps.specs.Steps.{IsFilled}
 use Rattle.lra_sys.specs.Listed.{Listed, given_by}
 use Rattle.lra_duality.specs.Saturations.{saturated, saturation_of}
@@ -33,8 +33,8 @@ given_length equal [] kinds n = refl
 given_length equal (r ∷ rows) [] n = absurd (omega (arith, n))
 given_length equal (r ∷ rows) (k ∷ kinds) n = ap suc (given_length equal rows kinds (omega (arith, n)))
 
-pub rows_saturate : {K : Type 0} (equal : K → Bool) (generators : List Given) (rows : List (List ℤ)) (kinds : List K) → length kinds ≡ length rows →
-    map (saturated generators) rows ≡ map (λ (s : Given). saturated generators s.row) (given_by equal rows kinds)
+pub rows_saturate : {K : Type 0} (equal : K → Bool) (generators : List LinearRow) (rows : List (List ℤ)) (kinds : List K) → length kinds ≡ length rows →
+    map (saturated generators) rows ≡ map (λ (s : LinearRow). saturated generators s.row) (given_by equal rows kinds)
 rows_saturate equal generators [] kinds n = refl
 rows_saturate equal generators (r ∷ rows) [] n = absurd (omega (arith, n))
 rows_saturate equal generators (r ∷ rows) (k ∷ kinds) n = ap (λ l. saturated generators r ∷ l) (rows_saturate equal generators rows kinds (omega (arith, n)))
@@ -46,10 +46,10 @@ matrix_start equal all columns kinds m ec ek n e =
     e ∙ ap (λ (w : ℕ). (let x : Matrix = record { width = w; rows = [] } in x)) (ap length ec ∙ sym (given_length equal all.rows all.kinds (ap length (sym ek) ∙ n)))
 
 -- as the code tells it
-pub all_saturated : {K : Type 0} (equal : K → Bool) (generators : List Given) (all : Listed K) (rows : List (List ℤ)) (kinds : List K) (m : Matrix) (k : ℕ) → rows ≡ all.rows →
+pub all_saturated : {K : Type 0} (equal : K → Bool) (generators : List LinearRow) (all : Listed K) (rows : List (List ℤ)) (kinds : List K) (m : Matrix) (k : ℕ) → rows ≡ all.rows →
     kinds ≡ all.kinds → length kinds ≡ length all.rows → length rows ≤ k → m ≡ record { width = length generators; rows = map (saturated generators) (take k rows) } →
     m ≡ saturation_of (given_by equal all.rows all.kinds) generators
 all_saturated equal generators all rows kinds m k er ek n h e =
     e ∙ ap (λ (l : List (List Bool)). record { width = length generators; rows = l }) (
     ap (map (saturated generators)) (take_all k rows h) ∙ rows_saturate equal generators rows kinds (n ∙ ap length (sym er)) ∙
-    ap (λ l. map (λ (s : Given). saturated generators s.row) (given_by equal l kinds)) er ∙ ap (λ l. map (λ (s : Given). saturated generators s.row) (given_by equal all.rows l)) ek)
+    ap (λ l. map (λ (s : LinearRow). saturated generators s.row) (given_by equal l kinds)) er ∙ ap (λ l. map (λ (s : LinearRow). saturated generators s.row) (given_by equal all.rows l)) ek)

@@ -4,31 +4,32 @@ use Rattle.std.proofs.lemmas.List.{append-nil, ext_get_or, length-map, take_all,
 use Rattle.std.specs.Ordering.{int_eq}
 use Rattle.lra_bits.specs.Matrix.{Matrix}
 use Rattle.lra_bits.specs.TruthValues.{value_at}
-use Rattle.lra_linear.specs.ConeStrain.{row_limit}
-use Rattle.lra_linear.specs.Descriptions.{Given, inequality, lines_of, rays_of}
-use Rattle.lra_linear.specs.Polyhedra.{positivity}
-use Rattle.lra_linear.specs.Vectors.{entry, product}
-use Rattle.lra_linear.proofs.OneSpelling.{positivity_product}
+use Rattle.lra_linear_spec.specs.ConeStrain.{row_limit}
+use Rattle.lra_linear_spec.specs.Descriptions.{LinearRow, inequality, lines_of, rays_of}
+use Rattle.lra_linear_spec.specs.Polyhedra.{positivity}
+use Rattle.lra_linear_spec.specs.Vectors.{entry, product}
+use Rattle.lra_linear_spec.proofs.OneSpelling.{positivity_product}
 use Rattle.lra_cone.specs.Cones.{saturation_of as by_rays, saturation_rows, tight_values}
 use Rattle.lra_steps.specs.Steps.{IsFilled}
-use Rattle.lra_linear.specs.Kinds.{is_line}
+use Rattle.lra_linear_spec.specs.Kinds.{is_line}
 use Rattle.lra_sys.specs.Dimensions.{too_many_dimensions}
 use Rattle.lra_sys.specs.Listed.{given_by}
-use Rattle.lra_linear.specs.declared.GenKind.{GenKind}
+use Rattle.lra_linear_spec.specs.declared.GenKind.{GenKind}
 use Rattle.lra_duality.specs.Onward.{MayGoOn, MayTurn}
 use Rattle.lra_duality.specs.Saturations.{column, saturated, saturation_of}
 use Rattle.lra_duality.proofs.SaturationLemmas.{given_length}
 use Rattle.lra_sys.proofs.FirstMembers.{front, front_length, given_more, given_split, member}
 
 -- ---- lines and others
-parted : {K : Type 0} (equal : K → Bool) (f : List Given → List (List ℤ)) → ((xs : List Given) (g : Given) → f (xs ++ g ∷ []) ≡ f xs ++ f (g ∷ [])) → (rows : List (List ℤ)) (kinds : List K)
+parted : {K : Type 0} (equal : K → Bool) (f : List LinearRow → List (List ℤ)) → ((xs : List LinearRow) (g : LinearRow) → f (xs ++ g ∷ []) ≡ f xs ++ f (g ∷ [])) →
+    (rows : List (List ℤ)) (kinds : List K)
     (i : ℕ) (r : List ℤ) (k : K) → length kinds ≡ length rows → i < length rows → r ≡ get_or rows i r →
     f (front equal rows kinds (i + 1)) ≡ f (front equal rows kinds i) ++ f (member equal kinds i r k ∷ [])
 parted equal f appends rows kinds i r k n h e =
     ap (λ (j : ℕ). f (front equal rows kinds j)) (add-one i) ∙ ap f (given_more equal rows kinds i r k n h e) ∙
     appends (front equal rows kinds i) (member equal kinds i r k)
 
-lines_push : (xs : List Given) (g : Given) → lines_of (xs ++ g ∷ []) ≡ lines_of xs ++ lines_of (g ∷ [])
+lines_push : (xs : List LinearRow) (g : LinearRow) → lines_of (xs ++ g ∷ []) ≡ lines_of xs ++ lines_of (g ∷ [])
 lines_push [] g = refl
 lines_push (x ∷ xs) g = by_kind x.equal (lines_push xs g)
   where
@@ -37,7 +38,7 @@ lines_push (x ∷ xs) g = by_kind x.equal (lines_push xs g)
     by_kind true e = ap (λ l. x.row ∷ l) e
     by_kind false e = e
 
-rays_push : (xs : List Given) (g : Given) → rays_of (xs ++ g ∷ []) ≡ rays_of xs ++ rays_of (g ∷ [])
+rays_push : (xs : List LinearRow) (g : LinearRow) → rays_of (xs ++ g ∷ []) ≡ rays_of xs ++ rays_of (g ∷ [])
 rays_push [] g = refl
 rays_push (x ∷ xs) g = by_kind x.equal (rays_push xs g)
   where
@@ -110,7 +111,7 @@ pub ray_left : {K : Type 0} (equal : K → Bool) (rows : List (List ℤ)) (kinds
 ray_left equal rows kinds i r k line items n h e el l ei = ei ∙ sym (rays_same equal rows kinds i r k line n h e el l)
 
 -- once all are seen
-pub seen_all : {K : Type 0} (equal : K → Bool) (P : List Given → Type 0) (rows listed : List (List ℤ)) (kinds also : List K) (i : ℕ) → rows ≡ listed → kinds ≡ also → length kinds ≡ length listed →
+pub seen_all : {K : Type 0} (equal : K → Bool) (P : List LinearRow → Type 0) (rows listed : List (List ℤ)) (kinds also : List K) (i : ℕ) → rows ≡ listed → kinds ≡ also → length kinds ≡ length listed →
     length rows ≤ i →
     P (front equal rows kinds i) → P (given_by equal listed also)
 seen_all {K = K} equal P rows listed kinds also i er ek n h x =
@@ -119,17 +120,18 @@ seen_all {K = K} equal P rows listed kinds also i er ek n h x =
     (subst (λ (l : List K). P (given_by equal rows l)) (take_all i kinds many) (subst (λ (l : List (List ℤ)). P (given_by equal l (take i kinds))) (take_all i rows h) x)))
 
 -- ---- the column of a generator
-value_split : (f : Given → Bool) (xs : List Given) (g : Given) (ys : List Given) → value_at (map f (xs ++ g ∷ ys)) (length xs) ≡ f g
+value_split : (f : LinearRow → Bool) (xs : List LinearRow) (g : LinearRow) (ys : List LinearRow) → value_at (map f (xs ++ g ∷ ys)) (length xs) ≡ f g
 value_split f [] g ys = refl
 value_split f (x ∷ xs) g ys = value_split f xs g ys
 
-column_split : (rows xs : List Given) (g : Given) (ys : List Given) → column (saturation_of rows (xs ++ g ∷ ys)) (length xs) ≡ tight_values rows g.row
+column_split : (rows xs : List LinearRow) (g : LinearRow) (ys : List LinearRow) →
+    column (saturation_of rows (xs ++ g ∷ ys)) (length xs) ≡ tight_values rows g.row
 column_split [] xs g ys = refl
 column_split (s ∷ rows) xs g ys =
     ap (λ (b : Bool). b ∷ column (saturation_of rows (xs ++ g ∷ ys)) (length xs)) (value_split (λ x. int_eq (product s.row x.row) (pos 0)) xs g ys) ∙
     ap (λ (l : List Bool). int_eq (product s.row g.row) (pos 0) ∷ l) (column_split rows xs g ys)
 
-column_values : (given : List Given) (rows : List (List ℤ)) (kinds : List GenKind) (i : ℕ) (r : List ℤ) (k : GenKind) (m : Matrix) → length kinds ≡ length rows → i < length rows →
+column_values : (given : List LinearRow) (rows : List (List ℤ)) (kinds : List GenKind) (i : ℕ) (r : List ℤ) (k : GenKind) (m : Matrix) → length kinds ≡ length rows → i < length rows →
     r ≡ get_or rows i r → m ≡ saturation_of given (given_by is_line rows kinds) → column m i ≡ tight_values given r
 column_values given rows kinds i r k m n h e em =
     let xs = front is_line rows kinds i in
@@ -153,14 +155,14 @@ all_values m place width k first bits e h f =
     ext_get_or false bits (first ∷ column m place) (f.0 ∙ sym l) (λ j i. f.1 j (omega (arith, i, h, f.0)))
 
 -- ---- the matrix by points and rays
-saturation_push : (taken : List Given) (rays : List (List ℤ)) (r : List ℤ) → saturation_rows taken (rays ++ r ∷ []) ≡ saturation_rows taken rays ++ tight_values taken r ∷ []
+saturation_push : (taken : List LinearRow) (rays : List (List ℤ)) (r : List ℤ) → saturation_rows taken (rays ++ r ∷ []) ≡ saturation_rows taken rays ++ tight_values taken r ∷ []
 saturation_push taken [] r = refl
 saturation_push taken (x ∷ rays) r = ap (λ (l : List (List Bool)). tight_values taken x ∷ l) (saturation_push taken rays r)
 
 first_value : (n : ℕ) (r : List ℤ) (b : Bool) → b ≡ int_eq (entry r 0) (pos 0) → b ≡ int_eq (product (positivity n) r) (pos 0)
 first_value n r b e = e ∙ ap (λ (y : ℤ). int_eq y (pos 0)) (sym (positivity_product n r))
 
-pub matrix_more : (n : ℕ) (given : List Given) (rows : List (List ℤ)) (kinds : List GenKind) (i : ℕ) (r : List ℤ) (k : GenKind) (line first : Bool) (bits : List Bool) (m old new : Matrix) →
+pub matrix_more : (n : ℕ) (given : List LinearRow) (rows : List (List ℤ)) (kinds : List GenKind) (i : ℕ) (r : List ℤ) (k : GenKind) (line first : Bool) (bits : List Bool) (m old new : Matrix) →
     length kinds ≡ length rows → i < length rows → r ≡ get_or rows i r → line ≡ is_line (get_or kinds i k) → line ≡ false → first ≡ int_eq (entry r 0) (pos 0) →
     bits ≡ first ∷ column m i → m ≡ saturation_of given (given_by is_line rows kinds) → new ≡ record old { rows = old.rows ++ bits ∷ [] } →
     old ≡ by_rays (inequality (positivity n) ∷ given) (rays_of (front is_line rows kinds i)) →
@@ -175,26 +177,28 @@ matrix_more n given rows kinds i r k line first bits m old new nk h e el l ef eb
     ap (λ (x : List (List Bool)). record { width = length taken; rows = x }) (sym (saturation_push taken rays r)) ∙
     ap (by_rays taken) (sym (rays_more is_line rows kinds i r k line nk h e el l))
 
-pub matrix_left : (taken : List Given) (rows : List (List ℤ)) (kinds : List GenKind) (i : ℕ) (r : List ℤ) (k : GenKind) (line : Bool) (old : Matrix) → length kinds ≡ length rows → i < length rows →
+pub matrix_left : (taken : List LinearRow) (rows : List (List ℤ)) (kinds : List GenKind) (i : ℕ) (r : List ℤ) (k : GenKind) (line : Bool) (old : Matrix) → length kinds ≡ length rows →
+    i < length rows →
     r ≡ get_or rows i r → line ≡ is_line (get_or kinds i k) → line ≡ true → old ≡ by_rays taken (rays_of (front is_line rows kinds i)) →
     old ≡ by_rays taken (rays_of (front is_line rows kinds (i + 1)))
 matrix_left taken rows kinds i r k line old n h e el l eo = eo ∙ ap (by_rays taken) (sym (rays_same is_line rows kinds i r k line n h e el l))
 
 -- no ray is seen yet
-pub matrix_none : (first : Given) (given generators : List Given) (m start : Matrix) (width : ℕ) → m ≡ saturation_of given generators → width ≡ suc (length m.rows) →
+pub matrix_none : (first : LinearRow) (given generators : List LinearRow) (m start : Matrix) (width : ℕ) → m ≡ saturation_of given generators → width ≡ suc (length m.rows) →
     start ≡ record { width = width; rows = [] } → start ≡ by_rays (first ∷ given) []
 matrix_none first given generators m start width em ew es =
     es ∙ ap (λ (w : ℕ). (let x : Matrix = record { width = w; rows = [] } in x)) (ew ∙ ap suc (ap (λ (x : Matrix). length x.rows) em ∙ length-map given (λ s. saturated generators s.row)))
 
 -- ---- as the code tells it
-pub matrix_width : (equal : GenKind → Bool) (given : List Given) (rows seen : List (List ℤ)) (kinds also : List GenKind) (m : Matrix) → seen ≡ rows → also ≡ kinds →
+pub matrix_width : (equal : GenKind → Bool) (given : List LinearRow) (rows seen : List (List ℤ)) (kinds also : List GenKind) (m : Matrix) → seen ≡ rows → also ≡ kinds →
     length also ≡ length rows → m ≡ saturation_of given (given_by equal rows kinds) → m.width ≡ length rows
 matrix_width equal given rows seen kinds also m er ek n e = ap (λ (x : Matrix). x.width) e ∙ given_length equal rows kinds (ap length (sym ek) ∙ n)
 
-pub start_matrix : (n d : ℕ) (rows generators taken : List Given) (rays : List (List ℤ)) (m : Matrix) → d ≡ n → taken ≡ inequality (positivity n) ∷ rows → rays ≡ rays_of generators →
+pub start_matrix : (n d : ℕ) (rows generators taken : List LinearRow) (rays : List (List ℤ)) (m : Matrix) → d ≡ n → taken ≡ inequality (positivity n) ∷ rows → rays ≡ rays_of generators →
     m ≡ by_rays (inequality (positivity d) ∷ rows) (rays_of generators) → m ≡ by_rays taken rays
 start_matrix n d rows generators taken rays m ed et er e =
-    e ∙ ap (λ (k : ℕ). by_rays (inequality (positivity k) ∷ rows) (rays_of generators)) ed ∙ ap (λ (t : List Given). by_rays t (rays_of generators)) (sym et) ∙
+    e ∙ ap (λ (k : ℕ). by_rays (inequality (positivity k) ∷ rows) (rays_of generators)) ed
+    ∙ ap (λ (t : List LinearRow). by_rays t (rays_of generators)) (sym et) ∙
     ap (by_rays taken) (sym er)
 
 pub some_given : {K : Type 0} (equal : K → Bool) (rows seen : List (List ℤ)) (kinds also : List K) → seen ≡ rows → also ≡ kinds → length also ≡ length rows → 0 < length seen →
@@ -220,16 +224,16 @@ given_count equal rows seen kinds also er ek n = ap length er ∙ sym (given_len
 never : (b : Bool) → b ≡ false → IsTrue b → ⊥
 never b f t = cc
 
-pub fitting : (n count : ℕ) (given : List Given) → n < too_many_dimensions → 0 < count → count ≤ row_limit → count ≡ length given → MayGoOn n given
+pub fitting : (n count : ℕ) (given : List LinearRow) → n < too_many_dimensions → 0 < count → count ≤ row_limit → count ≡ length given → MayGoOn n given
 fitting n count given small some few e = record { small = small; some = subst (λ (i : ℕ). 0 < i) e some; few = subst (λ (i : ℕ). i ≤ row_limit) e few }
 
-pub not_fitting : (n count : ℕ) (given : List Given) (b : Bool) → (n < too_many_dimensions → 0 < count → count ≤ row_limit → IsTrue b) → b ≡ false → count ≡ length given →
+pub not_fitting : (n count : ℕ) (given : List LinearRow) (b : Bool) → (n < too_many_dimensions → 0 < count → count ≤ row_limit → IsTrue b) → b ≡ false → count ≡ length given →
     ¬ (MayGoOn n given)
 not_fitting n count given b fits f e m =
     never b f (fits m.small (subst (λ (i : ℕ). 0 < i) (sym e) m.some) (subst (λ (i : ℕ). i ≤ row_limit) (sym e) m.few))
 
-pub not_turning : (n : ℕ) (rows given : List Given) → ¬ (MayGoOn n given) → ¬ (MayTurn n rows given)
+pub not_turning : (n : ℕ) (rows given : List LinearRow) → ¬ (MayGoOn n given) → ¬ (MayTurn n rows given)
 not_turning n rows given fails m = fails m.on
 
-pub no_room : (n count : ℕ) (rows given : List Given) (b : Bool) → (count + 1 ≤ row_limit → IsTrue b) → b ≡ false → count ≡ length rows → ¬ (MayTurn n rows given)
+pub no_room : (n count : ℕ) (rows given : List LinearRow) (b : Bool) → (count + 1 ≤ row_limit → IsTrue b) → b ≡ false → count ≡ length rows → ¬ (MayTurn n rows given)
 no_room n count rows given b leaves f e m = never b f (leaves (subst (λ (i : ℕ). i + 1 ≤ row_limit) (sym e) m.room))

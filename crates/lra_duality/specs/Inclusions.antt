@@ -2,13 +2,13 @@
 -- in their order. The first pair whose product passes the range, or which violates the row, decides.
 use Rattle.std.specs.Prelude.{◌≡◌, ℕ, false, List, IsTrue, IsOk, IsErr}
 use Rattle.std.specs.List.{All}
-use Rattle.lra_linear.specs.declared.Excess as E
-use Rattle.lra_linear.specs.CheckedArithmetic.{checked_product}
-use Rattle.lra_linear.specs.Descriptions.{Given, Con}
-use Rattle.lra_linear.specs.OperationStrain.{InclusionStrains}
-use Rattle.lra_linear.specs.Points.{IsWithin}
-use Rattle.lra_linear.specs.Polyhedra.{Polyhedron}
-use Rattle.lra_linear.specs.Widening.{holds_with}
+use Rattle.lra_linear_spec.specs.declared.Excess as E
+use Rattle.lra_linear_spec.specs.CheckedArithmetic.{checked_product}
+use Rattle.lra_linear_spec.specs.Descriptions.{LinearRow, Con}
+use Rattle.lra_linear_spec.specs.OperationStrain.{InclusionStrains}
+use Rattle.lra_linear_spec.specs.Points.{IsWithin}
+use Rattle.lra_linear_spec.specs.Polyhedra.{Polyhedron}
+use Rattle.lra_linear_spec.specs.Widening.{holds_with}
 use Rattle.lra_sys.specs.declared.membership.Holds as H
 use Rattle.lra_sys.specs.declared.membership.Holds.TheVariants as holds
 use Rattle.lra_duality.specs.declared.inclusion.Inclusion.{Inclusion}
@@ -17,34 +17,34 @@ use Rattle.lra_sys.specs.FirstPlaces.{FirstAt}
 
 -- ---- a generator and a row
 -- the product stays in the range, and the row holds with the generator
-abbrev pub Meets : Given → Given → Type 0
+abbrev pub Meets : LinearRow → LinearRow → Type 0
 Meets g r = IsOk (checked_product r.row g.row) × IsTrue (holds_with r g)
 
 -- it stays in the range, and the row doesn't hold
-abbrev pub Violates : Given → Given → Type 0
+abbrev pub Violates : LinearRow → LinearRow → Type 0
 Violates g r = IsOk (checked_product r.row g.row) × (holds_with r g ≡ false)
 
 -- it passes the range
-abbrev pub Passes : Given → Given → Type 0
+abbrev pub Passes : LinearRow → LinearRow → Type 0
 Passes g r = IsErr (checked_product r.row g.row)
 
 -- ---- a generator and a list of rows
-abbrev pub MeetsAll : List Given → Given → Type 0
+abbrev pub MeetsAll : List LinearRow → LinearRow → Type 0
 MeetsAll rows g = All (Meets g) rows
 
-abbrev pub IsReply : List Given → Given → H.Holds → Type 0
+abbrev pub IsReply : List LinearRow → LinearRow → H.Holds → Type 0
 IsReply rows g holds.Yes = MeetsAll rows g
 IsReply rows g (holds.No place) = FirstAt (Meets g) (Violates g) rows place
 IsReply rows g (holds.Wide place) = FirstAt (Meets g) (Passes g) rows place
 
 -- some row is violated, and those before it are met
-pub record ViolatesFirst (rows : List Given) (g : Given) : Type 0 where
+pub record ViolatesFirst (rows : List LinearRow) (g : LinearRow) : Type 0 where
   pub place : ℕ
   pub first : FirstAt (Meets g) (Violates g) rows place
 
 -- ---- two lists
 -- the answer of the first pair that decides
-abbrev pub IsInclusion : List Given → List Given → Inclusion → Type 0
+abbrev pub IsInclusion : List LinearRow → List LinearRow → Inclusion → Type 0
 IsInclusion rows generators Yes = All (MeetsAll rows) generators
 IsInclusion rows generators (No place) = FirstAt (MeetsAll rows) (ViolatesFirst rows) generators place
 IsInclusion rows generators (Wide place row) =

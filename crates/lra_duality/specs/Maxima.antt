@@ -3,15 +3,15 @@
 use Rattle.std.specs.Prelude.{◌≡◌, ◌≢◌, ℕ, ◌⊎◌, ℤ, pos, ◌*ℤ◌, ◌<ℤ◌, ◌≤ℤ◌, Bool, true, false, cond, ⊤}
 use Rattle.std.specs.Prelude.{List, [], ◌∷◌, IsOk, IsErr}
 use Rattle.std.specs.List.{All}
-use Rattle.lra_linear.specs.declared.Excess as E
-use Rattle.lra_linear.specs.CheckedArithmetic.{checked_product}
-use Rattle.lra_linear.specs.Descriptions.{Given, Con}
-use Rattle.lra_linear.specs.LowestTerms.{IsPrimitive}
-use Rattle.lra_linear.specs.OperationStrain.{MaximiseStrains}
-use Rattle.lra_linear.specs.Points.{IsPoint, IsEmptySet}
-use Rattle.lra_linear.specs.Polyhedra.{Polyhedron}
-use Rattle.lra_linear.specs.Range.{InRange}
-use Rattle.lra_linear.specs.Vectors.{entry, negated, product}
+use Rattle.lra_linear_spec.specs.declared.Excess as E
+use Rattle.lra_linear_spec.specs.CheckedArithmetic.{checked_product}
+use Rattle.lra_linear_spec.specs.Descriptions.{LinearRow, Con}
+use Rattle.lra_linear_spec.specs.LowestTerms.{IsPrimitive}
+use Rattle.lra_linear_spec.specs.OperationStrain.{MaximiseStrains}
+use Rattle.lra_linear_spec.specs.Points.{IsPoint, IsEmptySet}
+use Rattle.lra_linear_spec.specs.Polyhedra.{Polyhedron}
+use Rattle.lra_linear_spec.specs.Range.{InRange}
+use Rattle.lra_linear_spec.specs.Vectors.{entry, negated, product}
 use Rattle.lra_lin.specs.Form.{Form, form_row}
 use Rattle.lra_duality.specs.declared.maximum.Maximum.{Maximum}
 use Rattle.lra_duality.specs.declared.maximum.Maximum.TheVariants.{Empty, Wide, Unbounded, At}
@@ -22,18 +22,18 @@ abbrev pub directed : Form → Bool → List ℤ
 directed form is_opposite = cond is_opposite (negated (form_row form)) (form_row form)
 
 -- ---- a form and a generator
-abbrev pub StaysInRange : List ℤ → Given → Type 0
+abbrev pub StaysInRange : List ℤ → LinearRow → Type 0
 StaysInRange form g = IsOk (checked_product form g.row)
 
-abbrev pub PassesRange : List ℤ → Given → Type 0
+abbrev pub PassesRange : List ℤ → LinearRow → Type 0
 PassesRange form g = IsErr (checked_product form g.row)
 
 -- a ray along which the form grows, or a line along which it changes
-abbrev pub Improves : List ℤ → Given → Type 0
+abbrev pub Improves : List ℤ → LinearRow → Type 0
 Improves form g = (entry g.row 0 ≡ pos 0) ×
     (((g.equal ≡ false) × (pos 0 <ℤ product form g.row)) ⊎ ((g.equal ≡ true) × (product form g.row ≢ pos 0)))
 
-abbrev pub DoesNotImprove : List ℤ → Given → Type 0
+abbrev pub DoesNotImprove : List ℤ → LinearRow → Type 0
 DoesNotImprove form g = ¬ (Improves form g)
 
 -- the form's value there is num / den
@@ -47,18 +47,18 @@ abbrev pub IsBelow : List ℤ → ℤ → ℤ → List ℤ → Type 0
 IsBelow form num den x = (product form x *ℤ den) <ℤ (num *ℤ entry x 0)
 
 -- of a point; nothing is asked of a ray or line
-abbrev pub OfPoint : (List ℤ → Type 0) → Given → Type 0
+abbrev pub OfPoint : (List ℤ → Type 0) → LinearRow → Type 0
 OfPoint P g = pos 0 <ℤ entry g.row 0 → P g.row
 
 -- ---- the generators
 -- the point at the place has the value num / den, each point has at most that, and each before it less
-pub record IsGreatest (form : List ℤ) (generators : List Given) (num den : ℤ) (place : ℕ) : Type 0 where
+pub record IsGreatest (form : List ℤ) (generators : List LinearRow) (num den : ℤ) (place : ℕ) : Type 0 where
   pub first : FirstAt (OfPoint (IsBelow form num den)) (λ g. (pos 0 <ℤ entry g.row 0) × HasValue form num den g.row)
       generators place
   pub others : All (OfPoint (IsAtMost form num den)) generators
   pub positive : pos 0 <ℤ den
 
-abbrev pub IsMaximum : List ℤ → List Given → Maximum → Type 0
+abbrev pub IsMaximum : List ℤ → List LinearRow → Maximum → Type 0
 IsMaximum form generators Empty = generators ≡ []
 IsMaximum form generators (Wide place) = FirstAt (StaysInRange form) (PassesRange form) generators place
 IsMaximum form generators (Unbounded place) =

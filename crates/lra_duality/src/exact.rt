@@ -4,8 +4,8 @@ ghost use Rattle.std.specs.Prelude.{◌≡◌, ◌↔◌, pos, ◌<ℤ◌, ◌�
 ghost use Rattle.std.specs.List.{All};
 ghost use Rattle.std.specs.Int.{int_rem_euclid};
 ghost use Rattle.std.specs.Ordering.{int_eq};
-ghost use Rattle.lra_linear.specs.Range.{InRange};
-ghost use Rattle.lra_linear.specs.Vectors.{product};
+ghost use Rattle.lra_linear_spec.specs.Range.{InRange};
+ghost use Rattle.lra_linear_spec.specs.Vectors.{product};
 ghost use Rattle.lra_duality.specs.Residues.{IsMultiple, IsResidue};
 
 use lra_row::Row;

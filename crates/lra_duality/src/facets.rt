@@ -2,9 +2,9 @@
 
 ghost use Rattle.std.specs.Prelude.{◌≡◌, ◌≢◌, ◌↔◌, ◌+◌, ◌<◌, ◌≤◌, ◌∷◌, ◌++◌, [], length, List, IsTrue, IfOk};
 ghost use Rattle.std.specs.Prelude.{IfSome, IfNone};
-ghost use Rattle.lra_linear.specs.ConeStrain.{row_limit};
-ghost use Rattle.lra_linear.specs.Descriptions.{Given, lines_of, rays_of};
-ghost use Rattle.lra_linear.specs.Polyhedra.{IsPolyhedron};
+ghost use Rattle.lra_linear_spec.specs.ConeStrain.{row_limit};
+ghost use Rattle.lra_linear_spec.specs.Descriptions.{LinearRow, lines_of, rays_of};
+ghost use Rattle.lra_linear_spec.specs.Polyhedra.{IsPolyhedron};
 ghost use Rattle.lra_cone.specs.Cones.{IsCone, saturation_of as by_rays};
 ghost use Rattle.lra_sys.specs.Dimensions.{too_many_dimensions};
 ghost use Rattle.lra_sys.specs.Listed.{constraints, generators};
@@ -57,7 +57,7 @@ fn inequality_saturation(
     saturation: &SatMatrix,
 ) -> Result<SatMatrix, AllocError>
     requires { length saturation.now.rows ≡ length list.now.rows }
-    ensures { IfOk result (λ matrix. (generators : List Given) →
+    ensures { IfOk result (λ matrix. (generators : List LinearRow) →
         saturation.now ≡ saturation_of (constraints list.now) generators →
         matrix ≡ by_rays generators (rays_of (constraints list.now))) }
 {

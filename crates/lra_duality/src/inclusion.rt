@@ -2,14 +2,14 @@
 
 ghost use Rattle.std.specs.Prelude.{◌≡◌, length};
 ghost use Rattle.std.specs.List.{All};
-ghost use Rattle.lra_linear.specs.Descriptions.{Given};
-ghost use Rattle.lra_linear.specs.Kinds.{is_equality};
-ghost use Rattle.lra_linear.specs.Widening.{holds_with};
-ghost use Rattle.lra_linear.specs.Vectors.{product};
+ghost use Rattle.lra_linear_spec.specs.Descriptions.{LinearRow};
+ghost use Rattle.lra_linear_spec.specs.Kinds.{is_equality};
+ghost use Rattle.lra_linear_spec.specs.Widening.{holds_with};
+ghost use Rattle.lra_linear_spec.specs.Vectors.{product};
 ghost use Rattle.lra_sys.specs.Listed.{given_by, constraints, generators};
 ghost use Rattle.lra_duality.specs.Inclusions.{IsReply, IsInclusion};
 
-use lra_linear::ConKind;
+use lra_linear_spec::ConKind;
 use lra_row::Row;
 use lra_sys::{ConSys, GenSys, Holds};
 
@@ -27,7 +27,7 @@ pub enum Inclusion {
 /// an equality.
 #[tactic(auto, using(crate::proofs::InclusionLemmas::with_line, crate::proofs::InclusionLemmas::with_ray))]
 pub fn accepts(kind: ConKind, line: bool, value: i128) -> bool
-    ensures { (r g : Given) → r.equal ≡ is_equality kind → g.equal ≡ line → value ≡ product r.row g.row →
+    ensures { (r g : LinearRow) → r.equal ≡ is_equality kind → g.equal ≡ line → value ≡ product r.row g.row →
         holds_with r g ≡ result }
 {
     if line {

@@ -6,10 +6,10 @@ ghost use Rattle.std.specs.Int.{IsGcd};
 ghost use Rattle.std.specs.List.{All};
 ghost use Rattle.std.specs.Option.{SomeIff};
 ghost use Rattle.lra_lin.specs.Form.{AddsInRange, form_row};
-ghost use Rattle.lra_linear.specs.CheckedArithmetic.{checked_product, checked_product_from};
-ghost use Rattle.lra_linear.specs.Descriptions.{Given};
-ghost use Rattle.lra_linear.specs.Range.{InRange};
-ghost use Rattle.lra_linear.specs.Vectors.{entry, product};
+ghost use Rattle.lra_linear_spec.specs.CheckedArithmetic.{checked_product, checked_product_from};
+ghost use Rattle.lra_linear_spec.specs.Descriptions.{LinearRow};
+ghost use Rattle.lra_linear_spec.specs.Range.{InRange};
+ghost use Rattle.lra_linear_spec.specs.Vectors.{entry, product};
 ghost use Rattle.lra_sys.specs.Listed.{generators};
 ghost use Rattle.lra_sys.specs.FirstPlaces.{FirstAt};
 ghost use Rattle.lra_duality.specs.Maxima.{StaysInRange, PassesRange, Improves, DoesNotImprove};
@@ -131,7 +131,7 @@ fn first_wide(form: &LinExpr, is_opposite: bool, list: &GenSys) -> Option<usize>
 fn improves(form: &LinExpr, is_opposite: bool, row: &Row, line: bool) -> bool
     requires width { 0 < length row.now }
     requires in_range { IsOk (checked_product (directed form.now is_opposite) row.now) }
-    ensures { (g : Given) → g.row ≡ row.now → g.equal ≡ line →
+    ensures { (g : LinearRow) → g.row ≡ row.now → g.equal ≡ line →
         (IsTrue result ↔ Improves (directed form.now is_opposite) g) }
 {
     let value = value_with(form, is_opposite, row);
@@ -211,7 +211,7 @@ fn at(form: &LinExpr, is_opposite: bool, point: &Row, place: usize) -> Maximum
     requires in_range { IsOk (checked_product (directed form.now is_opposite) point.now) }
     requires divisor { pos 0 <ℤ entry point.now 0 }
     requires width { 0 < length point.now }
-    ensures greatest { (list : List Given) → IsGreatest (directed form.now is_opposite) list
+    ensures greatest { (list : List LinearRow) → IsGreatest (directed form.now is_opposite) list
         (product (directed form.now is_opposite) point.now) (entry point.now 0) place →
         All (StaysInRange (directed form.now is_opposite)) list →
         All (DoesNotImprove (directed form.now is_opposite)) list →

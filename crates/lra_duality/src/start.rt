@@ -2,10 +2,10 @@
 
 ghost use Rattle.std.specs.Prelude.{◌≡◌, ◌∷◌, ◌+◌, ◌<◌, ◌≤◌, suc, pos, length, List, IsTrue, IfOk, IfSome, IfNone};
 ghost use Rattle.std.specs.Ordering.{int_eq};
-ghost use Rattle.lra_linear.specs.ConeStrain.{row_limit};
-ghost use Rattle.lra_linear.specs.Descriptions.{Given, inequality, lines_of, rays_of};
-ghost use Rattle.lra_linear.specs.Polyhedra.{IsPolyhedron, positivity};
-ghost use Rattle.lra_linear.specs.Vectors.{entry};
+ghost use Rattle.lra_linear_spec.specs.ConeStrain.{row_limit};
+ghost use Rattle.lra_linear_spec.specs.Descriptions.{LinearRow, inequality, lines_of, rays_of};
+ghost use Rattle.lra_linear_spec.specs.Polyhedra.{IsPolyhedron, positivity};
+ghost use Rattle.lra_linear_spec.specs.Vectors.{entry};
 ghost use Rattle.lra_bits.specs.TruthValues.{value_at};
 ghost use Rattle.lra_cone.specs.Cones.{saturation_of as by_rays};
 ghost use Rattle.lra_sys.specs.Dimensions.{too_many_dimensions};
@@ -97,7 +97,8 @@ fn ray_saturation(
     saturation: &SatMatrix,
 ) -> Result<SatMatrix, AllocError>
     requires { saturation.now.width ≡ length list.now.rows }
-    ensures { IfOk result (λ matrix. (rows : List Given) → saturation.now ≡ saturation_of rows (generators list.now) →
+    ensures { IfOk result
+        (λ matrix. (rows : List LinearRow) → saturation.now ≡ saturation_of rows (generators list.now) →
         matrix ≡ by_rays (inequality (positivity list.now.dims) ∷ rows) (rays_of (generators list.now))) }
 {
     let Some(width) = saturation.height().checked_add(1) else {

@@ -3,7 +3,7 @@
 use Rattle.std.proofs.Common.{◌≡◌, ℕ, zero, suc, ◌+◌, ℤ, List, [], ◌∷◌, Option, None, Some, length, inl, inr, sym, subst, arith}
 use Rattle.std.specs.Prelude.{slice_get, Contains}
 use Rattle.std.proofs.lemmas.Option.{same_Some, none-some}
-use Rattle.lra_linear.proofs.Membership.{contains_none, contains_cases}
+use Rattle.lra_linear_spec.proofs.Membership.{contains_none, contains_cases}
 use Rattle.lra_domain.specs.Actions.{Action}
 use Rattle.lra_domain.specs.Backward.{Retracing}
 use Rattle.lra_domain.specs.Changes.{AllCanBeMade}

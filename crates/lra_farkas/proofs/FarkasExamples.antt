@@ -2,37 +2,37 @@
 use Rattle.std.proofs.Common.{◌≡◌, ℕ, suc, ℤ, pos, negsuc, ◌+ℤ◌, ◌*ℤ◌, ◌≤ℤ◌, ◌<ℤ◌, List, [], ◌∷◌, length, refl, sym, ◌∙◌, subst, inl, inr, arith}
 use Rattle.std.proofs.lemmas.Int.{ints}
 use Rattle.std.specs.declared.cmp.Ordering.TheVariants.{Less}
-use Rattle.lra_linear.specs.Descriptions.{Given, equality, inequality, Con, Holds}
-use Rattle.lra_linear.specs.Points.{IsEmptySet}
-use Rattle.lra_linear.specs.RowOrder.{row_cmp}
-use Rattle.lra_linear.specs.Vectors.{entry}
-use Rattle.lra_linear.proofs.Descriptions.{con_none, con_cons, con_head, con_tail}
-use Rattle.lra_linear.proofs.Membership.{contains_none, contains_cases}
-use Rattle.lra_linear.proofs.Ring.{ring, v, ◌⊕◌, ◌⊗◌}
+use Rattle.lra_linear_spec.specs.Descriptions.{LinearRow, equality, inequality, Con, Holds}
+use Rattle.lra_linear_spec.specs.Points.{IsEmptySet}
+use Rattle.lra_linear_spec.specs.RowOrder.{row_cmp}
+use Rattle.lra_linear_spec.specs.Vectors.{entry}
+use Rattle.lra_linear_spec.proofs.Descriptions.{con_none, con_cons, con_head, con_tail}
+use Rattle.lra_linear_spec.proofs.Membership.{contains_none, contains_cases}
+use Rattle.lra_linear_spec.proofs.Ring.{ring, v, ◌⊕◌, ◌⊗◌}
 use Rattle.lra_multipliers.specs.Multipliers.{Shows}
 use Rattle.lra_farkas.specs.MultiplierRows.{multiplier_rows, AreAsWide}
 use Rattle.lra_farkas.proofs.ShownPoints.{points_show}
 
 -- ---- from i >= 0 and 9 - i >= 0 it follows that 1 + i >= 0
-abbrev below_ten : List Given
+abbrev below_ten : List LinearRow
 below_ten = inequality (pos 0 ∷ pos 1 ∷ []) ∷ inequality (pos 9 ∷ negsuc 0 ∷ []) ∷ []
 
 abbrev one_more : List ℤ
 one_more = pos 1 ∷ pos 1 ∷ []
 
-abbrev constant_column : Given
+abbrev constant_column : LinearRow
 constant_column = equality (negsuc 0 ∷ pos 1 ∷ pos 0 ∷ pos 9 ∷ [])
 
-abbrev variable_column : Given
+abbrev variable_column : LinearRow
 variable_column = equality (negsuc 0 ∷ pos 0 ∷ pos 1 ∷ negsuc 0 ∷ [])
 
-abbrev one_sign : Given
+abbrev one_sign : LinearRow
 one_sign = inequality (pos 0 ∷ pos 1 ∷ pos 0 ∷ pos 0 ∷ [])
 
-abbrev least_sign : Given
+abbrev least_sign : LinearRow
 least_sign = inequality (pos 0 ∷ pos 0 ∷ pos 1 ∷ pos 0 ∷ [])
 
-abbrev most_sign : Given
+abbrev most_sign : LinearRow
 most_sign = inequality (pos 0 ∷ pos 0 ∷ pos 0 ∷ pos 1 ∷ [])
 
 -- the multiplier of 1 >= 0 has a factor in the column of the constants alone
@@ -40,13 +40,13 @@ pub counted_rows : multiplier_rows below_ten one_more ≡ constant_column ∷ va
 counted_rows = refl
 
 -- rows of one width
-two_wide : (g h : Given) (claim : List ℤ) → length claim ≡ 2 → length g.row ≡ 2 → length h.row ≡ 2 → AreAsWide (g ∷ h ∷ []) claim
+two_wide : (g h : LinearRow) (claim : List ℤ) → length claim ≡ 2 → length g.row ≡ 2 → length h.row ≡ 2 → AreAsWide (g ∷ h ∷ []) claim
 two_wide g h claim e eg eh = record {
   some = omega (arith, e);
   each = λ f k. elim (contains_cases g f (h ∷ []) k) [
-    | inl s ↦ subst (λ (x : Given). length x.row ≡ length claim) s (omega (arith, e, eg))
+    | inl s ↦ subst (λ (x : LinearRow). length x.row ≡ length claim) s (omega (arith, e, eg))
     | inr d ↦ elim (contains_cases h f [] d) [
-      | inl s ↦ subst (λ (x : Given). length x.row ≡ length claim) s (omega (arith, e, eh))
+      | inl s ↦ subst (λ (x : LinearRow). length x.row ≡ length claim) s (omega (arith, e, eh))
       | inr n ↦ absurd (contains_none f n)
     ]
   ];
@@ -58,7 +58,7 @@ at_least n = omega (arith, ints)
 above : (n : ℕ) → pos 0 <ℤ pos (suc n)
 above n = omega (arith, ints)
 
-five_hold : (a b c d e : Given) (x : List ℤ) → Holds a x → Holds b x → Holds c x → Holds d x → Holds e x → Con (a ∷ b ∷ c ∷ d ∷ e ∷ []) x
+five_hold : (a b c d e : LinearRow) (x : List ℤ) → Holds a x → Holds b x → Holds c x → Holds d x → Holds e x → Con (a ∷ b ∷ c ∷ d ∷ e ∷ []) x
 five_hold a b c d e x ha hb hc hd he =
     con_cons a (b ∷ c ∷ d ∷ e ∷ []) x ha (con_cons b (c ∷ d ∷ e ∷ []) x hb (con_cons c (d ∷ e ∷ []) x hc
     (con_cons d (e ∷ []) x hd (con_cons e [] x he (con_none x)))))
@@ -69,7 +69,7 @@ shown_by d l0 l1 l2 h =
     (points_show below_ten one_more (record { divisor = pos (suc d); constant = l0; factors = l1 ∷ l2 ∷ [] })
     (two_wide (inequality (pos 0 ∷ pos 1 ∷ [])) (inequality (pos 9 ∷ negsuc 0 ∷ [])) one_more refl refl refl)).0 (record {
       is_point = record { width = refl; divisor = above d };
-      meets = subst (λ (gs : List Given). Con gs (pos (suc d) ∷ l0 ∷ l1 ∷ l2 ∷ [])) (sym counted_rows) h;
+      meets = subst (λ (gs : List LinearRow). Con gs (pos (suc d) ∷ l0 ∷ l1 ∷ l2 ∷ [])) (sym counted_rows) h;
     })
 
 -- nine times the claim is ten times the one premise and the other; the claim is 1 and the one premise
@@ -97,22 +97,22 @@ pub known_rows : multiplier_rows (equality (negsuc 2 ∷ pos 1 ∷ []) ∷ []) (
 known_rows = refl
 
 -- ---- from i >= 0 it doesn't follow that i - 1 >= 0: no multipliers show it
-abbrev at_least_zero : List Given
+abbrev at_least_zero : List LinearRow
 at_least_zero = inequality (pos 0 ∷ pos 1 ∷ []) ∷ []
 
 abbrev at_least_one : List ℤ
 at_least_one = negsuc 0 ∷ pos 1 ∷ []
 
-abbrev sum_column : Given
+abbrev sum_column : LinearRow
 sum_column = equality (pos 1 ∷ pos 1 ∷ pos 0 ∷ [])
 
-abbrev other_column : Given
+abbrev other_column : LinearRow
 other_column = equality (negsuc 0 ∷ pos 0 ∷ pos 1 ∷ [])
 
-abbrev first_sign : Given
+abbrev first_sign : LinearRow
 first_sign = inequality (pos 0 ∷ pos 1 ∷ pos 0 ∷ [])
 
-abbrev second_sign : Given
+abbrev second_sign : LinearRow
 second_sign = inequality (pos 0 ∷ pos 0 ∷ pos 1 ∷ [])
 
 unshown_rows : multiplier_rows at_least_zero at_least_one ≡ sum_column ∷ other_column ∷ first_sign ∷ second_sign ∷ []
@@ -131,7 +131,7 @@ no_sum d c l h e s =
 
 pub none_shows : IsEmptySet 2 (Con (multiplier_rows at_least_zero at_least_one))
 none_shows x is_point held =
-    let h = subst (λ (gs : List Given). Con gs x) unshown_rows held in
+    let h = subst (λ (gs : List LinearRow). Con gs x) unshown_rows held in
     let rest = con_tail sum_column (other_column ∷ first_sign ∷ second_sign ∷ []) x h in
     let signs = con_tail other_column (first_sign ∷ second_sign ∷ []) x rest in
     no_sum (entry x 0) (entry x 1) (entry x 2) is_point.divisor

@@ -7,19 +7,19 @@ use Rattle.std.specs.Result.{IsErrAnd}
 use Rattle.std.proofs.lemmas.List.Elements.{All-contains, Contains-append_left}
 use Rattle.std.proofs.lemmas.Option.{same_Some, none-some}
 use Rattle.std.proofs.lemmas.Result.{err_from_is_err_and}
-use Rattle.lra_linear.specs.Cones.{both_ways}
-use Rattle.lra_linear.specs.Descriptions.{Given, generator, given_as, Con}
-use Rattle.lra_linear.specs.Kinds.{is_equality, is_line}
-use Rattle.lra_linear.specs.OperationStrain.{FromRowsStrains}
-use Rattle.lra_linear.specs.Points.{IsPoint, IsEmptySet}
-use Rattle.lra_linear.specs.Polyhedra.{Polyhedron, HasPoint, IsPolyhedron, IsPolyhedronOf}
-use Rattle.lra_linear.specs.Strain.{Loss}
-use Rattle.lra_linear.specs.Vectors.{entry}
-use Rattle.lra_linear.specs.declared.ConKind.{ConKind}
-use Rattle.lra_linear.specs.declared.GenKind.{GenKind}
-use Rattle.lra_linear.proofs.Combinations.{generated_row}
-use Rattle.lra_linear.proofs.Membership.{contains_none, contains_head, contains_tail, contains_cases}
-use Rattle.lra_linear.proofs.Polyhedra.{con_gen, cone_gen}
+use Rattle.lra_linear_spec.specs.Cones.{both_ways}
+use Rattle.lra_linear_spec.specs.Descriptions.{LinearRow, generator, rows_as, Con}
+use Rattle.lra_linear_spec.specs.Kinds.{is_equality, is_line}
+use Rattle.lra_linear_spec.specs.OperationStrain.{FromRowsStrains}
+use Rattle.lra_linear_spec.specs.Points.{IsPoint, IsEmptySet}
+use Rattle.lra_linear_spec.specs.Polyhedra.{Polyhedron, HasPoint, IsPolyhedron, IsPolyhedronOf}
+use Rattle.lra_linear_spec.specs.Strain.{Loss}
+use Rattle.lra_linear_spec.specs.Vectors.{entry}
+use Rattle.lra_linear_spec.specs.declared.ConKind.{ConKind}
+use Rattle.lra_linear_spec.specs.declared.GenKind.{GenKind}
+use Rattle.lra_linear_spec.proofs.Combinations.{generated_row}
+use Rattle.lra_linear_spec.proofs.Membership.{contains_none, contains_head, contains_tail, contains_cases}
+use Rattle.lra_linear_spec.proofs.Polyhedra.{con_gen, cone_gen}
 use Rattle.lra_sys.specs.Listed.{Listed, given_by, generators, constraints}
 use Rattle.lra_duality.proofs.PolyhedronLemmas.{falsity_is_empty}
 use Rattle.lra_duality.proofs.SaturationLemmas.{given_length}
@@ -45,7 +45,7 @@ pub record FirstPoint (p : Polyhedron) : Type 0 where
   pub meets : Con p.rows row
 
 first_listed_point : (points rays lines : List (List ℤ)) → points ≢ [] →
-    (x : List ℤ) × (slice_get (given_as false points ++ given_as false rays ++ given_as true lines) 0 ≡ Some (generator x)) × Contains points x
+    (x : List ℤ) × (slice_get (rows_as false points ++ rows_as false rays ++ rows_as true lines) 0 ≡ Some (generator x)) × Contains points x
 first_listed_point [] rays lines n = absurd (n refl)
 first_listed_point (x ∷ points) rays lines n = (x, refl, contains_head x points)
 
@@ -57,16 +57,16 @@ first_point p h =
     let is_point : IsPoint p.dims f.0 = record { width = h.dual.row_widths f.0 has; divisor = h.divisors f.0 f.2 } in
     record {
       row = f.0;
-      first = ap (λ (gs : List Given). slice_get gs 0) h.generators_are ∙ f.1;
+      first = ap (λ (gs : List LinearRow). slice_get gs 0) h.generators_are ∙ f.1;
       is_point = is_point;
       meets = (con_gen p (inr h)).1 f.0 is_point (cone_gen p h f.0 (generated_row ((h.points ++ h.rays) ++ both_ways h.lines) f.0 has));
     }
 
 -- where there is a first generator, or a point
-none_first : (g : Given) (gs : List Given) → gs ≡ [] → slice_get gs 0 ≡ Some g → ⊥
-none_first g gs e f = none-some g (sym (ap (λ (x : List Given). slice_get x 0) e) ∙ f)
+none_first : (g : LinearRow) (gs : List LinearRow) → gs ≡ [] → slice_get gs 0 ≡ Some g → ⊥
+none_first g gs e f = none-some g (sym (ap (λ (x : List LinearRow). slice_get x 0) e) ∙ f)
 
-first_where_given : (p : Polyhedron) (g : Given) → IsPolyhedron p → slice_get p.generators 0 ≡ Some g → FirstPoint p
+first_where_given : (p : Polyhedron) (g : LinearRow) → IsPolyhedron p → slice_get p.generators 0 ≡ Some g → FirstPoint p
 first_where_given p g (inl none) e = absurd (none_first g p.generators none.1 e)
 first_where_given p g (inr h) e = first_point p h
 
@@ -75,7 +75,7 @@ first_where_some p (inl none) some = absurd (some (falsity_is_empty p.dims p.row
 first_where_some p (inr h) some = first_point p h
 
 -- ---- as it is listed
-some_given : (rows : List (List ℤ)) (kinds : List GenKind) (g : Given) → slice_get (given_by is_line rows kinds) 0 ≡ Some g → 0 < length rows
+some_given : (rows : List (List ℤ)) (kinds : List GenKind) (g : LinearRow) → slice_get (given_by is_line rows kinds) 0 ≡ Some g → 0 < length rows
 some_given [] kinds g e = absurd (none-some g e)
 some_given (r ∷ rows) kinds g e = omega arith
 
@@ -83,15 +83,15 @@ pub some_rows : (p : Polyhedron) (list : Listed GenKind) → IsPolyhedron p → 
     0 < length list.rows
 some_rows p list h some e =
     let f = first_where_some p h some in
-    some_given list.rows list.kinds (generator f.row) (ap (λ (gs : List Given). slice_get gs 0) e ∙ f.first)
+    some_given list.rows list.kinds (generator f.row) (ap (λ (gs : List LinearRow). slice_get gs 0) e ∙ f.first)
 
 row_given : (rows : List (List ℤ)) (kinds : List GenKind) (row : List ℤ) (kind : GenKind) → slice_get rows 0 ≡ Some row → slice_get kinds 0 ≡ Some kind →
     slice_get (given_by is_line rows kinds) 0 ≡ Some (record { row = row; equal = is_line kind })
 row_given [] kinds row kind er ek = absurd (none-some row er)
 row_given (r ∷ rows) [] row kind er ek = absurd (none-some kind ek)
 row_given (r ∷ rows) (k ∷ kinds) row kind er ek =
-    ap (λ (x : List ℤ). Some (let g : Given = record { row = x; equal = is_line k } in g)) (same_Some r row er) ∙
-    ap (λ (x : GenKind). Some (let g : Given = record { row = row; equal = is_line x } in g)) (same_Some k kind ek)
+    ap (λ (x : List ℤ). Some (let g : LinearRow = record { row = x; equal = is_line k } in g)) (same_Some r row er) ∙
+    ap (λ (x : GenKind). Some (let g : LinearRow = record { row = row; equal = is_line x } in g)) (same_Some k kind ek)
 
 split_row : (r ls : List ℤ) (d c : ℤ) → 2 ≤ length r → d ≡ entry r 0 → c ≡ entry r 1 → ls ≡ drop 2 r → r ≡ d ∷ c ∷ ls
 split_row [] ls d c h ed ec el = absurd (omega (arith, h))
@@ -104,19 +104,20 @@ pub first_listed : (p : Polyhedron) (list : Listed GenKind) (row ls : List ℤ) 
     d ≡ entry row 0 → c ≡ entry row 1 → ls ≡ drop 2 row → slice_get p.generators 0 ≡ Some (generator (d ∷ c ∷ ls))
 first_listed p list row ls kind d c h some e er ek long ed ec el =
     let f = first_where_some p h some in
-    let seen : Some (let g : Given = record { row = row; equal = is_line kind } in g) ≡ Some (generator f.row) =
-    sym (row_given list.rows list.kinds row kind er ek) ∙ ap (λ (gs : List Given). slice_get gs 0) e ∙ f.first in
-    let same = same_Some (let g : Given = record { row = row; equal = is_line kind } in g) (generator f.row) seen in
-    f.first ∙ ap (λ (x : List ℤ). Some (generator x)) (sym (ap (λ (g : Given). g.row) same) ∙ split_row row ls d c long ed ec el)
+    let seen : Some (let g : LinearRow = record { row = row; equal = is_line kind } in g) ≡ Some (generator f.row) =
+    sym (row_given list.rows list.kinds row kind er ek) ∙ ap (λ (gs : List LinearRow). slice_get gs 0) e ∙ f.first in
+    let same = same_Some (let g : LinearRow = record { row = row; equal = is_line kind } in g) (generator f.row) seen in
+    f.first ∙ ap (λ (x : List ℤ). Some (generator x)) (sym (ap (λ (g : LinearRow). g.row) same) ∙ split_row row ls d c long ed ec el)
 
 -- ---- conversions
-pub convert_none : (n : ℕ) (rows : List Given) (p : Polyhedron) (o : Outcome) → IsOfRows n rows p o → IsEmptySet p.dims (Con p.rows) → IsEmptySet n (Con rows)
+pub convert_none : (n : ℕ) (rows : List LinearRow) (p : Polyhedron) (o : Outcome) → IsOfRows n rows p o → IsEmptySet p.dims (Con p.rows) →
+    IsEmptySet n (Con rows)
 convert_none n rows p o b e x i c = e x (subst (λ (k : ℕ). IsPoint k x) (sym b.dims) i) (b.within x i c)
 
-pub convert_exact : (n : ℕ) (rows : List Given) (p : Polyhedron) (o : Outcome) → IsOfRows n rows p o → o ≡ Exact → IsPolyhedronOf n (Con rows) p
+pub convert_exact : (n : ℕ) (rows : List LinearRow) (p : Polyhedron) (o : Outcome) → IsOfRows n rows p o → o ≡ Exact → IsPolyhedronOf n (Con rows) p
 convert_exact n rows p o b e = subst (IfExact (IsPolyhedronOf n (Con rows) p)) e b.exact
 
-pub convert_strained : (n : ℕ) (rows : List Given) (p : Polyhedron) (o : Outcome) → IsOfRows n rows p o → ¬ (o ≡ Exact) →
+pub convert_strained : (n : ℕ) (rows : List LinearRow) (p : Polyhedron) (o : Outcome) → IsOfRows n rows p o → ¬ (o ≡ Exact) →
     (loss : Loss) × FromRowsStrains n rows loss
 convert_strained n rows p o b apart = by o apart b.flagged
   where
@@ -125,20 +126,21 @@ convert_strained n rows p o b apart = by o apart b.flagged
     by (Flagged loss) a f = (loss, f)
 
 -- ---- the first multipliers
-pub are_first : (n : ℕ) (rows : List Given) (p : Polyhedron) (premises : List Given) (claim : List ℤ) (m : Multipliers) → IsPolyhedronOf n (Con rows) p →
+pub are_first : (n : ℕ) (rows : List LinearRow) (p : Polyhedron) (premises : List LinearRow) (claim : List ℤ) (m : Multipliers) →
+    IsPolyhedronOf n (Con rows) p →
     n ≡ multiplier_dims premises → rows ≡ multiplier_rows premises claim → slice_get p.generators 0 ≡ Some (generator (point_of m)) → AreFirst premises claim m
 are_first n rows p premises claim m is en er first = record {
   polyhedron = p;
-  is = subst (λ (k : ℕ). IsPolyhedronOf k (Con (multiplier_rows premises claim)) p) en (subst (λ (gs : List Given). IsPolyhedronOf n (Con gs) p) er is);
+  is = subst (λ (k : ℕ). IsPolyhedronOf k (Con (multiplier_rows premises claim)) p) en (subst (λ (gs : List LinearRow). IsPolyhedronOf n (Con gs) p) er is);
   first = first;
 }
 
-module _ (premises : List Given) (claim : List ℤ) (m : Multipliers) (a : AreFirst premises claim m) where
+module _ (premises : List LinearRow) (claim : List ℤ) (m : Multipliers) (a : AreFirst premises claim m) where
   at_first : FirstPoint a.polyhedron
   at_first = first_where_given a.polyhedron (generator (point_of m)) a.is.canonical a.first
 
   same_row : at_first.row ≡ point_of m
-  same_row = ap (λ (g : Given). g.row) (same_Some (generator at_first.row) (generator (point_of m)) (sym at_first.first ∙ a.first))
+  same_row = ap (λ (g : LinearRow). g.row) (same_Some (generator at_first.row) (generator (point_of m)) (sym at_first.first ∙ a.first))
 
   first_is_point : IsPoint (multiplier_dims premises) (point_of m)
   first_is_point = subst (IsPoint (multiplier_dims premises)) same_row (subst (λ (k : ℕ). IsPoint k at_first.row) a.is.dimensions at_first.is_point)
@@ -166,12 +168,12 @@ module _ (premises : List Given) (claim : List ℤ) (m : Multipliers) (a : AreFi
   first_strained w = inr (m, a, w)
 
 -- the premises of a list are as wide as its claim
-row_kept : (rows : List (List ℤ)) (kinds : List ConKind) (g : Given) → Contains (given_by is_equality rows kinds) g → Contains rows g.row
+row_kept : (rows : List (List ℤ)) (kinds : List ConKind) (g : LinearRow) → Contains (given_by is_equality rows kinds) g → Contains rows g.row
 row_kept [] kinds g k = absurd (contains_none g k)
 row_kept (r ∷ rows) [] g k = absurd (contains_none g k)
 row_kept (r ∷ rows) (x ∷ kinds) g k =
-    elim (contains_cases (let f : Given = record { row = r; equal = is_equality x } in f) g (given_by is_equality rows kinds) k) [
-      | inl e ↦ subst (Contains (r ∷ rows)) (ap (λ (f : Given). f.row) e) (contains_head r rows)
+    elim (contains_cases (let f : LinearRow = record { row = r; equal = is_equality x } in f) g (given_by is_equality rows kinds) k) [
+      | inl e ↦ subst (Contains (r ∷ rows)) (ap (λ (f : LinearRow). f.row) e) (contains_head r rows)
       | inr d ↦ contains_tail r g.row rows (row_kept rows kinds g d)
     ]
 
@@ -190,12 +192,12 @@ pub as_many : (s : Listed ConKind) (factors : List ℤ) → length s.kinds ≡ l
 as_many s factors n e = e ∙ given_length is_equality s.rows s.kinds n
 
 -- why there is no first point, as it is told of multipliers
-pub no_first_fails : (n : ℕ) (rows premises : List Given) (claim : List ℤ) (e : MultipliersFailure) → n ≡ multiplier_dims premises →
+pub no_first_fails : (n : ℕ) (rows premises : List LinearRow) (claim : List ℤ) (e : MultipliersFailure) → n ≡ multiplier_dims premises →
     rows ≡ multiplier_rows premises claim →
     HasNoFirst n rows e → IsFailure premises claim e
 no_first_fails n rows premises claim e en er h =
     by e (subst (λ (k : ℕ). HasNoFirst k (multiplier_rows premises claim) e) en
-    (subst (λ (gs : List Given). HasNoFirst n gs e) er h))
+    (subst (λ (gs : List LinearRow). HasNoFirst n gs e) er h))
   where
     by : (x : MultipliersFailure) → HasNoFirst (multiplier_dims premises) (multiplier_rows premises claim) x → IsFailure premises claim x
     by NotImplied f = f

@@ -6,11 +6,11 @@ use Rattle.std.specs.List.Sorted.{IsPermutation}
 use Rattle.std.proofs.lemmas.List.{take_more, map-append}
 use Rattle.std.proofs.lemmas.List.Sorted.{All-permutation, Contains-permutation, IsPermutation-map, IsPermutation-sym}
 use Rattle.std.proofs.lemmas.Option.{get_or_from_slice_get}
-use Rattle.lra_linear.specs.Descriptions.{Given, Con}
-use Rattle.lra_linear.specs.Kinds.{is_equality}
-use Rattle.lra_linear.specs.Points.{IsPoint}
-use Rattle.lra_linear.specs.Polyhedra.{Polyhedron, IsPolyhedronOf}
-use Rattle.lra_linear.specs.declared.ConKind.{ConKind}
+use Rattle.lra_linear_spec.specs.Descriptions.{LinearRow, Con}
+use Rattle.lra_linear_spec.specs.Kinds.{is_equality}
+use Rattle.lra_linear_spec.specs.Points.{IsPoint}
+use Rattle.lra_linear_spec.specs.Polyhedra.{Polyhedron, IsPolyhedronOf}
+use Rattle.lra_linear_spec.specs.declared.ConKind.{ConKind}
 use Rattle.lra_sys.specs.Listed.{Listed, given_by, constraints}
 use Rattle.lra_sys.proofs.GivenRows.{constraints_pushed, given_more}
 use Rattle.lra_farkas.specs.KeyedRows.{given_of}
@@ -25,7 +25,7 @@ pub keyed_pushed : (rows : List (List ℤ)) (kinds : List ConKind) (before new :
     new ≡ before ++ x ∷ [] → map given_of before ≡ given_by is_equality (take i rows) (take i kinds) →
     map given_of new ≡ given_by is_equality (take (i + 1) rows) (take (i + 1) kinds)
 keyed_pushed rows kinds before new i row kind x n h er ek xr xk pushed so_far =
-    ap (map given_of) pushed ∙ map-append given_of before (x ∷ []) ∙ ap (λ (gs : List Given). gs ++ given_of x ∷ []) so_far ∙
+    ap (map given_of) pushed ∙ map-append given_of before (x ∷ []) ∙ ap (λ (gs : List LinearRow). gs ++ given_of x ∷ []) so_far ∙
     ap (λ (r : List ℤ). given_by is_equality (take i rows) (take i kinds) ++ record { row = r; equal = is_equality x.kind } ∷ []) xr ∙
     ap (λ (k : ConKind). given_by is_equality (take i rows) (take i kinds) ++ record { row = row; equal = is_equality k } ∷ []) xk ∙
     sym (given_more is_equality rows kinds i row kind n h (sym (get_or_from_slice_get rows i row row er)) (sym (get_or_from_slice_get kinds i kind kind ek)))
@@ -34,7 +34,7 @@ pub unkeyed_more : (before new : Listed ConKind) (keyed : List Keyed) (i : ℕ) 
     length before.kinds ≡ length before.rows → new.rows ≡ before.rows ++ x.row ∷ [] → new.kinds ≡ before.kinds ++ x.kind ∷ [] →
     constraints before ≡ map given_of (take i keyed) → constraints new ≡ map given_of (take (i + 1) keyed)
 unkeyed_more before new keyed i x h is n er ek so_far =
-    constraints_pushed before new x.row x.kind n er ek ∙ ap (λ (gs : List Given). gs ++ given_of x ∷ []) so_far ∙
+    constraints_pushed before new x.row x.kind n er ek ∙ ap (λ (gs : List LinearRow). gs ++ given_of x ∷ []) so_far ∙
     sym (map-append given_of (take i keyed) (x ∷ [])) ∙
     ap (map given_of) (ap (λ (y : Keyed). take i keyed ++ y ∷ []) is ∙ sym (take_more keyed i x h))
 
@@ -44,17 +44,17 @@ sorted_widths n m keyed sorted shown em es p all =
     subst (λ (j : ℕ). All (λ (k : Keyed). length k.row ≡ suc j) shown) (sym em)
     (subst (All (λ (k : Keyed). length k.row ≡ suc n)) (sym es) (All-permutation (λ (k : Keyed). length k.row ≡ suc n) keyed sorted p all))
 
-pub sorted_rows : (rows all : List Given) (keyed sorted shown : List Keyed) → map given_of keyed ≡ rows → IsPermutation keyed sorted → shown ≡ sorted →
+pub sorted_rows : (rows all : List LinearRow) (keyed sorted shown : List Keyed) → map given_of keyed ≡ rows → IsPermutation keyed sorted → shown ≡ sorted →
     all ≡ map given_of shown → IsPermutation rows all
 sorted_rows rows all keyed sorted shown ek p es ea =
     subst (IsPermutation rows) (sym (ea ∙ ap (map given_of) es))
-    (subst (λ (gs : List Given). IsPermutation gs (map given_of sorted)) ek (IsPermutation-map given_of keyed sorted p))
+    (subst (λ (gs : List LinearRow). IsPermutation gs (map given_of sorted)) ek (IsPermutation-map given_of keyed sorted p))
 
 -- ---- the same points
-same_con : (rows others : List Given) (x : List ℤ) → IsPermutation rows others → Con rows x → Con others x
+same_con : (rows others : List LinearRow) (x : List ℤ) → IsPermutation rows others → Con rows x → Con others x
 same_con rows others x p c = λ g k. c g (Contains-permutation others rows g (IsPermutation-sym rows others p) k)
 
-pub reordered_is : (n m : ℕ) (rows others : List Given) (q : Polyhedron) → m ≡ n → IsPermutation rows others → IsPolyhedronOf m (Con others) q →
+pub reordered_is : (n m : ℕ) (rows others : List LinearRow) (q : Polyhedron) → m ≡ n → IsPermutation rows others → IsPolyhedronOf m (Con others) q →
     IsPolyhedronOf n (Con rows) q
 reordered_is n m rows others q e p is = record {
   dimensions = is.dimensions ∙ e;
@@ -65,14 +65,14 @@ reordered_is n m rows others q e p is = record {
   );
 }
 
-pub reordered_fails : (n m : ℕ) (rows others : List Given) (f : MultipliersFailure) → m ≡ n → IsPermutation rows others → HasNoFirst m others f →
+pub reordered_fails : (n m : ℕ) (rows others : List LinearRow) (f : MultipliersFailure) → m ≡ n → IsPermutation rows others → HasNoFirst m others f →
     HasNoPoint n rows f
 reordered_fails n m rows others NotImplied e p h = λ x i c. h x (subst (λ (k : ℕ). IsPoint k x) (sym e) i) (same_con rows others x p c)
 reordered_fails n m rows others Strained e p h = tt
 reordered_fails n m rows others Memory e p h = tt
 
 -- where the list's own order strains, and the others have no first point
-pub tried_fails : {X : Type 0} (n : ℕ) (rows : List Given) (x : Result X MultipliersFailure) → HasNoFirst n rows Strained → IfErr x (HasNoPoint n rows) →
+pub tried_fails : {X : Type 0} (n : ℕ) (rows : List LinearRow) (x : Result X MultipliersFailure) → HasNoFirst n rows Strained → IfErr x (HasNoPoint n rows) →
     IfErr x (HasNoFirst n rows)
 tried_fails n rows (Ok q) strained h = tt
 tried_fails n rows (Err NotImplied) strained h = h

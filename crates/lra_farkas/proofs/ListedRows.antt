@@ -4,12 +4,12 @@ use Rattle.std.proofs.Common.{refl, ap, sym, ◌∙◌, arith, append_assoc}
 use Rattle.std.specs.List.{range_with_len}
 use Rattle.std.proofs.lemmas.List.{take_more, map-append, drop_more, drop_all, append-nil, length-map}
 use Rattle.std.proofs.lemmas.List.FromFn.{map-range_with_len_more}
-use Rattle.lra_linear.specs.Descriptions.{Given, equality, inequality, rows_of}
-use Rattle.lra_linear.specs.Kinds.{is_equality}
-use Rattle.lra_linear.specs.OperationStrain.{unit_row}
-use Rattle.lra_linear.specs.Vectors.{entry}
-use Rattle.lra_linear.specs.declared.ConKind.{ConKind}
-use Rattle.lra_linear.specs.declared.ConKind.TheVariants.{Ge, Eq}
+use Rattle.lra_linear_spec.specs.Descriptions.{LinearRow, equality, inequality, rows_of}
+use Rattle.lra_linear_spec.specs.Kinds.{is_equality}
+use Rattle.lra_linear_spec.specs.OperationStrain.{unit_row}
+use Rattle.lra_linear_spec.specs.Vectors.{entry}
+use Rattle.lra_linear_spec.specs.declared.ConKind.{ConKind}
+use Rattle.lra_linear_spec.specs.declared.ConKind.TheVariants.{Ge, Eq}
 use Rattle.lra_sys.specs.Listed.{Listed, constraints, given_by}
 use Rattle.lra_sys.proofs.GivenRows.{constraints_pushed}
 use Rattle.lra_pair.proofs.OwnRows.{rows_of_given}
@@ -55,9 +55,9 @@ pub balances_more : (rows : List (List ℤ)) (claim row : List ℤ) (old before 
     constraints new ≡ constraints old ++ map (λ i. equality (balance_row rows claim i)) (range_with_len 0 (j + 1))
 balances_more rows claim row old before new j n er ek is so_far =
     constraints_pushed before new row Eq n er ek ∙ ap (λ (r : List ℤ). constraints before ++ equality r ∷ []) is ∙
-    ap (λ (gs : List Given). gs ++ equality (balance_row rows claim j) ∷ []) so_far ∙
+    ap (λ (gs : List LinearRow). gs ++ equality (balance_row rows claim j) ∷ []) so_far ∙
     append_assoc (constraints old) (map (λ i. equality (balance_row rows claim i)) (range_with_len 0 j)) (equality (balance_row rows claim j) ∷ []) ∙
-    ap (λ (gs : List Given). constraints old ++ gs)
+    ap (λ (gs : List LinearRow). constraints old ++ gs)
     (sym (map-range_with_len_more (λ i. equality (balance_row rows claim i)) 0 j j (let e : 0 + j ≡ j = omega arith in e)))
 
 -- a sign more
@@ -67,7 +67,7 @@ sign_pushed old new row n column k er ek is e =
     constraints_pushed old new row Ge k er ek ∙ ap (λ (r : List ℤ). constraints old ++ inequality r ∷ []) (is ∙ ap (λ (m : ℕ). unit_row m column) e)
 
 -- ---- signs, from this place on
-abbrev pub signs_from : ℕ → ℕ → List ConKind → List Given
+abbrev pub signs_from : ℕ → ℕ → List ConKind → List LinearRow
 signs_from dims i kinds = map (sign_row dims) (columns_by_kinds (i + 2) (drop i kinds))
 
 signs_here : (dims i : ℕ) (kinds : List ConKind) → i < length kinds →
@@ -75,31 +75,31 @@ signs_here : (dims i : ℕ) (kinds : List ConKind) → i < length kinds →
     ((i + 2) ∷ columns_by_kinds (suc (i + 2)) (drop (i + 1) kinds)))
 signs_here dims i kinds h = ap (λ (ks : List ConKind). map (sign_row dims) (columns_by_kinds (i + 2) ks)) (drop_more kinds i Ge h)
 
-pub signs_not : (dims i : ℕ) (kinds : List ConKind) (before all : List Given) → i < length kinds → is_equality (get_or kinds i Ge) ≡ true →
+pub signs_not : (dims i : ℕ) (kinds : List ConKind) (before all : List LinearRow) → i < length kinds → is_equality (get_or kinds i Ge) ≡ true →
     before ++ signs_from dims i kinds ≡ all → before ++ signs_from dims (i + 1) kinds ≡ all
 signs_not dims i kinds before all h e so_far =
     ap (λ (k : ℕ). before ++ map (sign_row dims) (columns_by_kinds k (drop (i + 1) kinds))) (let z : (i + 1) + 2 ≡ suc (i + 2) = omega arith in z) ∙
     ap (λ (b : Bool). before ++ map (sign_row dims) (cond b (columns_by_kinds (suc (i + 2)) (drop (i + 1) kinds))
     ((i + 2) ∷ columns_by_kinds (suc (i + 2)) (drop (i + 1) kinds)))) (sym e) ∙
-    ap (λ (gs : List Given). before ++ gs) (sym (signs_here dims i kinds h)) ∙ so_far
+    ap (λ (gs : List LinearRow). before ++ gs) (sym (signs_here dims i kinds h)) ∙ so_far
 
-pub signs_more : (dims i : ℕ) (kinds : List ConKind) (before after all : List Given) → i < length kinds → is_equality (get_or kinds i Ge) ≡ false →
+pub signs_more : (dims i : ℕ) (kinds : List ConKind) (before after all : List LinearRow) → i < length kinds → is_equality (get_or kinds i Ge) ≡ false →
     after ≡ before ++ sign_row dims (i + 2) ∷ [] → before ++ signs_from dims i kinds ≡ all → after ++ signs_from dims (i + 1) kinds ≡ all
 signs_more dims i kinds before after all h e pushed so_far =
-    ap (λ (gs : List Given). gs ++ signs_from dims (i + 1) kinds) pushed ∙
+    ap (λ (gs : List LinearRow). gs ++ signs_from dims (i + 1) kinds) pushed ∙
     append_assoc before (sign_row dims (i + 2) ∷ []) (signs_from dims (i + 1) kinds) ∙
     ap (λ (k : ℕ). before ++ sign_row dims (i + 2) ∷ map (sign_row dims) (columns_by_kinds k (drop (i + 1) kinds)))
     (let z : (i + 1) + 2 ≡ suc (i + 2) = omega arith in z) ∙
     ap (λ (b : Bool). before ++ map (sign_row dims) (cond b (columns_by_kinds (suc (i + 2)) (drop (i + 1) kinds))
     ((i + 2) ∷ columns_by_kinds (suc (i + 2)) (drop (i + 1) kinds)))) (sym e) ∙
-    ap (λ (gs : List Given). before ++ gs) (sym (signs_here dims i kinds h)) ∙ so_far
+    ap (λ (gs : List LinearRow). before ++ gs) (sym (signs_here dims i kinds h)) ∙ so_far
 
-pub signs_end : (dims i : ℕ) (kinds : List ConKind) (before : List Given) → length kinds ≤ i → before ++ signs_from dims i kinds ≡ before
+pub signs_end : (dims i : ℕ) (kinds : List ConKind) (before : List LinearRow) → length kinds ≤ i → before ++ signs_from dims i kinds ≡ before
 signs_end dims i kinds before h =
     ap (λ (ks : List ConKind). before ++ map (sign_row dims) (columns_by_kinds (i + 2) ks)) (drop_all i kinds h) ∙ append-nil before
 
 -- ---- all rows
-abbrev balances : List (List ℤ) → List ℤ → ℕ → List Given
+abbrev balances : List (List ℤ) → List ℤ → ℕ → List LinearRow
 balances rows claim n = map (λ j. equality (balance_row rows claim j)) (range_with_len 0 n)
 
 pub none_listed : (start : Listed ConKind) → start.rows ≡ [] → constraints start ≡ []
@@ -113,8 +113,8 @@ pub rows_listed : (premises start first second all : Listed ConKind) (rows : Lis
     constraints all ≡ multiplier_rows (constraints premises) claim
 rows_listed premises start first second all rows kinds claim n es e f g er ek many d d2 w =
     g ∙ ap (λ (k : ℕ). constraints second ++ map (sign_row k) (columns_by_kinds 2 kinds)) (d2 ∙ d) ∙
-    ap (λ (gs : List Given). gs ++ map (sign_row (multiplier_dims (constraints premises))) (columns_by_kinds 2 kinds))
-    (f ∙ ap (λ (gs : List Given). gs ++ sign_row first.dims 1 ∷ []) (e ∙ ap (λ (gs : List Given). gs ++ balances rows claim n) (none_listed start es)) ∙
+    ap (λ (gs : List LinearRow). gs ++ map (sign_row (multiplier_dims (constraints premises))) (columns_by_kinds 2 kinds))
+    (f ∙ ap (λ (gs : List LinearRow). gs ++ sign_row first.dims 1 ∷ []) (e ∙ ap (λ (gs : List LinearRow). gs ++ balances rows claim n) (none_listed start es)) ∙
     ap (λ (k : ℕ). balances rows claim n ++ sign_row k 1 ∷ []) d) ∙
     append_assoc (balances rows claim n) (sign_row (multiplier_dims (constraints premises)) 1 ∷ [])
     (map (sign_row (multiplier_dims (constraints premises))) (columns_by_kinds 2 kinds)) ∙

@@ -3,35 +3,35 @@ use Rattle.std.proofs.Common.{◌≡◌, ℕ, zero, suc, ◌<◌, ◌-◌, ℤ, 
 use Rattle.std.proofs.Common.{refl, ap, sym, ◌∙◌, subst, arith, inl, inr}
 use Rattle.std.specs.List.{Contains}
 use Rattle.std.proofs.lemmas.Int.{ints}
-use Rattle.lra_linear.specs.Descriptions.{Given, rows_of, system_of, Con, HoldsWith}
-use Rattle.lra_linear.specs.Polyhedra.{positivity, falsity}
-use Rattle.lra_linear.specs.Vectors.{entry, product, negated, blend, sum_of, signed_sum}
-use Rattle.lra_linear.proofs.Descriptions.{solves_con, system_from}
-use Rattle.lra_linear.proofs.Lines.{zeros_length, entry_zeros}
-use Rattle.lra_linear.proofs.Membership.{contains_head, contains_tail, contains_cases}
-use Rattle.lra_linear.proofs.OneSpelling.{positivity_product, dot_zeros, far}
-use Rattle.lra_linear.proofs.Ring.{ring, v, ⊖, ◌⊕◌, ◌⊗◌, mul_nonnegative}
-use Rattle.lra_linear.proofs.Products.{entry_negated, negated_length, entry_blend, blend_length, dot_same, dot_plus, dot_scale}
-use Rattle.lra_linear.proofs.Signs.{above_zero, zero_at_least, add_nonnegative}
+use Rattle.lra_linear_spec.specs.Descriptions.{LinearRow, rows_of, system_of, Con, HoldsWith}
+use Rattle.lra_linear_spec.specs.Polyhedra.{positivity, falsity}
+use Rattle.lra_linear_spec.specs.Vectors.{entry, product, negated, blend, sum_of, signed_sum}
+use Rattle.lra_linear_spec.proofs.Descriptions.{solves_con, system_from}
+use Rattle.lra_linear_spec.proofs.Lines.{zeros_length, entry_zeros}
+use Rattle.lra_linear_spec.proofs.Membership.{contains_head, contains_tail, contains_cases}
+use Rattle.lra_linear_spec.proofs.OneSpelling.{positivity_product, dot_zeros, far}
+use Rattle.lra_linear_spec.proofs.Ring.{ring, v, ⊖, ◌⊕◌, ◌⊗◌, mul_nonnegative}
+use Rattle.lra_linear_spec.proofs.Products.{entry_negated, negated_length, entry_blend, blend_length, dot_same, dot_plus, dot_scale}
+use Rattle.lra_linear_spec.proofs.Signs.{above_zero, zero_at_least, add_nonnegative}
 use Rattle.lra_canon.proofs.Solutions.{farkas, sum_none}
 use Rattle.lra_multipliers.specs.Multipliers.{Multipliers, AreSigned, Shows}
 use Rattle.lra_farkas.specs.MultiplierRows.{AreAsWide, WhatHoldsIsShown, WhatHoldsAtPointsIsShown, NoPointIsShown}
 
 -- ---- factors of a system's rows as factors of its constraints
-pub record Gathered (gs : List Given) (fs : List ℕ) : Type 0 where
+pub record Gathered (gs : List LinearRow) (fs : List ℕ) : Type 0 where
   pub factors : List ℤ
   pub signed : AreSigned gs factors
   pub same : (j : ℕ) → signed_sum factors (rows_of gs) j ≡ sum_of fs (system_of gs) j
 
 -- an inequality has one factor, an equality one for each direction
-gathered_ray : (r : List ℤ) (gs : List Given) (f : ℕ) (fs : List ℕ) → Gathered gs fs → Gathered (record { row = r; equal = false } ∷ gs) (f ∷ fs)
+gathered_ray : (r : List ℤ) (gs : List LinearRow) (f : ℕ) (fs : List ℕ) → Gathered gs fs → Gathered (record { row = r; equal = false } ∷ gs) (f ∷ fs)
 gathered_ray r gs f fs i = record {
   factors = pos f ∷ i.factors;
   signed = (let z : pos 0 ≤ℤ pos f = omega (arith, ints) in z, i.signed);
   same = λ j. ap (λ (z : ℤ). (pos f *ℤ entry r j) +ℤ z) (i.same j);
 }
 
-gathered_line : (r : List ℤ) (gs : List Given) (f k : ℕ) (fs : List ℕ) → Gathered gs fs → Gathered (record { row = r; equal = true } ∷ gs) (f ∷ k ∷ fs)
+gathered_line : (r : List ℤ) (gs : List LinearRow) (f k : ℕ) (fs : List ℕ) → Gathered gs fs → Gathered (record { row = r; equal = true } ∷ gs) (f ∷ k ∷ fs)
 gathered_line r gs f k fs i = record {
   factors = (pos f +ℤ neg_ℤ (pos k)) ∷ i.factors;
   signed = (tt, i.signed);
@@ -43,14 +43,14 @@ gathered_line r gs f k fs i = record {
 }
 
 -- factors that are missing are 0
-padded : (gs : List Given) (fs more : List ℕ) → ((j : ℕ) → sum_of more (system_of gs) j ≡ sum_of fs (system_of gs) j) → Gathered gs more → Gathered gs fs
+padded : (gs : List LinearRow) (fs more : List ℕ) → ((j : ℕ) → sum_of more (system_of gs) j ≡ sum_of fs (system_of gs) j) → Gathered gs more → Gathered gs fs
 padded gs fs more e i = record { factors = i.factors; signed = i.signed; same = λ j. i.same j ∙ e j }
 
 none_more : (rows : List (List ℤ)) (j : ℕ) → sum_of (0 ∷ []) rows j ≡ pos 0
 none_more [] j = refl
 none_more (r ∷ rows) j = ring (v (pos 0) ⊗ v (entry r j) ⊕ v (pos 0)) (v (pos 0)) (omega arith)
 
-gathered_by : (b : Bool) (r : List ℤ) (gs : List Given) (fs : List ℕ) → ((ks : List ℕ) → Gathered gs ks) → Gathered (record { row = r; equal = b } ∷ gs) fs
+gathered_by : (b : Bool) (r : List ℤ) (gs : List LinearRow) (fs : List ℕ) → ((ks : List ℕ) → Gathered gs ks) → Gathered (record { row = r; equal = b } ∷ gs) fs
 gathered_by false r gs [] each = padded (record { row = r; equal = false } ∷ gs) [] (0 ∷ []) (λ j. none_more (r ∷ system_of gs) j)
     (gathered_ray r gs 0 [] (each []))
 gathered_by false r gs (f ∷ fs) each = gathered_ray r gs f fs (each fs)
@@ -63,7 +63,7 @@ gathered_by true r gs (f ∷ []) each = padded (record { row = r; equal = true }
     (gathered_line r gs f 0 [] (each []))
 gathered_by true r gs (f ∷ k ∷ fs) each = gathered_line r gs f k fs (each fs)
 
-gathered : (gs : List Given) (fs : List ℕ) → Gathered gs fs
+gathered : (gs : List LinearRow) (fs : List ℕ) → Gathered gs fs
 gathered [] fs = record { factors = []; signed = tt; same = λ j. sym (sum_none fs j) }
 gathered (g ∷ gs) fs = gathered_by g.equal g.row gs fs (gathered gs)
 
@@ -72,7 +72,7 @@ one_entry : (n m j : ℕ) → entry (positivity n) j ≡ entry (positivity m) j
 one_entry n m zero = refl
 one_entry n m (suc j) = entry_zeros n j ∙ sym (entry_zeros m j)
 
-module _ (premises : List Given) (claim : List ℤ) (n : ℕ) (wide : AreAsWide premises claim) (width : length claim ≡ suc n) where
+module _ (premises : List LinearRow) (claim : List ℤ) (n : ℕ) (wide : AreAsWide premises claim) (width : length claim ≡ suc n) where
   shown_by : (multiple first : ℕ) (fs : List ℕ) → 0 < multiple →
       ((j : ℕ) → pos multiple *ℤ entry claim j ≡ (pos first *ℤ entry (positivity n) j) +ℤ sum_of fs (system_of premises) j) →
       (m : Multipliers) × Shows premises claim m

@@ -6,16 +6,16 @@ use Rattle.std.proofs.lemmas.Bool.{cases_lt}
 use Rattle.std.proofs.lemmas.Int.{ints}
 use Rattle.std.proofs.lemmas.List.Elements.{Contains-append_cases, Contains-append_left, Contains-append_right}
 use Rattle.std.proofs.lemmas.List.FromFn.{length-range_with_len, get_or-range_with_len}
-use Rattle.lra_linear.specs.Descriptions.{Given, equality, rows_of, Con, Holds}
-use Rattle.lra_linear.specs.OperationStrain.{unit_row}
-use Rattle.lra_linear.specs.Points.{IsPoint}
-use Rattle.lra_linear.specs.Polyhedra.{positivity}
-use Rattle.lra_linear.specs.Vectors.{entry, dot, product, signed_sum}
-use Rattle.lra_linear.proofs.Lines.{entry_zeros}
-use Rattle.lra_linear.proofs.Membership.{contains_none, contains_head, contains_tail, contains_cases, map_has, map_from}
-use Rattle.lra_linear.proofs.Products.{entry_past}
-use Rattle.lra_linear.proofs.Ring.{ring, v, ⊖, ◌⊕◌, ◌⊗◌}
-use Rattle.lra_linear.proofs.UnitRows.{unit_product}
+use Rattle.lra_linear_spec.specs.Descriptions.{LinearRow, equality, rows_of, Con, Holds}
+use Rattle.lra_linear_spec.specs.OperationStrain.{unit_row}
+use Rattle.lra_linear_spec.specs.Points.{IsPoint}
+use Rattle.lra_linear_spec.specs.Polyhedra.{positivity}
+use Rattle.lra_linear_spec.specs.Vectors.{entry, dot, product, signed_sum}
+use Rattle.lra_linear_spec.proofs.Lines.{entry_zeros}
+use Rattle.lra_linear_spec.proofs.Membership.{contains_none, contains_head, contains_tail, contains_cases, map_has, map_from}
+use Rattle.lra_linear_spec.proofs.Products.{entry_past}
+use Rattle.lra_linear_spec.proofs.Ring.{ring, v, ⊖, ◌⊕◌, ◌⊗◌}
+use Rattle.lra_linear_spec.proofs.UnitRows.{unit_product}
 use Rattle.lra_multipliers.specs.Columns.{first_of}
 use Rattle.lra_multipliers.specs.Multipliers.{IsSigned, AreSigned, Shows}
 use Rattle.lra_farkas.specs.MultiplierRows.{balance_row, inequality_columns, multiplier_dims, sign_row, multiplier_rows, AreAsWide, PointsShow}
@@ -60,14 +60,14 @@ sum_past (l ∷ ls) (r ∷ rows) j h =
     ring (v l ⊗ v (pos 0) ⊕ v (pos 0)) (v (pos 0)) (omega arith)
 
 -- the rows of a list are those of its members
-row_from : (gs : List Given) (r : List ℤ) → Contains (rows_of gs) r → (g : Given) × Contains gs g × (g.row ≡ r)
+row_from : (gs : List LinearRow) (r : List ℤ) → Contains (rows_of gs) r → (g : LinearRow) × Contains gs g × (g.row ≡ r)
 row_from [] r k = absurd (contains_none r k)
 row_from (g ∷ gs) r k = elim (contains_cases g.row r (rows_of gs) k) [
   | inl e ↦ (g, contains_head g gs, e)
   | inr d ↦ let i = row_from gs r d in (i.0, contains_tail g i.0 gs i.1, i.2)
 ]
 
-pub rows_many : (gs : List Given) → length (rows_of gs) ≡ length gs
+pub rows_many : (gs : List LinearRow) → length (rows_of gs) ≡ length gs
 rows_many [] = refl
 rows_many (g ∷ gs) = ap suc (rows_many gs)
 
@@ -76,13 +76,13 @@ range_has : (n j : ℕ) → j < n → Contains (range_with_len 0 n) j
 range_has n j h = (j, (let l = length-range_with_len 0 n in omega (arith, l, h)), get_or-range_with_len 0 n j j h ∙ (let e : 0 + j ≡ j = omega arith in e))
 
 -- ---- signs
-within_more : (column k : ℕ) (gs : List Given) (rest : List ℕ) (b : Bool) → (Contains rest k → k < suc column + length gs) →
+within_more : (column k : ℕ) (gs : List LinearRow) (rest : List ℕ) (b : Bool) → (Contains rest k → k < suc column + length gs) →
     Contains (cond b rest (column ∷ rest)) k →
     k < column + suc (length gs)
 within_more column k gs rest true later m = let i = later m in omega (arith, i)
 within_more column k gs rest false later m = elim (contains_cases column k rest m) [ inl e ↦ omega (arith, e) | inr d ↦ let i = later d in omega (arith, i) ]
 
-columns_within : (column : ℕ) (gs : List Given) (k : ℕ) → Contains (inequality_columns column gs) k → k < column + length gs
+columns_within : (column : ℕ) (gs : List LinearRow) (k : ℕ) → Contains (inequality_columns column gs) k → k < column + length gs
 columns_within column [] k h = absurd (contains_none k h)
 columns_within column (g ∷ gs) k h = within_more column k gs (inequality_columns (suc column) gs) g.equal (columns_within (suc column) gs k) h
 
@@ -93,7 +93,7 @@ signed_first : (u : ℕ → ℤ) (b : Bool) (l : ℤ) (column : ℕ) (rest : Lis
 signed_first u true l column rest h e = (tt, h)
 signed_first u false l column rest h e = (subst (λ (z : ℤ). pos 0 ≤ℤ z) e (h column (contains_head column rest)), λ k m. h k (contains_tail column k rest m))
 
-signs_from : (u : ℕ → ℤ) (column : ℕ) (gs : List Given) (ls : List ℤ) → length ls ≡ length gs → ((i : ℕ) → u (column + i) ≡ entry ls i) →
+signs_from : (u : ℕ → ℤ) (column : ℕ) (gs : List LinearRow) (ls : List ℤ) → length ls ≡ length gs → ((i : ℕ) → u (column + i) ≡ entry ls i) →
     ((k : ℕ) → Contains (inequality_columns column gs) k → pos 0 ≤ℤ u k) → AreSigned gs ls
 signs_from u column [] [] n e h = tt
 signs_from u column [] (l ∷ ls) n e h = absurd (omega (arith, n))
@@ -110,7 +110,7 @@ signed_at u false l column k rest e s m h = elim (contains_cases column k rest m
   | inr d ↦ h d
 ]
 
-signs_to : (u : ℕ → ℤ) (column : ℕ) (gs : List Given) (ls : List ℤ) → ((i : ℕ) → u (column + i) ≡ entry ls i) → AreSigned gs ls →
+signs_to : (u : ℕ → ℤ) (column : ℕ) (gs : List LinearRow) (ls : List ℤ) → ((i : ℕ) → u (column + i) ≡ entry ls i) → AreSigned gs ls →
     (k : ℕ) → Contains (inequality_columns column gs) k → pos 0 ≤ℤ u k
 signs_to u column [] ls e s k m = absurd (contains_none k m)
 signs_to u column (g ∷ gs) [] e s k m = absurd s
@@ -118,14 +118,14 @@ signs_to u column (g ∷ gs) (l ∷ ls) e s k m =
     signed_at u g.equal l column k (inequality_columns (suc column) gs) (ap u (let z : column ≡ column + 0 = omega arith in z) ∙ e 0) s.0 m
     (signs_to u (suc column) gs ls (λ i. ap u (let z : suc column + i ≡ column + suc i = omega arith in z) ∙ e (suc i)) s.1 k)
 
-signed_many : (gs : List Given) (ls : List ℤ) → AreSigned gs ls → length ls ≡ length gs
+signed_many : (gs : List LinearRow) (ls : List ℤ) → AreSigned gs ls → length ls ≡ length gs
 signed_many [] [] s = refl
 signed_many [] (l ∷ ls) s = absurd s
 signed_many (g ∷ gs) [] s = absurd s
 signed_many (g ∷ gs) (l ∷ ls) s = ap suc (signed_many gs ls s.1)
 
 -- ---- both
-module _ (premises : List Given) (claim : List ℤ) (d c : ℤ) (ls : List ℤ) (wide : AreAsWide premises claim) (n : length ls ≡ length premises) where
+module _ (premises : List LinearRow) (claim : List ℤ) (d c : ℤ) (ls : List ℤ) (wide : AreAsWide premises claim) (n : length ls ≡ length premises) where
   many : length ls ≡ length (rows_of premises)
   many = n ∙ sym (rows_many premises)
 
@@ -198,12 +198,12 @@ module _ (premises : List Given) (claim : List ℤ) (d c : ℤ) (ls : List ℤ) 
       (map (sign_row (multiplier_dims premises)) (1 ∷ inequality_columns 2 premises)) g m) [
         | inl left ↦
             let got = map_from (λ j. equality (balance_row (rows_of premises) claim j)) (range_with_len 0 (length claim)) g left in
-            subst (λ (f : Given). Holds f (d ∷ c ∷ ls)) got.2
+            subst (λ (f : LinearRow). Holds f (d ∷ c ∷ ls)) got.2
             (balances (d *ℤ entry claim got.0) ((c *ℤ entry (positivity (length claim)) got.0) +ℤ signed_sum ls (rows_of premises) got.0)
             (product (balance_row (rows_of premises) claim got.0) (d ∷ c ∷ ls)) (balance_of got.0) (s.sum got.0))
         | inr right ↦
             let got = map_from (sign_row (multiplier_dims premises)) (1 ∷ inequality_columns 2 premises) g right in
-            subst (λ (f : Given). Holds f (d ∷ c ∷ ls)) got.2
+            subst (λ (f : LinearRow). Holds f (d ∷ c ∷ ls)) got.2
             (subst (λ (z : ℤ). pos 0 ≤ℤ z) (sym (sign_at got.0 (within got.0 got.1))) (sign_holds s got.0 got.1))
       ]
 

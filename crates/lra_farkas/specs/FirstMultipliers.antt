@@ -1,19 +1,19 @@
 -- The first multipliers that show a claim, and why there are none.
 use Rattle.std.specs.Prelude.{◌≡◌, ◌⊎◌, ℤ, List, Some, slice_get}
 use Rattle.std.specs.List.{All}
-use Rattle.lra_linear.specs.Descriptions.{Given, generator, Con}
-use Rattle.lra_linear.specs.OperationStrain.{FromRowsStrains}
-use Rattle.lra_linear.specs.Points.{IsEmptySet}
-use Rattle.lra_linear.specs.Polyhedra.{Polyhedron, IsPolyhedronOf}
-use Rattle.lra_linear.specs.Range.{InRange}
-use Rattle.lra_linear.specs.Strain.{Loss}
+use Rattle.lra_linear_spec.specs.Descriptions.{LinearRow, generator, Con}
+use Rattle.lra_linear_spec.specs.OperationStrain.{FromRowsStrains}
+use Rattle.lra_linear_spec.specs.Points.{IsEmptySet}
+use Rattle.lra_linear_spec.specs.Polyhedra.{Polyhedron, IsPolyhedronOf}
+use Rattle.lra_linear_spec.specs.Range.{InRange}
+use Rattle.lra_linear_spec.specs.Strain.{Loss}
 use Rattle.lra_multipliers.specs.Multipliers.{Multipliers, IsWide}
 use Rattle.lra_farkas.specs.MultiplierRows.{multiplier_dims, multiplier_rows, point_of}
 use Rattle.lra_farkas.specs.declared.first.MultipliersFailure.{MultipliersFailure}
 use Rattle.lra_farkas.specs.declared.first.MultipliersFailure.TheVariants.{NotImplied, Strained, Memory}
 
 -- the first generator of the polyhedron of all multipliers
-pub record AreFirst (premises : List Given) (claim : List ℤ) (m : Multipliers) : Type 0 where
+pub record AreFirst (premises : List LinearRow) (claim : List ℤ) (m : Multipliers) : Type 0 where
   pub polyhedron : Polyhedron
   pub is : IsPolyhedronOf (multiplier_dims premises) (Con (multiplier_rows premises claim)) polyhedron
   pub first : slice_get polyhedron.generators 0 ≡ Some (generator (point_of m))
@@ -25,12 +25,12 @@ pub record AreInRange (m : Multipliers) : Type 0 where
   pub factors : All InRange m.factors
 
 -- the conversion of the rows strains, or a number of the check of the first multipliers passes
-abbrev pub MultipliersStrain : List Given → List ℤ → Type 0
+abbrev pub MultipliersStrain : List LinearRow → List ℤ → Type 0
 MultipliersStrain premises claim =
     ((loss : Loss) × FromRowsStrains (multiplier_dims premises) (multiplier_rows premises claim) loss)
     ⊎ ((m : Multipliers) × AreFirst premises claim m × IsWide premises claim m)
 
-abbrev pub IsFailure : List Given → List ℤ → MultipliersFailure → Type 0
+abbrev pub IsFailure : List LinearRow → List ℤ → MultipliersFailure → Type 0
 IsFailure premises claim NotImplied = IsEmptySet (multiplier_dims premises) (Con (multiplier_rows premises claim))
 IsFailure premises claim Strained = MultipliersStrain premises claim
 IsFailure premises claim Memory = Unit {0}

@@ -1,12 +1,12 @@
 -- The rows of the polyhedron of all multipliers as they are made of a list's rows and kinds, and what converting
 -- them tells.
 use Rattle.std.specs.Prelude.{ℕ, suc, List, [], ◌∷◌, cond}
-use Rattle.lra_linear.specs.Descriptions.{Con, Given}
-use Rattle.lra_linear.specs.Kinds.{is_equality}
-use Rattle.lra_linear.specs.OperationStrain.{FromRowsStrains}
-use Rattle.lra_linear.specs.Points.{IsEmptySet}
-use Rattle.lra_linear.specs.Strain.{Loss}
-use Rattle.lra_linear.specs.declared.ConKind.{ConKind}
+use Rattle.lra_linear_spec.specs.Descriptions.{Con, LinearRow}
+use Rattle.lra_linear_spec.specs.Kinds.{is_equality}
+use Rattle.lra_linear_spec.specs.OperationStrain.{FromRowsStrains}
+use Rattle.lra_linear_spec.specs.Points.{IsEmptySet}
+use Rattle.lra_linear_spec.specs.Strain.{Loss}
+use Rattle.lra_linear_spec.specs.declared.ConKind.{ConKind}
 use Rattle.lra_farkas.specs.declared.first.MultipliersFailure.{MultipliersFailure}
 use Rattle.lra_farkas.specs.declared.first.MultipliersFailure.TheVariants.{NotImplied, Strained, Memory}
 
@@ -17,13 +17,13 @@ columns_by_kinds column (k ∷ ks) =
     cond (is_equality k) (columns_by_kinds (suc column) ks) (column ∷ columns_by_kinds (suc column) ks)
 
 -- why rows have no first point
-abbrev pub HasNoFirst : ℕ → List Given → MultipliersFailure → Type 0
+abbrev pub HasNoFirst : ℕ → List LinearRow → MultipliersFailure → Type 0
 HasNoFirst n rows NotImplied = IsEmptySet n (Con rows)
 HasNoFirst n rows Strained = (loss : Loss) × FromRowsStrains n rows loss
 HasNoFirst n rows Memory = Unit {0}
 
 -- the same of rows that are converted in another order, where a strain is that order's
-abbrev pub HasNoPoint : ℕ → List Given → MultipliersFailure → Type 0
+abbrev pub HasNoPoint : ℕ → List LinearRow → MultipliersFailure → Type 0
 HasNoPoint n rows NotImplied = IsEmptySet n (Con rows)
 HasNoPoint n rows Strained = Unit {0}
 HasNoPoint n rows Memory = Unit {0}

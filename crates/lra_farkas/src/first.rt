@@ -1,9 +1,9 @@
 //! The first multipliers that show a claim.
 
 ghost use Rattle.std.specs.Prelude.{◌≡◌, ◌<◌, suc, length, IfOk, IfErr, Some, slice_get};
-ghost use Rattle.lra_linear.specs.Descriptions.{Con, generator};
-ghost use Rattle.lra_linear.specs.Points.{IsEmptySet};
-ghost use Rattle.lra_linear.specs.Polyhedra.{IsPolyhedronOf};
+ghost use Rattle.lra_linear_spec.specs.Descriptions.{Con, generator};
+ghost use Rattle.lra_linear_spec.specs.Points.{IsEmptySet};
+ghost use Rattle.lra_linear_spec.specs.Polyhedra.{IsPolyhedronOf};
 ghost use Rattle.lra_sys.specs.Dimensions.{too_many_dimensions};
 ghost use Rattle.lra_sys.specs.Listed.{constraints};
 ghost use Rattle.lra_multipliers.specs.Multipliers.{IsAnswer, yes};

@@ -7,7 +7,7 @@ ghost use Rattle.lra_sys.specs.Dimensions.{too_many_dimensions};
 ghost use Rattle.lra_sys.specs.Listed.{constraints};
 ghost use Rattle.lra_farkas.specs.KeyedRows.{given_of};
 
-use lra_linear::ConKind;
+use lra_linear_spec::ConKind;
 use lra_row::Row;
 use lra_sys::ConSys;
 use std::alloc::{AllocError, Global};

@@ -2,16 +2,16 @@
 
 ghost use Rattle.std.specs.Prelude.{◌≡◌, ◌<◌, ◌++◌, [], ◌∷◌, suc, map, length, pos, IfOk, OnOk};
 ghost use Rattle.std.specs.List.{All, range_with_len};
-ghost use Rattle.lra_linear.specs.Descriptions.{equality};
-ghost use Rattle.lra_linear.specs.Range.{InRange};
-ghost use Rattle.lra_linear.specs.Vectors.{entry};
+ghost use Rattle.lra_linear_spec.specs.Descriptions.{equality};
+ghost use Rattle.lra_linear_spec.specs.Range.{InRange};
+ghost use Rattle.lra_linear_spec.specs.Vectors.{entry};
 ghost use Rattle.lra_multipliers.specs.Columns.{first_of};
 ghost use Rattle.lra_sys.specs.Dimensions.{too_many_dimensions};
 ghost use Rattle.lra_sys.specs.Listed.{constraints};
 ghost use Rattle.lra_farkas.specs.MultiplierRows.{balance_row, sign_row, multiplier_dims, multiplier_rows};
 ghost use Rattle.lra_farkas.specs.RowsByKinds.{columns_by_kinds};
 
-use lra_linear::ConKind;
+use lra_linear_spec::ConKind;
 use lra_row::{Row, opposite};
 use lra_sys::{ConSys, TOO_MANY_DIMENSIONS, unit};
 use std::alloc::{AllocError, Global};

@@ -1,7 +1,7 @@
 -- Which accesses are judged to be inside: the tests of an index, the order of answers, and flags. Which slip an example
 -- would catch stands beside it.
 use Rattle.std.proofs.Common.{◌≡◌, ℕ, ℤ, pos, negsuc, List, [], ◌∷◌, Some, None, Bool, true, false, refl, inl, inr}
-use Rattle.lra_linear.specs.declared.ConKind.TheVariants.{Ge}
+use Rattle.lra_linear_spec.specs.declared.ConKind.TheVariants.{Ge}
 use Rattle.lra_lin.specs.Form.{Form}
 use Rattle.lra_lin.specs.declared.test.Test.{Test}
 use Rattle.lra_domain.specs.Meaning.{Meaning, worse}

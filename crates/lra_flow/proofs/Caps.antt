@@ -2,9 +2,9 @@
 use Rattle.std.proofs.Common.{◌≡◌, ℕ, zero, suc, ℤ, ◌-◌, ◌≤◌, ◌++◌, List, [], ◌∷◌, length, Option, None, Some, Bool, true, false, inl, inr, refl, sym, subst}
 use Rattle.std.specs.List.{AllByRecursion, Contains}
 use Rattle.std.proofs.lemmas.Option.{slice_get_read}
-use Rattle.lra_linear.proofs.Membership.{contains_none, contains_cases}
+use Rattle.lra_linear_spec.proofs.Membership.{contains_none, contains_cases}
 use Rattle.lra_sys.specs.Listed.{Listed}
-use Rattle.lra_linear.specs.declared.ConKind.{ConKind}
+use Rattle.lra_linear_spec.specs.declared.ConKind.{ConKind}
 use Rattle.lra_domain.specs.Actions.{Action}
 use Rattle.lra_domain.specs.declared.Mode.{Mode}
 use Rattle.lra_domain.specs.declared.Exactness.{Exactness}

@@ -5,8 +5,8 @@ use Rattle.std.proofs.Common.{length, take, refl, sym, ap, subst, ◌∙◌, ari
 use Rattle.std.specs.Prelude.{◌-ℤ◌, ◌≤ℤ◌, ◌⊎◌, ◌&&◌, if◌then◌else◌, neg_ℤ, slice_set, int_div, int_rem, int_le}
 use Rattle.std.proofs.lemmas.Bool.{and_parts}
 use Rattle.std.proofs.lemmas.Int.{ints, quot-rem, rem_below}
-use Rattle.lra_linear.specs.Vectors.{product}
-use Rattle.lra_linear.proofs.Ring.{ring, v, ⊖, ◌⊕◌, ◌⊗◌}
+use Rattle.lra_linear_spec.specs.Vectors.{product}
+use Rattle.lra_linear_spec.proofs.Ring.{ring, v, ⊖, ◌⊕◌, ◌⊗◌}
 use Rattle.lra_lin.specs.Form.{Form, form_value, opposite_form}
 use Rattle.lra_lin.proofs.FormLemmas.{product_negated}
 use Rattle.lra_base.specs.declared.number_types.NumberType.{NumberType}

@@ -31,7 +31,7 @@ use Rattle.lra_flow.specs.Seen.{seen_of}
 use Rattle.lra_domain.specs.Moves.{Moves, make, MayLead}
 use Rattle.lra_flow.specs.MovesOf.{above_least, below_greatest, within_type, set_to, append_set, push_all, set_target, drop_last, moves_of}
 use Rattle.lra_flow.specs.MovesOf.{set_cell, first_values, guard}
-use Rattle.lra_linear.proofs.Ring.{ring, v, ◌⊗◌}
+use Rattle.lra_linear_spec.proofs.Ring.{ring, v, ◌⊗◌}
 use Rattle.std.proofs.lemmas.Bool.{and_parts}
 use Rattle.std.proofs.lemmas.Int.{ints}
 use Rattle.lra_lin.specs.Form.{form_value}

@@ -4,7 +4,7 @@ use Rattle.lra_program.proofs.RunExamples.{long_variable}
 use Rattle.lra_program.specs.Program.{local, Expr, literal, read, input, negate, binary, compare, nonzero, opposite, both_of, either_of}
 use Rattle.lra_base.specs.declared.number_types.NumberType.TheVariants.{Int}
 use Rattle.lra_base.specs.Operators.{modulo, below, equal, differs}
-use Rattle.lra_linear.specs.declared.ConKind.TheVariants.{Ge, Eq}
+use Rattle.lra_linear_spec.specs.declared.ConKind.TheVariants.{Ge, Eq}
 use Rattle.lra_domain.specs.Actions.{Action, test, embed, forget}
 use Rattle.lra_domain.specs.Moves.{stay, make, first_then, join_of, MayLead, cases, dims_moved}
 use Rattle.lra_flow.specs.MovesOf.{guard, value_moves}

@@ -10,7 +10,7 @@ use Rattle.lra_base.specs.declared.number_types.NumberType.{NumberType}
 use Rattle.lra_program.specs.declared.program.GlobalVariable.{GlobalVariable}
 use Rattle.lra_program.specs.Value.{Argument}
 use Rattle.lra_program.specs.Receivers.{variable_at, nobody}
-use Rattle.lra_linear.specs.declared.ConKind.TheVariants.{Ge}
+use Rattle.lra_linear_spec.specs.declared.ConKind.TheVariants.{Ge}
 use Rattle.lra_domain.specs.Moves.{Moves}
 use Rattle.lra_program.specs.Program.{local, Expr, literal, read, input, binary, compare, opposite, either_of}
 use Rattle.lra_base.specs.Operators.{plus, below, equal}

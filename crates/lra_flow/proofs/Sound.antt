@@ -3,7 +3,7 @@ use Rattle.std.proofs.Common.{◌≡◌, ◌≢◌, inl, inr, ℕ, zero, suc, �
 use Rattle.std.proofs.Common.{ap, arith}
 use Rattle.std.specs.List.{Contains}
 use Rattle.std.proofs.lemmas.List.Elements.{Contains-append_left, Contains-append_right}
-use Rattle.lra_linear.proofs.Membership.{contains_cases, contains_head, contains_tail}
+use Rattle.lra_linear_spec.proofs.Membership.{contains_cases, contains_head, contains_tail}
 use Rattle.lra_domain.specs.Actions.{Within}
 use Rattle.lra_domain.specs.Meaning.{Meaning}
 use Rattle.lra_domain.specs.Laws.{Laws}

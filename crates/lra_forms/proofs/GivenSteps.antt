@@ -8,8 +8,8 @@ use Rattle.lra_flow.proofs.Keeping.{some_is}
 use Rattle.lra_lin.specs.Form.{Form, opposite_form}
 use Rattle.lra_lin.specs.declared.test.Test.{Test}
 use Rattle.lra_sys.specs.Listed.{Listed}
-use Rattle.lra_linear.specs.declared.ConKind.{ConKind}
-use Rattle.lra_linear.specs.declared.ConKind.TheVariants.{Ge, Eq}
+use Rattle.lra_linear_spec.specs.declared.ConKind.{ConKind}
+use Rattle.lra_linear_spec.specs.declared.ConKind.TheVariants.{Ge, Eq}
 use Rattle.lra_base.specs.declared.operators.Comparison as declared
 use Rattle.lra_base.specs.declared.operators.Comparison.TheVariants.{Below, AtMost, Above, AtLeast, Equal, Differs}
 use Rattle.lra_base.specs.OperatorViews.{comparison_view}

@@ -1,8 +1,8 @@
 -- Rows that are taken into a list, each once.
 use Rattle.std.specs.Prelude.{◌≡◌, ℤ, List, fold, map}
 use Rattle.lra_sys.specs.Listed.{Listed}
-use Rattle.lra_linear.specs.declared.ConKind.{ConKind}
-use Rattle.lra_linear.specs.declared.ConKind.TheVariants.{Ge}
+use Rattle.lra_linear_spec.specs.declared.ConKind.{ConKind}
+use Rattle.lra_linear_spec.specs.declared.ConKind.TheVariants.{Ge}
 use Rattle.lra_flow.specs.Thresholds.{with_row}
 
 -- the list has these inequalities more, behind the others: those that aren't there, and are narrow

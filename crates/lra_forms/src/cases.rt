@@ -1,7 +1,7 @@
 //! The two cases in which a division is done.
 
 ghost use Rattle.std.specs.Prelude.{◌≡◌, ◌<◌, ◌≤ℤ◌, ◌^◌, pos, IfOk};
-ghost use Rattle.lra_linear.specs.declared.ConKind.TheVariants.{Ge, Eq};
+ghost use Rattle.lra_linear_spec.specs.declared.ConKind.TheVariants.{Ge, Eq};
 ghost use Rattle.lra_domain.specs.Actions as action;
 ghost use Rattle.lra_domain.specs.Changes.{action_of, actions_of};
 ghost use Rattle.lra_flow.specs.Seen.{behind_form, left_over};
@@ -11,7 +11,7 @@ use crate::seen::{extend_form, form_behind};
 use lra_domain::Change;
 use lra_flow::Division;
 use lra_lin::{LinExpr, Test};
-use lra_linear::ConKind;
+use lra_linear_spec::ConKind;
 use std::alloc::{AllocError, Global};
 
 /// That the form is at least 0.

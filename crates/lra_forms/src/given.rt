@@ -3,7 +3,7 @@
 ghost use Rattle.std.specs.Prelude.{◌≡◌, ◌<◌, ◌^◌, ℤ, pos, ◌+ℤ◌, ◌≤ℤ◌, neg_ℤ, ◌∷◌, ◌++◌, [], suc, map, length, IfOk};
 ghost use Rattle.std.specs.Prelude.{OnOk, Some, option_map, if◌then◌else◌};
 ghost use Rattle.std.specs.List.{All};
-ghost use Rattle.lra_linear.specs.Range.{InRange};
+ghost use Rattle.lra_linear_spec.specs.Range.{InRange};
 ghost use Rattle.lra_base.specs.OperatorViews.{comparison_view};
 ghost use Rattle.lra_program.specs.ProgramViews.{all_of, expr_view, cond_view};
 ghost use Rattle.lra_flow.specs.Linear.{difference_form, comparison_test};

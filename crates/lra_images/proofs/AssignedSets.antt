@@ -1,16 +1,16 @@
 -- Images: the generators with the form's value as one coordinate.
 use Rattle.std.proofs.Common.{◌≡◌, ℕ, suc, ◌<◌, List, ap, sym, ◌∙◌, subst, ℤ, ◌*ℤ◌, arith}
 use Rattle.std.specs.Prelude.{IfOk, Result, Ok}
-use Rattle.lra_linear.specs.Descriptions.{Con, Gen}
-use Rattle.lra_linear.specs.OperationStrain.{mapped}
-use Rattle.lra_linear.specs.Points.{IsWithin, PointSet, SameSet}
-use Rattle.lra_linear.specs.Polyhedra.{IsPolyhedron, Polyhedron}
-use Rattle.lra_linear.specs.SetOperations.{Forget, Image, assigned}
-use Rattle.lra_linear.specs.Strain.{Loss}
-use Rattle.lra_linear.specs.Vectors.{entry, product}
-use Rattle.lra_linear.specs.declared.GenKind.{GenKind}
-use Rattle.lra_linear.proofs.Polyhedra.{con_gen}
-use Rattle.lra_linear.proofs.Products.{entry_set_other}
+use Rattle.lra_linear_spec.specs.Descriptions.{Con, Gen}
+use Rattle.lra_linear_spec.specs.OperationStrain.{mapped}
+use Rattle.lra_linear_spec.specs.Points.{IsWithin, PointSet, SameSet}
+use Rattle.lra_linear_spec.specs.Polyhedra.{IsPolyhedron, Polyhedron}
+use Rattle.lra_linear_spec.specs.SetOperations.{Forget, Image, assigned}
+use Rattle.lra_linear_spec.specs.Strain.{Loss}
+use Rattle.lra_linear_spec.specs.Vectors.{entry, product}
+use Rattle.lra_linear_spec.specs.declared.GenKind.{GenKind}
+use Rattle.lra_linear_spec.proofs.Polyhedra.{con_gen}
+use Rattle.lra_linear_spec.proofs.Products.{entry_set_other}
 use Rattle.lra_sys.specs.Listed.{Listed, generators}
 use Rattle.lra_lists.proofs.Assigning.{assigned_map, assigning}
 use Rattle.lra_lists.proofs.MappedSets.{mapped_from, mapped_in, widths_of}

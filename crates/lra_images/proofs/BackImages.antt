@@ -2,14 +2,14 @@
 use Rattle.std.proofs.Common.{◌≡◌, ℕ, suc, ◌<◌, List, length, ap, arith, refl, sym, ◌∙◌, subst, ℤ, pos, ◌*ℤ◌, ◌<ℤ◌, Option, Some, ◌+◌, add-one}
 use Rattle.std.specs.Option.{IfSome}
 use Rattle.std.proofs.lemmas.Option.{IfSome_then}
-use Rattle.lra_linear.specs.Descriptions.{Con, system_of}
-use Rattle.lra_linear.specs.Points.{IsPoint, SamePoint, SameSet}
-use Rattle.lra_linear.specs.Polyhedra.{IsPolyhedron, IsPolyhedronOf, Polyhedron}
-use Rattle.lra_linear.specs.SetOperations.{Image, Preimage, assigned}
-use Rattle.lra_linear.specs.Vectors.{entry, product}
-use Rattle.lra_linear.proofs.Descriptions.{gen_generated, generated_gen}
-use Rattle.lra_linear.proofs.Polyhedra.{con_gen}
-use Rattle.lra_linear.proofs.Ring.{ring, v, ◌⊗◌}
+use Rattle.lra_linear_spec.specs.Descriptions.{Con, system_of}
+use Rattle.lra_linear_spec.specs.Points.{IsPoint, SamePoint, SameSet}
+use Rattle.lra_linear_spec.specs.Polyhedra.{IsPolyhedron, IsPolyhedronOf, Polyhedron}
+use Rattle.lra_linear_spec.specs.SetOperations.{Image, Preimage, assigned}
+use Rattle.lra_linear_spec.specs.Vectors.{entry, product}
+use Rattle.lra_linear_spec.proofs.Descriptions.{gen_generated, generated_gen}
+use Rattle.lra_linear_spec.proofs.Polyhedra.{con_gen}
+use Rattle.lra_linear_spec.proofs.Ring.{ring, v, ◌⊗◌}
 use Rattle.lra_lin.specs.Form.{Form, form_row}
 use Rattle.lra_poly.proofs.PolyLemmas.{same_polyhedron}
 use Rattle.lra_lists.specs.Moving.{TakesBack}

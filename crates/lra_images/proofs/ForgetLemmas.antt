@@ -4,25 +4,25 @@ use Rattle.std.specs.Prelude.{IfSome, Option, None, Some}
 use Rattle.std.proofs.Common.{pos, neg_ℤ, ◌+ℤ◌, ◌*ℤ◌, ◌<ℤ◌, arith, ◌⊎◌, inl, inr}
 use Rattle.std.proofs.lemmas.Int.{ints}
 use Rattle.std.proofs.lemmas.Bool.{cases_eq}
-use Rattle.lra_linear.specs.Cones.{Generated}
-use Rattle.lra_linear.specs.Descriptions.{Con, Gen, Given, line, system_of}
-use Rattle.lra_linear.specs.OperationStrain.{unit_row}
-use Rattle.lra_linear.specs.Points.{IsPoint, SameSet}
-use Rattle.lra_linear.specs.Polyhedra.{IsPolyhedron, IsPolyhedronOf, Polyhedron}
-use Rattle.lra_linear.specs.SetOperations.{Forget, SameBut}
-use Rattle.lra_linear.specs.Vectors.{blend, entry, negated, sum_of}
-use Rattle.lra_linear.proofs.Combinations.{generated_divided, generated_plus, generated_same, generated_times}
-use Rattle.lra_linear.proofs.Descriptions.{gen_generated, generated_gen}
-use Rattle.lra_linear.proofs.LinearMaps.{generated_left, generated_right, sum_generated}
-use Rattle.lra_linear.proofs.Lines.{line_times}
-use Rattle.lra_linear.proofs.Polyhedra.{con_gen}
-use Rattle.lra_linear.proofs.Products.{blend_length, entry_blend}
-use Rattle.lra_linear.proofs.Ring.{ring, v, ⊖, ◌⊕◌, ◌⊗◌}
-use Rattle.lra_linear.proofs.Signs.{as_nat, positive_is_nonnegative, positive_nat, times_positive}
-use Rattle.lra_linear.proofs.UnitRows.{unit_here, unit_length, unit_other}
+use Rattle.lra_linear_spec.specs.Cones.{Generated}
+use Rattle.lra_linear_spec.specs.Descriptions.{Con, Gen, LinearRow, line, system_of}
+use Rattle.lra_linear_spec.specs.OperationStrain.{unit_row}
+use Rattle.lra_linear_spec.specs.Points.{IsPoint, SameSet}
+use Rattle.lra_linear_spec.specs.Polyhedra.{IsPolyhedron, IsPolyhedronOf, Polyhedron}
+use Rattle.lra_linear_spec.specs.SetOperations.{Forget, SameBut}
+use Rattle.lra_linear_spec.specs.Vectors.{blend, entry, negated, sum_of}
+use Rattle.lra_linear_spec.proofs.Combinations.{generated_divided, generated_plus, generated_same, generated_times}
+use Rattle.lra_linear_spec.proofs.Descriptions.{gen_generated, generated_gen}
+use Rattle.lra_linear_spec.proofs.LinearMaps.{generated_left, generated_right, sum_generated}
+use Rattle.lra_linear_spec.proofs.Lines.{line_times}
+use Rattle.lra_linear_spec.proofs.Polyhedra.{con_gen}
+use Rattle.lra_linear_spec.proofs.Products.{blend_length, entry_blend}
+use Rattle.lra_linear_spec.proofs.Ring.{ring, v, ⊖, ◌⊕◌, ◌⊗◌}
+use Rattle.lra_linear_spec.proofs.Signs.{as_nat, positive_is_nonnegative, positive_nat, times_positive}
+use Rattle.lra_linear_spec.proofs.UnitRows.{unit_here, unit_length, unit_other}
 use Rattle.lra_descriptions.proofs.SeveralKinds.{system_append}
 use Rattle.lra_sys.specs.Listed.{Listed, generators}
-use Rattle.lra_linear.specs.declared.GenKind.{GenKind}
+use Rattle.lra_linear_spec.specs.declared.GenKind.{GenKind}
 use Rattle.lra_lists.proofs.ListLemmas.{line_seen}
 use Rattle.lra_poly.proofs.PolyLemmas.{same_polyhedron}
 use Rattle.lra_poly.proofs.TakenGenerators.{Takes}
@@ -40,7 +40,7 @@ this_column xk yk x0 y0 u eu =
     ap (λ (z : ℤ). (x0 *ℤ yk) +ℤ (((y0 *ℤ xk) +ℤ neg_ℤ (x0 *ℤ yk)) *ℤ z)) eu ∙
     ring (v x0 ⊗ v yk ⊕ (v y0 ⊗ v xk ⊕ ⊖ (v x0 ⊗ v yk)) ⊗ v (pos 1)) (v y0 ⊗ v xk) (omega arith)
 
-forgotten_in : (n k : ℕ) (list : List Given) (x y : List ℤ) → k < suc n → pos 0 <ℤ entry x 0 → pos 0 <ℤ entry y 0 →
+forgotten_in : (n k : ℕ) (list : List LinearRow) (x y : List ℤ) → k < suc n → pos 0 <ℤ entry x 0 → pos 0 <ℤ entry y 0 →
     SameBut k x y → Generated (system_of list) (entry y) →
     Generated (system_of (list ++ line (unit_row n k) ∷ [])) (entry x)
 forgotten_in n k list x y low px py s g =
@@ -77,7 +77,7 @@ less_nothing : (m xj f u b : ℤ) → u ≡ pos 0 → b ≡ (m *ℤ xj) +ℤ (ne
 less_nothing m xj f u b eu eb = eb ∙ ap (λ (z : ℤ). (m *ℤ xj) +ℤ (neg_ℤ f *ℤ z)) eu ∙
     ring (v m ⊗ v xj ⊕ ⊖ (v f) ⊗ v (pos 0)) (v m ⊗ v xj) (omega arith)
 
-forgotten_from : (n k : ℕ) (list : List Given) (x : List ℤ) → 0 < k → k < suc n → IsPoint n x →
+forgotten_from : (n k : ℕ) (list : List LinearRow) (x : List ℤ) → 0 < k → k < suc n → IsPoint n x →
     Generated (system_of (list ++ line (unit_row n k) ∷ [])) (entry x) →
     Forget n k (Gen list) x
 forgotten_from n k list x above low p g =
@@ -138,12 +138,12 @@ forget_takes p list all x h low ed eg ad ag = record {
 }
 
 -- where the line is taken in from the lists at hand
-pub forget_extended : (p : Polyhedron) (made : Option Polyhedron) (along : List Given) (n x : ℕ) → IsPolyhedron p → x < p.dims →
+pub forget_extended : (p : Polyhedron) (made : Option Polyhedron) (along : List LinearRow) (n x : ℕ) → IsPolyhedron p → x < p.dims →
     n ≡ p.dims → along ≡ line (unit_row n (suc x)) ∷ [] → IfSome made (IsPolyhedronOf p.dims (Gen (p.generators ++ along))) →
     IfSome made (IsPolyhedronOf p.dims (Forget p.dims (suc x) (Con p.rows)))
 forget_extended p None along n x h low en ea is = tt
 forget_extended p (Some q) along n x h low en ea is =
     same_polyhedron p.dims (Forget p.dims (suc x) (Con p.rows)) (Gen (p.generators ++ line (unit_row p.dims (suc x)) ∷ [])) q
     (forget_generators p (suc x) h (omega arith) (omega (arith, low)))
-    (subst (λ (l : List Given). IsPolyhedronOf p.dims (Gen (p.generators ++ l)) q)
+    (subst (λ (l : List LinearRow). IsPolyhedronOf p.dims (Gen (p.generators ++ l)) q)
     (ea ∙ ap (λ (m : ℕ). line (unit_row m (suc x)) ∷ []) en) is)

@@ -1,12 +1,12 @@
 -- A coordinate that is given up where the outcome is flagged.
 use Rattle.std.proofs.Common.{◌≡◌, ◌∙◌, ◌<◌, ℕ, ℤ, List, inl, inr, refl, subst, sym}
-use Rattle.lra_linear.specs.Descriptions.{Con, Gen}
-use Rattle.lra_linear.specs.OperationStrain.{ForgetStrains, ImageStrains}
-use Rattle.lra_linear.specs.Points.{IsPoint, IsWithin}
-use Rattle.lra_linear.specs.Polyhedra.{Polyhedron}
-use Rattle.lra_linear.specs.SetOperations.{Forget, Image}
-use Rattle.lra_linear.specs.Strain.{Loss}
-use Rattle.lra_linear.specs.declared.GenKind.{GenKind}
+use Rattle.lra_linear_spec.specs.Descriptions.{Con, Gen}
+use Rattle.lra_linear_spec.specs.OperationStrain.{ForgetStrains, ImageStrains}
+use Rattle.lra_linear_spec.specs.Points.{IsPoint, IsWithin}
+use Rattle.lra_linear_spec.specs.Polyhedra.{Polyhedron}
+use Rattle.lra_linear_spec.specs.SetOperations.{Forget, Image}
+use Rattle.lra_linear_spec.specs.Strain.{Loss}
+use Rattle.lra_linear_spec.specs.declared.GenKind.{GenKind}
 use Rattle.lra_sys.specs.Listed.{Listed, generators}
 use Rattle.lra_poly.specs.Outcomes.{Becomes, IfFlagged, IsOfGenerators}
 use Rattle.lra_poly.specs.declared.outcome.Outcome.{Outcome}

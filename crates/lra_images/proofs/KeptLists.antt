@@ -1,14 +1,14 @@
 -- Why lists aren't moved, and what is left of those that are formed.
 use Rattle.std.proofs.Common.{◌≡◌, ℕ, suc, ◌+◌, add-one, List, ℤ, [], inl, inr, ◌⊎◌, subst}
 use Rattle.std.specs.List.{Contains}
-use Rattle.lra_linear.specs.declared.ConKind.{ConKind}
-use Rattle.lra_linear.specs.Descriptions.{Given}
-use Rattle.lra_linear.specs.OperationStrain.{substituted_rows, with_positivity}
+use Rattle.lra_linear_spec.specs.declared.ConKind.{ConKind}
+use Rattle.lra_linear_spec.specs.Descriptions.{LinearRow}
+use Rattle.lra_linear_spec.specs.OperationStrain.{substituted_rows, with_positivity}
 use Rattle.lra_sys.specs.Listed.{Listed, constraints}
 use Rattle.lra_lists.specs.Forming.{AllFormed}
 use Rattle.lra_poly.specs.Narrowed.{IsTried}
 use Rattle.lra_images.specs.FormedPreimages.{IsOfFormed}
-use Rattle.lra_linear.specs.Polyhedra.{Polyhedron}
+use Rattle.lra_linear_spec.specs.Polyhedra.{Polyhedron}
 use Rattle.lra_row.specs.declared.error.RowError.{RowError}
 use Rattle.lra_row.specs.declared.error.RowError.TheVariants.{Excess, Memory}
 use Rattle.lra_poly.specs.declared.outcome.Outcome.{Outcome}
@@ -17,15 +17,15 @@ use Rattle.lra_poly.specs.Outcomes.{IfFlagged}
 use Rattle.lra_lists.specs.Moving.{AssignmentPasses, MovePasses, OnExcess, StaysBackFor, StaysFor, SubstitutionPasses, TakesBack}
 
 -- a number passes in one of the lists
-pub rows_pass : (k : ℕ) (form back : List ℤ) (p : Polyhedron) (rows : List Given) (error : RowError) → rows ≡ p.rows → OnExcess (SubstitutionPasses k back rows) error →
+pub rows_pass : (k : ℕ) (form back : List ℤ) (p : Polyhedron) (rows : List LinearRow) (error : RowError) → rows ≡ p.rows → OnExcess (SubstitutionPasses k back rows) error →
     OnExcess (λ e. SubstitutionPasses k back p.rows e ⊎ AssignmentPasses k form p.generators e) error
 rows_pass k form back p rows Memory er h = tt
-rows_pass k form back p rows (Excess e) er h = inl (subst (λ (l : List Given). SubstitutionPasses k back l e) er h)
+rows_pass k form back p rows (Excess e) er h = inl (subst (λ (l : List LinearRow). SubstitutionPasses k back l e) er h)
 
-pub generators_pass : (k : ℕ) (form back : List ℤ) (p : Polyhedron) (generators : List Given) (error : RowError) → generators ≡ p.generators → OnExcess (AssignmentPasses k form generators) error →
+pub generators_pass : (k : ℕ) (form back : List ℤ) (p : Polyhedron) (generators : List LinearRow) (error : RowError) → generators ≡ p.generators → OnExcess (AssignmentPasses k form generators) error →
     OnExcess (λ e. SubstitutionPasses k back p.rows e ⊎ AssignmentPasses k form p.generators e) error
 generators_pass k form back p generators Memory eg h = tt
-generators_pass k form back p generators (Excess e) eg h = inr (subst (λ (l : List Given). AssignmentPasses k form l e) eg h)
+generators_pass k form back p generators (Excess e) eg h = inr (subst (λ (l : List LinearRow). AssignmentPasses k form l e) eg h)
 
 pub stays_passed : (k : ℕ) (form back : List ℤ) (p : Polyhedron) → TakesBack k (suc p.dims) form back → MovePasses k form back p → StaysFor k form p
 stays_passed k form back p takes h = inr (inr (back, takes, h))
@@ -45,13 +45,14 @@ pub stays_back_for : (p : Polyhedron) (x : ℕ) (form row : List ℤ) → row �
 stays_back_for p x form row er h = subst (λ (f : List ℤ). StaysBackFor (suc x) f p) er (subst (λ (k : ℕ). StaysBackFor k row p) (add-one x) h)
 
 -- ---- preimages of what can be formed
-pub of_formed : (k : ℕ) (form : List ℤ) (p made : Polyhedron) (list : Listed ConKind) (rows : List Given) (o : Outcome) → list.dims ≡ p.dims → rows ≡ p.rows →
-    ((g : Given) → Contains (constraints list) g → Contains (substituted_rows k form rows) g) → AllFormed k form rows (constraints list) →
+pub of_formed : (k : ℕ) (form : List ℤ) (p made : Polyhedron) (list : Listed ConKind) (rows : List LinearRow) (o : Outcome) → list.dims ≡ p.dims →
+    rows ≡ p.rows →
+    ((g : LinearRow) → Contains (constraints list) g → Contains (substituted_rows k form rows) g) → AllFormed k form rows (constraints list) →
     IsTried list.dims (with_positivity list.dims []) (constraints list) made o → IsOfFormed k form p made
 of_formed k form p made list rows o ed er among formed tried = record {
   rows = constraints list;
-  among = λ g has. subst (λ (l : List Given). Contains (substituted_rows k form l) g) er (among g has);
-  formed = subst (λ (l : List Given). AllFormed k form l (constraints list)) er formed;
+  among = λ g has. subst (λ (l : List LinearRow). Contains (substituted_rows k form l) g) er (among g has);
+  formed = subst (λ (l : List LinearRow). AllFormed k form l (constraints list)) er formed;
   outcome = o;
   tried = subst (λ (n : ℕ). IsTried n (with_positivity n []) (constraints list) made o) ed tried;
 }

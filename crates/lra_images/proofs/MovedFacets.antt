@@ -2,18 +2,18 @@
 use Rattle.std.proofs.Common.{◌≡◌, ◌≢◌, ℕ, zero, suc, ◌<◌, List, [], ◌∷◌, length, ap, refl, sym, ◌∙◌, subst, ℤ, pos, neg_ℤ, ◌+ℤ◌, ◌*ℤ◌, ◌<ℤ◌, ◌≤ℤ◌, arith, inl, inr}
 use Rattle.std.specs.List.{Contains}
 use Rattle.std.proofs.lemmas.Bool.{cases_eq}
-use Rattle.lra_linear.specs.Cones.{AreDual, all_rows}
-use Rattle.lra_linear.specs.Echelon.{IsEchelonOf, pivot}
-use Rattle.lra_linear.specs.Polyhedra.{positivity}
-use Rattle.lra_linear.specs.Vectors.{dot, entry, product, substituted}
-use Rattle.lra_linear.proofs.CanonicalForms.{spanned_in_cone, spanned_negative}
-use Rattle.lra_linear.proofs.LinearMaps.{generated_nonneg}
-use Rattle.lra_linear.proofs.LowestTerms.{primitive_at}
-use Rattle.lra_linear.proofs.Products.{dot_minus, product_comm, row_same}
-use Rattle.lra_linear.proofs.Ring.{ring, v, ◌⊕◌, ◌⊗◌}
-use Rattle.lra_linear.proofs.Signs.{between_opposites, not_both, times_positive}
-use Rattle.lra_linear.proofs.Spans.{spanned_row, spanned_zero}
-use Rattle.lra_linear.proofs.Lines.{entry_zeros, zeros_length}
+use Rattle.lra_linear_spec.specs.Cones.{AreDual, all_rows}
+use Rattle.lra_linear_spec.specs.Echelon.{IsEchelonOf, pivot}
+use Rattle.lra_linear_spec.specs.Polyhedra.{positivity}
+use Rattle.lra_linear_spec.specs.Vectors.{dot, entry, product, substituted}
+use Rattle.lra_linear_spec.proofs.CanonicalForms.{spanned_in_cone, spanned_negative}
+use Rattle.lra_linear_spec.proofs.LinearMaps.{generated_nonneg}
+use Rattle.lra_linear_spec.proofs.LowestTerms.{primitive_at}
+use Rattle.lra_linear_spec.proofs.Products.{dot_minus, product_comm, row_same}
+use Rattle.lra_linear_spec.proofs.Ring.{ring, v, ◌⊕◌, ◌⊗◌}
+use Rattle.lra_linear_spec.proofs.Signs.{between_opposites, not_both, times_positive}
+use Rattle.lra_linear_spec.proofs.Spans.{spanned_row, spanned_zero}
+use Rattle.lra_linear_spec.proofs.Lines.{entry_zeros, zeros_length}
 use Rattle.lra_canon.specs.Reduced.{IsReducedBy}
 use Rattle.lra_canon.proofs.Extension.{member_leads}
 use Rattle.lra_lists.proofs.TakenBack.{put_at, put_other, substituted_entry, substituted_width}

@@ -4,19 +4,19 @@ use Rattle.std.specs.Prelude.{slice_set}
 use Rattle.std.specs.List.{Contains}
 use Rattle.std.proofs.lemmas.List.{map-append}
 use Rattle.std.proofs.lemmas.List.Elements.{Contains-append_cases, Contains-append_left, Contains-append_right}
-use Rattle.lra_linear.specs.Cones.{AreDual, Generated, all_rows, both_ways}
-use Rattle.lra_linear.specs.Echelon.{IsEchelonOf, Spanned}
-use Rattle.lra_linear.specs.SetOperations.{assigned}
-use Rattle.lra_linear.specs.Vectors.{entry, negated, product, substituted}
-use Rattle.lra_linear.proofs.CanonicalForms.{spanned_in_cone, spanned_negative}
-use Rattle.lra_linear.proofs.Combinations.{generated_divided, generated_plus, generated_row, generated_same, generated_times}
-use Rattle.lra_linear.proofs.Descriptions.{dual_flipped}
-use Rattle.lra_linear.proofs.Lines.{in_lines, signed_from}
-use Rattle.lra_linear.proofs.Membership.{contains_head, contains_tail}
-use Rattle.lra_linear.proofs.OneSpelling.{dual_same_cone}
-use Rattle.lra_linear.proofs.Products.{dot_negated, entry_negated, negated_length, row_same}
-use Rattle.lra_linear.proofs.Ring.{ring, v, ⊖, ◌⊕◌, ◌⊗◌}
-use Rattle.lra_linear.proofs.Spans.{spanned_row, spanned_same}
+use Rattle.lra_linear_spec.specs.Cones.{AreDual, Generated, all_rows, both_ways}
+use Rattle.lra_linear_spec.specs.Echelon.{IsEchelonOf, Spanned}
+use Rattle.lra_linear_spec.specs.SetOperations.{assigned}
+use Rattle.lra_linear_spec.specs.Vectors.{entry, negated, product, substituted}
+use Rattle.lra_linear_spec.proofs.CanonicalForms.{spanned_in_cone, spanned_negative}
+use Rattle.lra_linear_spec.proofs.Combinations.{generated_divided, generated_plus, generated_row, generated_same, generated_times}
+use Rattle.lra_linear_spec.proofs.Descriptions.{dual_flipped}
+use Rattle.lra_linear_spec.proofs.Lines.{in_lines, signed_from}
+use Rattle.lra_linear_spec.proofs.Membership.{contains_head, contains_tail}
+use Rattle.lra_linear_spec.proofs.OneSpelling.{dual_same_cone}
+use Rattle.lra_linear_spec.proofs.Products.{dot_negated, entry_negated, negated_length, row_same}
+use Rattle.lra_linear_spec.proofs.Ring.{ring, v, ⊖, ◌⊕◌, ◌⊗◌}
+use Rattle.lra_linear_spec.proofs.Spans.{spanned_row, spanned_same}
 use Rattle.lra_pair.specs.OwnLists.{AreReducedBy}
 use Rattle.lra_pair.proofs.TightRows.{reduced_from, reduced_has}
 use Rattle.lra_lists.specs.Moving.{TakesBack}

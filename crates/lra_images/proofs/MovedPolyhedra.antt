@@ -7,32 +7,32 @@ use Rattle.std.specs.Ordering.{is_eq}
 use Rattle.std.specs.declared.cmp.Ordering.{Ordering}
 use Rattle.std.proofs.lemmas.List.{length-map}
 use Rattle.std.proofs.lemmas.List.Elements.{All-contains, Contains-append_cases, Contains-append_left, Contains-append_right}
-use Rattle.lra_linear.specs.Canonical.{IsCanonical}
-use Rattle.lra_linear.specs.Cones.{AreDual, Generated, all_rows, both_ways}
-use Rattle.lra_linear.specs.ConeStrain.{row_limit}
-use Rattle.lra_linear.specs.Descriptions.{Con, Given, lines_of, rays_of, system_of}
-use Rattle.lra_linear.specs.Echelon.{IsEchelonOf}
-use Rattle.lra_linear.specs.Formed.{KeepsLimit}
-use Rattle.lra_linear.specs.OperationStrain.{mapped}
-use Rattle.lra_linear.specs.Points.{IsEmptySet, IsPoint}
-use Rattle.lra_linear.specs.Polyhedra.{HasPoint, IsPolyhedron, IsPolyhedronOf, Polyhedron, positivity}
-use Rattle.lra_linear.specs.RowOrder.{row_cmp}
-use Rattle.lra_linear.specs.SetOperations.{Image, assigned}
-use Rattle.lra_linear.specs.Vectors.{entry, substituted}
-use Rattle.lra_linear.proofs.CanonicalForms.{same_from_dual}
-use Rattle.lra_linear.proofs.Combinations.{generated_row}
-use Rattle.lra_linear.proofs.Descriptions.{dual_flipped, gen_generated, generated_gen, in_all_rows, in_system}
-use Rattle.lra_linear.proofs.LinearMaps.{generated_nonneg, generated_through}
-use Rattle.lra_linear.proofs.Lines.{in_lines, signed_from}
-use Rattle.lra_linear.proofs.Membership.{NoRepeat, at_most, contains_cases, contains_head, contains_none, contains_tail, map_from, map_has}
-use Rattle.lra_linear.proofs.OneSpelling.{columns_of, positivity_product, some_member}
-use Rattle.lra_linear.proofs.Polyhedra.{con_gen, generators_lines, generators_rays}
-use Rattle.lra_linear.proofs.Products.{negated_length}
-use Rattle.lra_linear.proofs.RowOrder.{row_cmp_total}
-use Rattle.lra_linear.proofs.Signs.{positive_is_nonnegative, zero_at_least}
-use Rattle.lra_linear.specs.declared.ConKind.{ConKind}
+use Rattle.lra_linear_spec.specs.Canonical.{IsCanonical}
+use Rattle.lra_linear_spec.specs.Cones.{AreDual, Generated, all_rows, both_ways}
+use Rattle.lra_linear_spec.specs.ConeStrain.{row_limit}
+use Rattle.lra_linear_spec.specs.Descriptions.{Con, LinearRow, lines_of, rays_of, system_of}
+use Rattle.lra_linear_spec.specs.Echelon.{IsEchelonOf}
+use Rattle.lra_linear_spec.specs.Representable.{KeepsLimit}
+use Rattle.lra_linear_spec.specs.OperationStrain.{mapped}
+use Rattle.lra_linear_spec.specs.Points.{IsEmptySet, IsPoint}
+use Rattle.lra_linear_spec.specs.Polyhedra.{HasPoint, IsPolyhedron, IsPolyhedronOf, Polyhedron, positivity}
+use Rattle.lra_linear_spec.specs.RowOrder.{row_cmp}
+use Rattle.lra_linear_spec.specs.SetOperations.{Image, assigned}
+use Rattle.lra_linear_spec.specs.Vectors.{entry, substituted}
+use Rattle.lra_linear_spec.proofs.CanonicalForms.{same_from_dual}
+use Rattle.lra_linear_spec.proofs.Combinations.{generated_row}
+use Rattle.lra_linear_spec.proofs.Descriptions.{dual_flipped, gen_generated, generated_gen, in_all_rows, in_system}
+use Rattle.lra_linear_spec.proofs.LinearMaps.{generated_nonneg, generated_through}
+use Rattle.lra_linear_spec.proofs.Lines.{in_lines, signed_from}
+use Rattle.lra_linear_spec.proofs.Membership.{NoRepeat, at_most, contains_cases, contains_head, contains_none, contains_tail, map_from, map_has}
+use Rattle.lra_linear_spec.proofs.OneSpelling.{columns_of, positivity_product, some_member}
+use Rattle.lra_linear_spec.proofs.Polyhedra.{con_gen, generators_lines, generators_rays}
+use Rattle.lra_linear_spec.proofs.Products.{negated_length}
+use Rattle.lra_linear_spec.proofs.RowOrder.{row_cmp_total}
+use Rattle.lra_linear_spec.proofs.Signs.{positive_is_nonnegative, zero_at_least}
+use Rattle.lra_linear_spec.specs.declared.ConKind.{ConKind}
 use Rattle.lra_sys.specs.Listed.{FitKinds, Listed, constraints, generators}
-use Rattle.lra_linear.specs.declared.GenKind.{GenKind}
+use Rattle.lra_linear_spec.specs.declared.GenKind.{GenKind}
 use Rattle.lra_canon.specs.Echelons.{HaveWidth}
 use Rattle.lra_canon.specs.Reduced.{IsReducedBy}
 use Rattle.lra_canon.proofs.Orders.{tied_itself}
@@ -359,8 +359,8 @@ is_moving p given by k f g rows list h some above back ed er eb eg cs gs d = rec
   some = some;
   above = above;
   back = back;
-  constraints_moved = subst (λ (l : List Given). IsSubstitutedList p.dims k g l rows) er (subst (λ (n : ℕ). IsSubstitutedList n k g (constraints given) rows) ed cs);
-  generators_moved = subst (λ (l : List Given). IsAssignedList p.dims k f l list) eg (subst (λ (n : ℕ). IsAssignedList n k f (generators by) list) eb gs);
+  constraints_moved = subst (λ (l : List LinearRow). IsSubstitutedList p.dims k g l rows) er (subst (λ (n : ℕ). IsSubstitutedList n k g (constraints given) rows) ed cs);
+  generators_moved = subst (λ (l : List LinearRow). IsAssignedList p.dims k f l list) eg (subst (λ (n : ℕ). IsAssignedList n k f (generators by) list) eb gs);
   dims = d ∙ ed;
 }
 

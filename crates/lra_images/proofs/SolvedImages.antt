@@ -2,14 +2,14 @@
 use Rattle.std.proofs.Common.{◌≡◌, ◌≢◌, ℕ, zero, suc, ◌<◌, true, List, [], ◌∷◌, length, ap, sym, ◌∙◌, subst, ℤ, pos, negsuc, neg_ℤ, ◌+ℤ◌, ◌*ℤ◌, ◌<ℤ◌, arith, ◌⊎◌, inl, inr, refl}
 use Rattle.std.specs.Prelude.{slice_set, IfSome, Option, None, Some}
 use Rattle.std.proofs.lemmas.Bool.{cases_eq}
-use Rattle.lra_linear.specs.Descriptions.{Con, Given, Holds}
-use Rattle.lra_linear.specs.Points.{IsPoint, PointSet, SameSet}
-use Rattle.lra_linear.specs.Polyhedra.{IsPolyhedronOf, Polyhedron}
-use Rattle.lra_linear.specs.SetOperations.{Forget, Image, Meet, assigned}
-use Rattle.lra_linear.specs.Vectors.{dot, entry, product}
-use Rattle.lra_linear.proofs.Products.{dot_same, dot_scale, entry_set_other, entry_set_same}
-use Rattle.lra_linear.proofs.Ring.{ring, v, ⊖, ◌⊕◌, ◌⊗◌}
-use Rattle.lra_linear.proofs.Signs.{as_nat, cancel_same, positive_is_nonnegative, positive_nat}
+use Rattle.lra_linear_spec.specs.Descriptions.{Con, LinearRow, Holds}
+use Rattle.lra_linear_spec.specs.Points.{IsPoint, PointSet, SameSet}
+use Rattle.lra_linear_spec.specs.Polyhedra.{IsPolyhedronOf, Polyhedron}
+use Rattle.lra_linear_spec.specs.SetOperations.{Forget, Image, Meet, assigned}
+use Rattle.lra_linear_spec.specs.Vectors.{dot, entry, product}
+use Rattle.lra_linear_spec.proofs.Products.{dot_same, dot_scale, entry_set_other, entry_set_same}
+use Rattle.lra_linear_spec.proofs.Ring.{ring, v, ⊖, ◌⊕◌, ◌⊗◌}
+use Rattle.lra_linear_spec.proofs.Signs.{as_nat, cancel_same, positive_is_nonnegative, positive_nat}
 use Rattle.lra_poly.proofs.PolyLemmas.{same_polyhedron}
 use Rattle.lra_images.proofs.AssignedSets.{image_forgets}
 
@@ -66,7 +66,7 @@ cancelled x value d h e =
     ring (v value ⊗ v d) (v d ⊗ v value) (omega arith) ∙ ap (λ (z : ℤ). z *ℤ value) n.1)
 
 -- ---- the sets
-abbrev pub is_value : ℕ → List ℤ → Given
+abbrev pub is_value : ℕ → List ℤ → LinearRow
 is_value k form = record { row = slice_set form k (negsuc 0); equal = true }
 
 image_holds : (n k : ℕ) (form : List ℤ) (P : PointSet) → 0 < k → k < suc n → length form ≡ suc n → entry form k ≡ pos 0 →

@@ -2,14 +2,14 @@
 use Rattle.std.proofs.Common.{◌≡◌, ◌∙◌, ℕ, suc, ◌<◌, List, length, arith, refl, sym, subst, ℤ, Option, None, Some, inl, inr}
 use Rattle.std.specs.Prelude.{IfNone, IfSome}
 use Rattle.std.specs.List.{Contains}
-use Rattle.lra_linear.specs.CheckedArithmetic.{checked_substitution}
-use Rattle.lra_linear.specs.Descriptions.{Con, Given}
-use Rattle.lra_linear.specs.OperationStrain.{FormingPasses, FromRowsStrains, PreimageStrains, substituted_rows}
-use Rattle.lra_linear.specs.Points.{IsWithin, SameSet}
-use Rattle.lra_linear.specs.Polyhedra.{IsPolyhedron, IsPolyhedronOf, Polyhedron}
-use Rattle.lra_linear.specs.SetOperations.{Preimage}
-use Rattle.lra_linear.specs.Strain.{Loss}
-use Rattle.lra_linear.proofs.SetOperations.{preimage_con}
+use Rattle.lra_linear_spec.specs.CheckedArithmetic.{checked_substitution}
+use Rattle.lra_linear_spec.specs.Descriptions.{Con, LinearRow}
+use Rattle.lra_linear_spec.specs.OperationStrain.{FormingPasses, FromRowsStrains, PreimageStrains, substituted_rows}
+use Rattle.lra_linear_spec.specs.Points.{IsWithin, SameSet}
+use Rattle.lra_linear_spec.specs.Polyhedra.{IsPolyhedron, IsPolyhedronOf, Polyhedron}
+use Rattle.lra_linear_spec.specs.SetOperations.{Preimage}
+use Rattle.lra_linear_spec.specs.Strain.{Loss}
+use Rattle.lra_linear_spec.proofs.SetOperations.{preimage_con}
 use Rattle.lra_poly.proofs.PolyLemmas.{constraints_strain, if_exact, if_flagged, same_polyhedron}
 use Rattle.lra_duality.proofs.PolyhedronLemmas.{given_width}
 use Rattle.lra_poly.specs.Outcomes.{Becomes, IfExact, IfFlagged, IsOfRows}
@@ -31,7 +31,7 @@ preimage_same : (p : Polyhedron) (k : ℕ) (form : List ℤ) → IsAssignment p 
 preimage_same p k form a = preimage_con p.dims k form p.rows a.column a.width (given_width p a.canonical)
 
 -- the polyhedron of the rows that were formed, if all were
-preimage_exact : (p made : Polyhedron) (k : ℕ) (form : List ℤ) (d : ℕ) (list : List Given)
+preimage_exact : (p made : Polyhedron) (k : ℕ) (form : List ℤ) (d : ℕ) (list : List LinearRow)
     (lost : Option Loss) (outcome told : Outcome) → IsAssignment p k form → d ≡ p.dims →
     (lost ≡ None → told ≡ outcome) → ((loss : Loss) → lost ≡ Some loss → told ≡ Flagged loss) →
     IfNone lost (list ≡ substituted_rows k form p.rows) → IfExact (IsPolyhedronOf d (Con list) made) outcome →
@@ -42,19 +42,19 @@ preimage_exact p made k form d list None outcome told a ed same first all h =
     (λ i. same_polyhedron p.dims (Preimage k form (Con p.rows)) (Con (substituted_rows k form p.rows)) made
     (preimage_same p k form a)
     (subst (λ (n : ℕ). IsPolyhedronOf n (Con (substituted_rows k form p.rows)) made) ed
-    (subst (λ (l : List Given). IsPolyhedronOf d (Con l) made) all i))) h)
+    (subst (λ (l : List LinearRow). IsPolyhedronOf d (Con l) made) all i))) h)
 preimage_exact p made k form d list (Some loss) outcome told a ed same first all h =
     subst (IfExact (IsPolyhedronOf p.dims (Preimage k form (Con p.rows)) made)) (sym (first loss refl)) tt
 
-preimage_within : (p made : Polyhedron) (k : ℕ) (form : List ℤ) (d : ℕ) (list : List Given) →
+preimage_within : (p made : Polyhedron) (k : ℕ) (form : List ℤ) (d : ℕ) (list : List LinearRow) →
     IsAssignment p k form → d ≡ p.dims →
-    ((g : Given) → Contains list g → Contains (substituted_rows k form p.rows) g) →
+    ((g : LinearRow) → Contains list g → Contains (substituted_rows k form p.rows) g) →
     IsWithin d (Con list) (Con made.rows) → IsWithin p.dims (Preimage k form (Con p.rows)) (Con made.rows)
 preimage_within p made k form d list a ed among h x i s =
     subst (λ (n : ℕ). IsWithin n (Con list) (Con made.rows)) ed h x i
     (λ g m. (preimage_same p k form a).0 x i s g (among g m))
 
-preimage_strain : (p : Polyhedron) (k : ℕ) (form : List ℤ) (d : ℕ) (list : List Given)
+preimage_strain : (p : Polyhedron) (k : ℕ) (form : List ℤ) (d : ℕ) (list : List LinearRow)
     (lost : Option Loss) (outcome told : Outcome) → IsAssignment p k form → d ≡ p.dims →
     (lost ≡ None → told ≡ outcome) → ((loss : Loss) → lost ≡ Some loss → told ≡ Flagged loss) →
     IfNone lost (list ≡ substituted_rows k form p.rows) →
@@ -66,16 +66,16 @@ preimage_strain p k form d list None outcome told a ed same first all lost h =
     (λ loss s. inr (constraints_strain p.dims (Preimage k form (Con p.rows)) (Con (substituted_rows k form p.rows))
     (substituted_rows k form p.rows) loss (preimage_same p k form a)
     (subst (λ (n : ℕ). FromRowsStrains n (substituted_rows k form p.rows) loss) ed
-    (subst (λ (l : List Given). FromRowsStrains d l loss) all s)))) h)
+    (subst (λ (l : List LinearRow). FromRowsStrains d l loss) all s)))) h)
 preimage_strain p k form d list (Some loss) outcome told a ed same first all lost h =
     subst (IfFlagged (PreimageStrains k form p)) (sym (first loss refl)) (inl lost)
 
 -- the first loss is told of the rows that couldn't be formed, or else of those that strain
-pub preimage_becomes : (p made : Polyhedron) (k : ℕ) (form : List ℤ) (d : ℕ) (list : List Given)
+pub preimage_becomes : (p made : Polyhedron) (k : ℕ) (form : List ℤ) (d : ℕ) (list : List LinearRow)
     (lost : Option Loss) (outcome told : Outcome) → IsAssignment p k form → d ≡ p.dims →
     (lost ≡ None → told ≡ outcome) → ((loss : Loss) → lost ≡ Some loss → told ≡ Flagged loss) →
     IfNone lost (list ≡ substituted_rows k form p.rows) →
-    ((g : Given) → Contains list g → Contains (substituted_rows k form p.rows) g) →
+    ((g : LinearRow) → Contains list g → Contains (substituted_rows k form p.rows) g) →
     IfSome lost (FormingPasses (λ g. checked_substitution k form g.row) p.rows) → IsOfRows d list made outcome →
     Becomes p.dims (Preimage k form (Con p.rows)) (PreimageStrains k form p) made told
 preimage_becomes p made k form d list lost outcome told a ed same first all among passes b = record {

@@ -2,14 +2,14 @@
 
 ghost use Rattle.std.specs.Prelude.{◌≡◌, ◌<◌, ◌∷◌, ◌++◌, [], suc, length, None, Some, IfOk, OnErr, OnOk};
 ghost use Rattle.std.specs.Prelude.{pos, negsuc, slice_set, true, IfNone, IfSome};
-ghost use Rattle.lra_linear.specs.Descriptions.{Con, Gen, Holds, line};
-ghost use Rattle.lra_linear.specs.OperationStrain.{ForgetStrains};
-ghost use Rattle.lra_linear.specs.OperationStrain.{ImageStrains, PreimageStrains, unit_row};
-ghost use Rattle.lra_linear.specs.Points.{IsWithin};
-ghost use Rattle.lra_linear.specs.Polyhedra.{IsPolyhedronOf};
-ghost use Rattle.lra_linear.specs.SetOperations.{Forget, Image, Meet, Preimage};
-ghost use Rattle.lra_linear.specs.Vectors.{entry};
-ghost use Rattle.lra_linear.specs.Strain as strain;
+ghost use Rattle.lra_linear_spec.specs.Descriptions.{Con, Gen, Holds, line};
+ghost use Rattle.lra_linear_spec.specs.OperationStrain.{ForgetStrains};
+ghost use Rattle.lra_linear_spec.specs.OperationStrain.{ImageStrains, PreimageStrains, unit_row};
+ghost use Rattle.lra_linear_spec.specs.Points.{IsWithin};
+ghost use Rattle.lra_linear_spec.specs.Polyhedra.{IsPolyhedronOf};
+ghost use Rattle.lra_linear_spec.specs.SetOperations.{Forget, Image, Meet, Preimage};
+ghost use Rattle.lra_linear_spec.specs.Vectors.{entry};
+ghost use Rattle.lra_linear_spec.specs.Strain as strain;
 ghost use Rattle.lra_images.specs.Forgetting.{IsForgotten};
 ghost use Rattle.lra_images.specs.FormedPreimages.{IsOfFormed};
 ghost use Rattle.lra_lists.specs.Moving.{StaysBackFor, StaysFor};

@@ -5,7 +5,7 @@ use Rattle.std.specs.Prelude.{slice_get}
 use Rattle.std.specs.List.{Contains}
 use Rattle.std.proofs.lemmas.Bool.{cases_eq}
 use Rattle.std.proofs.lemmas.Bool.Decides.{nat_tests}
-use Rattle.lra_linear.proofs.Membership.{contains_none, contains_head, contains_tail, contains_cases}
+use Rattle.lra_linear_spec.proofs.Membership.{contains_none, contains_head, contains_tail, contains_cases}
 use Rattle.lra_program.specs.Program.{Expr, Cond, Program}
 use Rattle.lra_operations.specs.declared.asides.Aside.TheVariants.{Entering, Noting}
 use Rattle.lra_operations.specs.Graph.{Exit, broken, continued, returned, Node, empty, aside, point, act, check, seq, choose, iterate, catch, leave}

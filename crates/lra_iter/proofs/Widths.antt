@@ -3,7 +3,7 @@ use Rattle.std.proofs.Common.{◌≡◌, ◌↔◌, ◌<◌, ℕ, zero, suc, ◌
 use Rattle.std.proofs.Common.{subst}
 use Rattle.std.specs.Prelude.{slice_get}
 use Rattle.std.specs.List.{AllByRecursion, Contains}
-use Rattle.lra_linear.proofs.Membership.{contains_none, contains_cases}
+use Rattle.lra_linear_spec.proofs.Membership.{contains_none, contains_cases}
 use Rattle.lra_domain.specs.declared.Exactness.{Exactness}
 use Rattle.lra_domain.specs.Meaning.{Meaning}
 use Rattle.lra_others.specs.Others.{Others}

@@ -3,7 +3,7 @@ ghost use Rattle.std.specs.Prelude.{MatchOption, if◌then◌else◌};
 ghost use Rattle.std.specs.Int.{w64};
 ghost use Rattle.std.specs.List.{All};
 ghost use Rattle.std.specs.Option.{SomeIff};
-ghost use Rattle.lra_linear.specs.Range.{InRange};
+ghost use Rattle.lra_linear_spec.specs.Range.{InRange};
 ghost use Rattle.lra_lin.specs.Form.{AddsInRange, FormFits, form_row, form_value, opposite_form, SummingPasses};
 
 use lra_row::{Row, add, mul};

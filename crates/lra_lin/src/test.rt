@@ -3,7 +3,7 @@ ghost use Rattle.std.specs.Option.{SomeIff};
 ghost use Rattle.lra_lin.specs.Form.{FormFits, HoldsAt, opposite_form};
 
 use crate::form::LinExpr;
-use lra_linear::ConKind;
+use lra_linear_spec::ConKind;
 use std::alloc::{AllocError, Global};
 
 /// The test `expr >= 0` or `expr = 0`.

@@ -3,12 +3,12 @@ use Rattle.std.proofs.Common.{◌≡◌, ◌+◌, ◌++◌, ◌∷◌, [], ℕ, 
 use Rattle.std.proofs.Common.{refl, ap, sym, ◌∙◌, subst, add-one}
 use Rattle.std.specs.Prelude.{if◌then◌else◌, slice_get, codes, MatchOption}
 use Rattle.std.proofs.lemmas.Option.{same_Some, none-some}
-use Rattle.lra_linear.specs.declared.Excess.{Excess}
-use Rattle.lra_linear.specs.declared.ConKind.{ConKind}
-use Rattle.lra_linear.specs.Cones.{with_row}
-use Rattle.lra_linear.specs.Descriptions.{Given, system_of}
-use Rattle.lra_linear.specs.Kinds.{is_equality}
-use Rattle.lra_linear.specs.Vectors.{negated}
+use Rattle.lra_linear_spec.specs.declared.Excess.{Excess}
+use Rattle.lra_linear_spec.specs.declared.ConKind.{ConKind}
+use Rattle.lra_linear_spec.specs.Cones.{with_row}
+use Rattle.lra_linear_spec.specs.Descriptions.{LinearRow, system_of}
+use Rattle.lra_linear_spec.specs.Kinds.{is_equality}
+use Rattle.lra_linear_spec.specs.Vectors.{negated}
 use Rattle.lra_sys.specs.Listed.{Listed, constraints, given_by}
 use Rattle.lra_multipliers.specs.Symbols.{Walked, walk_of, width_of}
 use Rattle.lra_multipliers.specs.Multipliers.{Multipliers, Answer}
@@ -57,15 +57,15 @@ given_from : {K : Type 0} (equal : K → Bool) (rows : List (List ℤ)) (kinds :
 given_from equal [] kinds i r k er ek = absurd (none-some r er)
 given_from equal (x ∷ rows) [] i r k er ek = absurd (none-some k ek)
 given_from {K = K} equal (x ∷ rows) (y ∷ kinds) zero r k er ek =
-    ap (λ (z : List ℤ). (let g : Given = record { row = z; equal = equal y } in g) ∷ given_by equal rows kinds) (same_Some x r er) ∙
-    ap (λ (z : K). (let g : Given = record { row = r; equal = equal z } in g) ∷ given_by equal rows kinds) (same_Some y k ek)
+    ap (λ (z : List ℤ). (let g : LinearRow = record { row = z; equal = equal y } in g) ∷ given_by equal rows kinds) (same_Some x r er) ∙
+    ap (λ (z : K). (let g : LinearRow = record { row = r; equal = equal z } in g) ∷ given_by equal rows kinds) (same_Some y k ek)
 given_from equal (x ∷ rows) (y ∷ kinds) (suc i) r k er ek = given_from equal rows kinds i r k er ek
 
 pub constraint_from : (rows : Listed ConKind) (i : ℕ) (r : List ℤ) (k : ConKind) → slice_get rows.rows i ≡ Some r → slice_get rows.kinds i ≡ Some k →
     drop i (constraints rows) ≡ record { row = r; equal = is_equality k } ∷ drop (i + 1) (constraints rows)
 constraint_from rows i r k er ek =
     given_from is_equality rows.rows rows.kinds i r k er ek ∙
-    ap (λ (j : ℕ). (let g : Given = record { row = r; equal = is_equality k } in g) ∷ drop j (constraints rows)) (sym (add-one i))
+    ap (λ (j : ℕ). (let g : LinearRow = record { row = r; equal = is_equality k } in g) ∷ drop j (constraints rows)) (sym (add-one i))
 
 -- ---- a line
 abbrev pub claim_along : Along → Option (List ℤ) → Walked → Result (List ℤ) Excess
@@ -84,7 +84,7 @@ walk_is a (Some g) claim m l h =
     ap (λ (n : ℕ). by_answer l.number (behind_line l) (answered (constraints g.premises) (claimed claim n g.forms.items) m)) h.width ∙
     ap (λ (fs : List (List ℤ)). by_answer l.number (behind_line l) (answered (constraints g.premises) (claimed claim (width_of a.live a.path.actions) fs) m))
     h.forms ∙
-    ap (λ (gs : List Given). by_answer l.number (behind_line l) (answered gs (claim_along a claim h.walk) m)) h.premises ∙
+    ap (λ (gs : List LinearRow). by_answer l.number (behind_line l) (answered gs (claim_along a claim h.walk) m)) h.premises ∙
     sym (claim_is a h.walk (claim_along a claim h.walk) m l) ∙
     ap (λ (r : Result Walked Excess). judged_walk a r (claim_along a claim) m l) (sym h.walks)
 
@@ -106,11 +106,11 @@ module _ (a : Along) (t : Track) (is : IsTrack a.live a.rows a.path.actions t) w
       then_same (judged_line a (codes "by") (claim_along a (Some row)) l) (λ m. in_turn (claim_by t) rows m) (λ m. judged_claims a rows m)
       (λ m. claims_are rows m)
 
-  system_first : (equal : Bool) (row : List ℤ) (gs : List Given) → with_row equal row (system_of gs) ≡ with_row equal row [] ++ system_of gs
+  system_first : (equal : Bool) (row : List ℤ) (gs : List LinearRow) → with_row equal row (system_of gs) ≡ with_row equal row [] ++ system_of gs
   system_first true row gs = refl
   system_first false row gs = refl
 
-  rows_are : (gs : List Given) (l : Left) → in_turn (row_by t) gs l ≡ in_turn (claim_by t) (system_of gs) l
+  rows_are : (gs : List LinearRow) (l : Left) → in_turn (row_by t) gs l ≡ in_turn (claim_by t) (system_of gs) l
   rows_are [] l = refl
   rows_are (g ∷ gs) l =
       then_same (in_turn (claim_by t) (with_row g.equal g.row []) l) (λ m. in_turn (row_by t) gs m) (λ m. in_turn (claim_by t) (system_of gs) m)

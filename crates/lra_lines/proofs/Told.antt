@@ -1,9 +1,9 @@
 -- What the code tells of lines, passed on from one part to the whole.
 use Rattle.std.proofs.Common.{◌≡◌, ◌+◌, ◌++◌, ℕ, suc, true, false, List, [], ◌∷◌, length, refl, ap, sym, ◌∙◌, subst, append_assoc}
 use Rattle.std.proofs.Common.{append-nil, ℤ, Option, Some, None, Ok, Err}
-use Rattle.lra_linear.specs.Descriptions.{Given}
-use Rattle.lra_linear.specs.Kinds.{is_equality}
-use Rattle.lra_linear.specs.declared.ConKind.{ConKind}
+use Rattle.lra_linear_spec.specs.Descriptions.{LinearRow}
+use Rattle.lra_linear_spec.specs.Kinds.{is_equality}
+use Rattle.lra_linear_spec.specs.declared.ConKind.{ConKind}
 use Rattle.lra_sys.specs.Listed.{Listed, constraints}
 use Rattle.lra_sys.proofs.GivenRows.{constraints_pushed}
 use Rattle.lra_program.specs.Sites.{Site}
@@ -56,21 +56,22 @@ rows_step live bytes at line l h =
     ap (λ (x : Left). with_row (number_at bytes at) (row_in live line) (judged_rows live x.number x.pieces)) l.behind
 
 -- the rows so far, before those of what is left
-abbrev pub rows_after : List Given → Judged (List Given × Left) → Judged (List Given × Left)
+abbrev pub rows_after : List LinearRow → Judged (List LinearRow × Left) → Judged (List LinearRow × Left)
 rows_after gs (Ok r) = Ok (gs ++ r.0, r.1)
 rows_after gs (Err r) = Err r
 
-after_before : (gs : List Given) (g : Given) (rest : Judged (List Given × Left)) → rows_after gs (row_before g rest) ≡ rows_after (gs ++ g ∷ []) rest
-after_before gs g (Ok r) = ap (λ (x : List Given). Ok (x, r.1)) (sym (append_assoc gs (g ∷ []) r.0))
+after_before : (gs : List LinearRow) (g : LinearRow) (rest : Judged (List LinearRow × Left)) →
+    rows_after gs (row_before g rest) ≡ rows_after (gs ++ g ∷ []) rest
+after_before gs g (Ok r) = ap (λ (x : List LinearRow). Ok (x, r.1)) (sym (append_assoc gs (g ∷ []) r.0))
 after_before gs g (Err r) = refl
 
-module _ (live : ℕ) (bytes : List ℕ) (at : ℕ) (gs : List Given) (whole : Judged (List Given × Left))
+module _ (live : ℕ) (bytes : List ℕ) (at : ℕ) (gs : List LinearRow) (whole : Judged (List LinearRow × Left))
     (so_far : rows_after gs (judged_rows live (number_at bytes at) (pieces_at bytes at)) ≡ whole) where
-  pub rows_more : (line : List ℕ) (g : Given) → IsLineAt bytes at line → is_row_line (Some line) ≡ true → row_in live line ≡ Some g →
+  pub rows_more : (line : List ℕ) (g : LinearRow) → IsLineAt bytes at line → is_row_line (Some line) ≡ true → row_in live line ≡ Some g →
       rows_after (gs ++ g ∷ []) (judged_rows live (number_at bytes (at + length line + 1)) (pieces_at bytes (at + length line + 1))) ≡ whole
   rows_more line g l h e =
       sym (after_before gs g (judged_rows live (number_at bytes (at + length line + 1)) (pieces_at bytes (at + length line + 1)))) ∙
-      ap (λ (o : Option Given). rows_after gs (with_row (number_at bytes at) o (judged_rows live (number_at bytes (at + length line + 1)) (pieces_at bytes
+      ap (λ (o : Option LinearRow). rows_after gs (with_row (number_at bytes at) o (judged_rows live (number_at bytes (at + length line + 1)) (pieces_at bytes
       (at + length line + 1))))) (sym e) ∙
       ap (rows_after gs) (sym (rows_step live bytes at line l h)) ∙ so_far
 
@@ -78,22 +79,22 @@ module _ (live : ℕ) (bytes : List ℕ) (at : ℕ) (gs : List Given) (whole : J
       refuses (number_at bytes at) judged.bad_line
   rows_bad line l h e =
       sym so_far ∙ ap (rows_after gs) (rows_step live bytes at line l h) ∙
-      ap (λ (o : Option Given). rows_after gs (with_row (number_at bytes at) o (judged_rows live (number_at bytes (at + length line + 1)) (pieces_at bytes
+      ap (λ (o : Option LinearRow). rows_after gs (with_row (number_at bytes at) o (judged_rows live (number_at bytes (at + length line + 1)) (pieces_at bytes
       (at + length line + 1))))) e
 
   pub rows_done : is_row_line (line_on (pieces_at bytes at)) ≡ false → whole ≡ Ok (gs, left_at bytes at)
   rows_done h =
       sym so_far ∙ ap (rows_after gs) (rows_end live (number_at bytes at) (pieces_at bytes at) h) ∙
-      ap (λ (x : List Given). Ok (x, left_at bytes at)) (append-nil gs)
+      ap (λ (x : List LinearRow). Ok (x, left_at bytes at)) (append-nil gs)
 
 -- the same of lists with kinds
-pub rows_more_by : (live : ℕ) (bytes : List ℕ) (at : ℕ) (old new : Listed ConKind) (row : List ℤ) (kind : ConKind) (whole : Judged (List Given × Left)) →
+pub rows_more_by : (live : ℕ) (bytes : List ℕ) (at : ℕ) (old new : Listed ConKind) (row : List ℤ) (kind : ConKind) (whole : Judged (List LinearRow × Left)) →
     rows_after (constraints old) (judged_rows live (number_at bytes at) (pieces_at bytes at)) ≡ whole → length old.kinds ≡ length old.rows →
     new.rows ≡ old.rows ++ row ∷ [] → new.kinds ≡ old.kinds ++ kind ∷ [] →
     (line : List ℕ) → IsLineAt bytes at line → is_row_line (Some line) ≡ true → row_in live line ≡ Some (record { row = row; equal = is_equality kind }) →
     rows_after (constraints new) (judged_rows live (number_at bytes (at + length line + 1)) (pieces_at bytes (at + length line + 1))) ≡ whole
 rows_more_by live bytes at old new row kind whole so_far n r k line l h e =
-    ap (λ (gs : List Given). rows_after gs (judged_rows live (number_at bytes (at + length line + 1)) (pieces_at bytes (at + length line + 1))))
+    ap (λ (gs : List LinearRow). rows_after gs (judged_rows live (number_at bytes (at + length line + 1)) (pieces_at bytes (at + length line + 1))))
     (constraints_pushed old new row kind n r k) ∙
     rows_more live bytes at (constraints old) whole so_far line (record { row = row; equal = is_equality kind }) l h e
 

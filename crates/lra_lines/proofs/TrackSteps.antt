@@ -4,11 +4,11 @@ use Rattle.std.proofs.Common.{ap, sym, ◌∙◌, subst, arith, add-one, append_
 use Rattle.std.specs.Prelude.{slice_get}
 use Rattle.std.proofs.lemmas.List.{take_all, map-append, length-map, replicate_more}
 use Rattle.std.proofs.lemmas.Option.{same_Some, none-some}
-use Rattle.lra_linear.specs.declared.ConKind.{ConKind}
-use Rattle.lra_linear.specs.Descriptions.{Given}
-use Rattle.lra_linear.specs.Kinds.{is_equality}
-use Rattle.lra_linear.specs.Vectors.{zeros}
-use Rattle.lra_linear.proofs.UnitRows.{zeros_are, zeros_more}
+use Rattle.lra_linear_spec.specs.declared.ConKind.{ConKind}
+use Rattle.lra_linear_spec.specs.Descriptions.{LinearRow}
+use Rattle.lra_linear_spec.specs.Kinds.{is_equality}
+use Rattle.lra_linear_spec.specs.Vectors.{zeros}
+use Rattle.lra_linear_spec.proofs.UnitRows.{zeros_are, zeros_more}
 use Rattle.lra_sys.specs.Listed.{Listed, constraints, given_by}
 use Rattle.lra_sys.proofs.GivenRows.{constraints_pushed}
 use Rattle.lra_domain.specs.Actions.{Action}
@@ -45,10 +45,10 @@ given_at : {K : Type 0} (equal : K → Bool) (rows : List (List ℤ)) (kinds : L
 given_at equal [] kinds i r k er ek = absurd (none-some r er)
 given_at equal (x ∷ rows) [] i r k er ek = absurd (none-some k ek)
 given_at {K = K} equal (x ∷ rows) (y ∷ kinds) zero r k er ek =
-    ap (λ (z : List ℤ). (let g : Given = record { row = z; equal = equal y } in g) ∷ []) (same_Some x r er) ∙
-    ap (λ (z : K). (let g : Given = record { row = r; equal = equal z } in g) ∷ []) (same_Some y k ek)
+    ap (λ (z : List ℤ). (let g : LinearRow = record { row = z; equal = equal y } in g) ∷ []) (same_Some x r er) ∙
+    ap (λ (z : K). (let g : LinearRow = record { row = r; equal = equal z } in g) ∷ []) (same_Some y k ek)
 given_at equal (x ∷ rows) (y ∷ kinds) (suc i) r k er ek =
-    ap (λ (gs : List Given). (let g : Given = record { row = x; equal = equal y } in g) ∷ gs) (given_at equal rows kinds i r k er ek)
+    ap (λ (gs : List LinearRow). (let g : LinearRow = record { row = x; equal = equal y } in g) ∷ gs) (given_at equal rows kinds i r k er ek)
 
 given_few : {K : Type 0} (equal : K → Bool) (rows : List (List ℤ)) (kinds : List K) → length (given_by equal rows kinds) ≤ length rows
 given_few equal [] kinds = omega arith
@@ -72,20 +72,20 @@ module _ (rows old new : Listed ConKind) (i : ℕ) (r made : List ℤ) (kind : C
       constraints new ≡ map (padded width) (take (i + 1) (constraints rows))
   padded_pushed width is so_far =
       constraints_pushed old new made kind kinds pushed pushed_kind ∙
-      ap (λ (gs : List Given). gs ++ record { row = made; equal = is_equality kind } ∷ []) so_far ∙
-      ap (λ (z : List ℤ). map (padded width) (take i (constraints rows)) ++ (let g : Given = record { row = z; equal = is_equality kind } in g) ∷ []) is ∙
+      ap (λ (gs : List LinearRow). gs ++ record { row = made; equal = is_equality kind } ∷ []) so_far ∙
+      ap (λ (z : List ℤ). map (padded width) (take i (constraints rows)) ++ (let g : LinearRow = record { row = z; equal = is_equality kind } in g) ∷ []) is ∙
       sym (map-append (padded width) (take i (constraints rows)) (record { row = r; equal = is_equality kind } ∷ [])) ∙
       ap (map (padded width)) (sym next)
 
   -- as they are
-  pub row_pushed : (start : List Given) → made ≡ r → constraints old ≡ start ++ take i (constraints rows) → constraints new ≡
+  pub row_pushed : (start : List LinearRow) → made ≡ r → constraints old ≡ start ++ take i (constraints rows) → constraints new ≡
       start ++ take (i + 1) (constraints rows)
   row_pushed start is so_far =
       constraints_pushed old new made kind kinds pushed pushed_kind ∙
-      ap (λ (gs : List Given). gs ++ record { row = made; equal = is_equality kind } ∷ []) so_far ∙
-      ap (λ (z : List ℤ). (start ++ take i (constraints rows)) ++ (let g : Given = record { row = z; equal = is_equality kind } in g) ∷ []) is ∙
+      ap (λ (gs : List LinearRow). gs ++ record { row = made; equal = is_equality kind } ∷ []) so_far ∙
+      ap (λ (z : List ℤ). (start ++ take i (constraints rows)) ++ (let g : LinearRow = record { row = z; equal = is_equality kind } in g) ∷ []) is ∙
       append_assoc start (take i (constraints rows)) (record { row = r; equal = is_equality kind } ∷ []) ∙
-      ap (λ (gs : List Given). start ++ gs) (sym next)
+      ap (λ (gs : List LinearRow). start ++ gs) (sym next)
 
 -- ---- as many rows as tests
 pub given_many : (rows : List (List ℤ)) (kinds : List ConKind) → length kinds ≡ length rows → length (given_by is_equality rows kinds) ≡ length rows
@@ -101,18 +101,18 @@ walk_many live steps w e =
     omega (arith, many)
 
 -- the premises are as many as the lines have factors
-pub premises_counted : (live : ℕ) (steps : List Action) (w : Walked) (rows : List Given) (width : ℕ) (premises : Listed ConKind) (count : ℕ) →
+pub premises_counted : (live : ℕ) (steps : List Action) (w : Walked) (rows : List LinearRow) (width : ℕ) (premises : Listed ConKind) (count : ℕ) →
     walk_of live steps ≡ Ok w → constraints premises ≡ map (padded width) rows ++ w.tests → length premises.kinds ≡ length premises.rows →
     count ≡ length rows + tests_in steps → length premises.rows ≡ count
 premises_counted live steps w rows width premises count walks is kinds n =
-    let made = ap (λ (gs : List Given). length gs) is ∙ length-append (map (padded width) rows) w.tests in
+    let made = ap (λ (gs : List LinearRow). length gs) is ∙ length-append (map (padded width) rows) w.tests in
     let r = length-map rows (padded width) in
     let t = walk_many live steps w walks in
     let g = given_many premises.rows premises.kinds kinds in
     omega (arith, made, r, t, g, n)
 
 -- the grounds of a walk
-pub grounds_made : (n live : ℕ) (rows : List Given) (steps : List Action) (w : Walk) (g : Grounds) → n ≡ live → walk_of n steps ≡ Ok (walk_view w) →
+pub grounds_made : (n live : ℕ) (rows : List LinearRow) (steps : List Action) (w : Walk) (g : Grounds) → n ≡ live → walk_of n steps ≡ Ok (walk_view w) →
     HasWidth (width_of n steps) w → constraints g.premises ≡ map (padded (suc w.tests.dims)) rows ++ constraints w.tests → g.premises.dims ≡ w.tests.dims →
     g.forms.items ≡ w.forms.items → AreGroundsOf live rows steps g
 grounds_made n live rows steps w g e made wide premises dims forms = subst (λ (k : ℕ). AreGroundsOf k rows steps g) e (record {

@@ -4,9 +4,9 @@ use Rattle.std.proofs.Common.{ℤ, List, [], ◌∷◌, ◌++◌, length, take, 
 use Rattle.std.specs.List.{All}
 use Rattle.std.proofs.lemmas.List.{drop_all}
 use Rattle.std.proofs.lemmas.List.Elements.{All-cons}
-use Rattle.lra_linear.specs.declared.Excess.{Excess}
-use Rattle.lra_linear.specs.CheckedArithmetic.{and_then}
-use Rattle.lra_linear.specs.Kinds.{is_equality}
+use Rattle.lra_linear_spec.specs.declared.Excess.{Excess}
+use Rattle.lra_linear_spec.specs.CheckedArithmetic.{and_then}
+use Rattle.lra_linear_spec.specs.Kinds.{is_equality}
 use Rattle.lra_lin.specs.Form.{form_row}
 use Rattle.lra_domain.specs.Actions.{Action, assign, forget, test, embed, remove_last}
 use Rattle.lra_row.specs.Rows.{IsExcessOf}
@@ -14,8 +14,8 @@ use Rattle.lra_row.specs.declared.error.RowError.{RowError}
 use Rattle.lra_row.specs.declared.error.RowError.TheVariants as of_row
 use Rattle.lra_sys.specs.Listed.{Listed, constraints}
 use Rattle.lra_sys.proofs.GivenRows.{constraints_pushed}
-use Rattle.lra_linear.specs.declared.ConKind.{ConKind}
-use Rattle.lra_linear.specs.Descriptions.{Given}
+use Rattle.lra_linear_spec.specs.declared.ConKind.{ConKind}
+use Rattle.lra_linear_spec.specs.Descriptions.{LinearRow}
 use Rattle.lra_domain.specs.Changes.{action_of}
 use Rattle.lra_domain.specs.declared.changes.Change.{Change}
 use Rattle.lra_sides.specs.TableSides.{all_done}
@@ -70,8 +70,8 @@ pub test_made : (width : ℕ) (a : Action) (w : Walked) (old new : Listed ConKin
     length old.kinds ≡ length old.rows → new.rows ≡ old.rows ++ row ∷ [] → new.kinds ≡ old.kinds ++ kind ∷ [] →
     walked_by width a w ≡ Ok (record w { tests = constraints new })
 test_made width a w old new row kind made t n r k =
-    made ∙ ap (λ (ts : List Given). Ok (record w { tests = ts }))
-    (ap (λ (ts : List Given). ts ++ record { row = row; equal = is_equality kind } ∷ []) t ∙ sym (constraints_pushed old new row kind n r k))
+    made ∙ ap (λ (ts : List LinearRow). Ok (record w { tests = ts }))
+    (ap (λ (ts : List LinearRow). ts ++ record { row = row; equal = is_equality kind } ∷ []) t ∙ sym (constraints_pushed old new row kind n r k))
 
 -- ---- all rows have one width
 pub symbols_wide : (n first count : ℕ) → All (λ f. length f ≡ n) (symbols n first count)

@@ -6,13 +6,13 @@ use Rattle.std.specs.Prelude.{slice_set}
 use Rattle.std.specs.List.{All}
 use Rattle.std.proofs.lemmas.List.{drop_all}
 use Rattle.std.proofs.lemmas.List.Elements.{All-head, All-tail, All-cons}
-use Rattle.lra_linear.specs.declared.Excess.{Excess}
-use Rattle.lra_linear.specs.declared.Operation.TheVariants.{Product, Sum}
-use Rattle.lra_linear.specs.CheckedArithmetic.{checked_added_entry, checked_added, then_rest, and_then}
-use Rattle.lra_linear.specs.Range.{InRange, in_range}
-use Rattle.lra_linear.specs.Vectors.{entry, zeros}
-use Rattle.lra_linear.proofs.CheckedArithmetic.{in_range_yes}
-use Rattle.lra_linear.proofs.Ring.{ring, v, ◌⊕◌, ◌⊗◌}
+use Rattle.lra_linear_spec.specs.declared.Excess.{Excess}
+use Rattle.lra_linear_spec.specs.declared.Operation.TheVariants.{Product, Sum}
+use Rattle.lra_linear_spec.specs.CheckedArithmetic.{checked_added_entry, checked_added, then_rest, and_then}
+use Rattle.lra_linear_spec.specs.Range.{InRange, in_range}
+use Rattle.lra_linear_spec.specs.Vectors.{entry, zeros}
+use Rattle.lra_linear_spec.proofs.CheckedArithmetic.{in_range_yes}
+use Rattle.lra_linear_spec.proofs.Ring.{ring, v, ◌⊕◌, ◌⊗◌}
 use Rattle.lra_row.specs.Rows.{IsExcessOf}
 use Rattle.lra_row.specs.declared.error.RowError.{RowError}
 use Rattle.lra_row.specs.declared.error.RowError.TheVariants as of_row

@@ -3,11 +3,11 @@ use Rattle.std.specs.Prelude.{◌≡◌, ◌<◌, ◌+◌, ◌-◌, ◌++◌, �
 use Rattle.std.specs.Prelude.{length, Result, Ok, Err, Option, None, Some, option_map, MatchOption, IfSome}
 use Rattle.std.specs.Borrow.{Bor}
 use Rattle.std.specs.List.{All}
-use Rattle.lra_linear.specs.declared.Excess.{Excess}
-use Rattle.lra_linear.specs.declared.ConKind.{ConKind}
-use Rattle.lra_linear.specs.Cones.{with_row}
-use Rattle.lra_linear.specs.Descriptions.{Given}
-use Rattle.lra_linear.specs.Polyhedra.{falsity}
+use Rattle.lra_linear_spec.specs.declared.Excess.{Excess}
+use Rattle.lra_linear_spec.specs.declared.ConKind.{ConKind}
+use Rattle.lra_linear_spec.specs.Cones.{with_row}
+use Rattle.lra_linear_spec.specs.Descriptions.{LinearRow}
+use Rattle.lra_linear_spec.specs.Polyhedra.{falsity}
 use Rattle.lra_sys.specs.Listed.{Listed, constraints}
 use Rattle.lra_domain.specs.Actions.{Action}
 use Rattle.lra_multipliers.specs.Symbols.{Walked, composed, walk_of, width_of, tests_in}
@@ -37,19 +37,19 @@ claimed None width forms = Ok (falsity (width - 1))
 claimed (Some row) width forms = composed width row forms
 
 -- of a claim that may have passed
-abbrev pub answered : List Given → Result (List ℤ) Excess → Multipliers → Answer
+abbrev pub answered : List LinearRow → Result (List ℤ) Excess → Multipliers → Answer
 answered premises (Err e) m = wide
 answered premises (Ok row) m = checked premises row m
 
 -- the grounds of a path from a source with so many variables and these rows
-pub record AreGroundsOf (live : ℕ) (rows : List Given) (steps : List Action) (g : Grounds) : Type 0 where
+pub record AreGroundsOf (live : ℕ) (rows : List LinearRow) (steps : List Action) (g : Grounds) : Type 0 where
   pub walk : Walked
   pub walks : walk_of live steps ≡ Ok walk
   pub width : suc g.premises.dims ≡ width_of live steps
   pub premises : constraints g.premises ≡ map (padded (width_of live steps)) rows ++ walk.tests
   pub forms : g.forms.items ≡ walk.forms
 
-pub record IsTrack (live : ℕ) (rows : List Given) (steps : List Action) (t : Track) : Type 0 where
+pub record IsTrack (live : ℕ) (rows : List LinearRow) (steps : List Action) (t : Track) : Type 0 where
   pub count : t.count ≡ length rows + tests_in steps
   pub grounds : MatchOption t.grounds ((e : Excess) × (walk_of live steps ≡ Err e)) (AreGroundsOf live rows steps)
 
@@ -78,7 +78,7 @@ line_by t word claim l = then_judged (multipliers_on word t.count l) (shown_by t
 abbrev pub claim_by : Track → List ℤ → Left → Judged Left
 claim_by t row l = line_by t (codes "by") (Some row) l
 
-abbrev pub row_by : Track → Given → Left → Judged Left
+abbrev pub row_by : Track → LinearRow → Left → Judged Left
 row_by t g l = in_turn (claim_by t) (with_row g.equal g.row []) l
 
 abbrev pub target_by : Track → State → Left → Judged Left

@@ -3,7 +3,7 @@
 ghost use Rattle.std.specs.Prelude.{◌≡◌, MatchOption, IfOk, IfSome, length};
 ghost use Rattle.std.specs.List.{All, list_all};
 ghost use Rattle.std.specs.Char.{is_ascii_digit};
-ghost use Rattle.lra_linear.specs.Range.{InRange};
+ghost use Rattle.lra_linear_spec.specs.Range.{InRange};
 ghost use Rattle.lra_certificate.specs.Judged.{is_magnitude, is_spelled, number_in, words_of, spaced_numbers, so_many};
 ghost use Rattle.lra_certificate.specs.Judged.{numbers_behind};
 ghost use Rattle.lra_certificate.specs.NumberViews.{items_of, HasNoWord, IsWordOf};

@@ -2,8 +2,8 @@
 
 ghost use Rattle.std.specs.Prelude.{◌≡◌, ◌≤◌, ◌<◌, ◌+◌, ◌-◌, ◌++◌, ◌^◌, [], ◌∷◌, suc, map, length};
 ghost use Rattle.std.specs.Prelude.{IfOk, IfErr, IfSome, OnOk, codes, None};
-ghost use Rattle.lra_linear.specs.Kinds.{is_equality};
-ghost use Rattle.lra_linear.specs.Vectors.{zeros};
+ghost use Rattle.lra_linear_spec.specs.Kinds.{is_equality};
+ghost use Rattle.lra_linear_spec.specs.Vectors.{zeros};
 ghost use Rattle.lra_row.specs.Rows.{IsExcessOf};
 ghost use Rattle.lra_sys.specs.Listed.{constraints};
 ghost use Rattle.lra_domain.specs.Changes.{action_of};
@@ -23,7 +23,7 @@ use crate::refusals::VerifyError;
 use crate::shown::{Shown, take_answer, take_multipliers};
 use crate::walks::{Walk, compose};
 use lra_domain::Change;
-use lra_linear::ConKind;
+use lra_linear_spec::ConKind;
 use lra_multipliers::{Answer, Multipliers, check};
 use lra_row::{Row, RowError};
 use lra_sys::ConSys;

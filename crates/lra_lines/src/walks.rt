@@ -3,8 +3,8 @@
 ghost use Rattle.std.specs.Prelude.{◌++◌, ◌≡◌, ◌≤◌, ◌<◌, ◌+◌, ◌-◌, ◌^◌, length, take, slice_set, IfOk, IfErr, OnOk};
 ghost use Rattle.std.specs.Prelude.{[], ◌∷◌, suc, MatchOption};
 ghost use Rattle.std.specs.List.{All};
-ghost use Rattle.lra_linear.specs.CheckedArithmetic.{checked_added};
-ghost use Rattle.lra_linear.specs.Range.{InRange};
+ghost use Rattle.lra_linear_spec.specs.CheckedArithmetic.{checked_added};
+ghost use Rattle.lra_linear_spec.specs.Range.{InRange};
 ghost use Rattle.lra_row.specs.Rows.{IsExcessOf};
 ghost use Rattle.lra_domain.specs.Actions.{embed, forget};
 ghost use Rattle.lra_domain.specs.Changes.{action_of};

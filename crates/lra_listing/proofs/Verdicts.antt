@@ -6,7 +6,7 @@ use Rattle.std.proofs.lemmas.Bool.{lt-ltb}
 use Rattle.std.proofs.lemmas.List.{drop_all, drop_more, flat_map_more, get_or-map, map-append, map_more}
 use Rattle.std.proofs.lemmas.List.Elements.{Contains-get_or}
 use Rattle.std.proofs.lemmas.Option.{slice_get_read, slice_get_within, get_or_from_slice_get, same_Some, none-some}
-use Rattle.lra_linear.proofs.Membership.{contains_none, contains_head, contains_tail, contains_cases}
+use Rattle.lra_linear_spec.proofs.Membership.{contains_none, contains_head, contains_tail, contains_cases}
 use Rattle.lra_report.proofs.Fronts.{first_same, rest_same}
 use Rattle.lra_report.specs.Report.{Verdict}
 use Rattle.lra_base.specs.declared.refusals.Place.{Place}

@@ -5,17 +5,17 @@ use Rattle.std.specs.Prelude.{IfNone, OnOk, false, is_none}
 use Rattle.std.specs.List.{Contains}
 use Rattle.std.proofs.lemmas.List.{length-set, map-append, take_all}
 use Rattle.std.proofs.lemmas.List.Elements.{Contains-append_cases, Contains-append_left, Contains-append_right}
-use Rattle.lra_linear.specs.CheckedArithmetic.{checked_substitution}
-use Rattle.lra_linear.specs.declared.Excess as E
-use Rattle.lra_linear.specs.declared.ConKind.{ConKind}
-use Rattle.lra_linear.specs.declared.ConKind.TheVariants.{Ge}
-use Rattle.lra_linear.specs.Descriptions.{Given}
-use Rattle.lra_linear.specs.Kinds.{is_equality}
-use Rattle.lra_linear.specs.OperationStrain.{FormingPasses, substituted_rows}
-use Rattle.lra_linear.specs.Strain.{Loss}
-use Rattle.lra_linear.specs.Vectors.{cleared, entry, substituted}
-use Rattle.lra_linear.proofs.Membership.{contains_cases, contains_head, contains_none, map_has}
-use Rattle.lra_linear.proofs.Products.{blend_length}
+use Rattle.lra_linear_spec.specs.CheckedArithmetic.{checked_substitution}
+use Rattle.lra_linear_spec.specs.declared.Excess as E
+use Rattle.lra_linear_spec.specs.declared.ConKind.{ConKind}
+use Rattle.lra_linear_spec.specs.declared.ConKind.TheVariants.{Ge}
+use Rattle.lra_linear_spec.specs.Descriptions.{LinearRow}
+use Rattle.lra_linear_spec.specs.Kinds.{is_equality}
+use Rattle.lra_linear_spec.specs.OperationStrain.{FormingPasses, substituted_rows}
+use Rattle.lra_linear_spec.specs.Strain.{Loss}
+use Rattle.lra_linear_spec.specs.Vectors.{cleared, entry, substituted}
+use Rattle.lra_linear_spec.proofs.Membership.{contains_cases, contains_head, contains_none, map_has}
+use Rattle.lra_linear_spec.proofs.Products.{blend_length}
 use Rattle.lra_sys.specs.Listed.{Listed, constraints, given_by}
 use Rattle.lra_sys.proofs.FirstMembers.{front, given_more, given_split, member}
 use Rattle.lra_descriptions.proofs.SeveralKinds.{given_append}
@@ -34,7 +34,7 @@ one_pushed all more t u k n er ek et =
     ap (λ (l : List (List ℤ)). given_by is_equality l more.kinds) er
     ∙ ap (given_by is_equality (all.rows ++ t ∷ [])) ek
     ∙ given_append is_equality all.rows (t ∷ []) all.kinds (k ∷ []) n
-    ∙ ap (λ (y : List ℤ). constraints all ++ (let g : Given = record { row = y; equal = is_equality k } in g) ∷ []) et
+    ∙ ap (λ (y : List ℤ). constraints all ++ (let g : LinearRow = record { row = y; equal = is_equality k } in g) ∷ []) et
 
 pub substituted_whole : (k : ℕ) (form : List ℤ) (all more : Listed ConKind) (rows : List (List ℤ))
     (kinds : List ConKind)
@@ -47,7 +47,7 @@ substituted_whole k form all more rows kinds i r t o m er ek et n h is =
     if_none (constraints all ≡ substituted_rows k form (front is_equality rows kinds i))
     (constraints more ≡ substituted_rows k form (front is_equality rows kinds (i + 1))) o (λ e.
     one_pushed all more t (substituted k form r) (get_or kinds i Ge) m er ek et
-    ∙ ap (λ (l : List Given). l ++ substituted_given k form (member is_equality kinds i r Ge) ∷ []) e
+    ∙ ap (λ (l : List LinearRow). l ++ substituted_given k form (member is_equality kinds i r Ge) ∷ []) e
     ∙ sym (map-append (substituted_given k form) (front is_equality rows kinds i)
     (member is_equality kinds i r Ge ∷ []))
     ∙ ap (substituted_rows k form) (sym (given_more is_equality rows kinds i r Ge n h is))
@@ -58,13 +58,13 @@ pub substituted_among : (k : ℕ) (form : List ℤ) (all more : Listed ConKind) 
     (i : ℕ) (r t : List ℤ) → length all.rows ≡ length all.kinds → more.rows ≡ all.rows ++ t ∷ [] →
     more.kinds ≡ all.kinds ++ get_or kinds i Ge ∷ [] → t ≡ substituted k form r → length kinds ≡ length rows →
     i < length rows → r ≡ get_or rows i r →
-    ((g : Given) → Contains (constraints all) g → Contains
+    ((g : LinearRow) → Contains (constraints all) g → Contains
     (substituted_rows k form (given_by is_equality rows kinds)) g) →
-    (g : Given) → Contains (constraints more) g → Contains (substituted_rows k form (given_by is_equality rows kinds)) g
+    (g : LinearRow) → Contains (constraints more) g → Contains (substituted_rows k form (given_by is_equality rows kinds)) g
 substituted_among k form all more rows kinds i r t m er ek et n h is among g has =
-    let new : Given = substituted_given k form (member is_equality kinds i r Ge) in
+    let new : LinearRow = substituted_given k form (member is_equality kinds i r Ge) in
     elim (Contains-append_cases (constraints all) (new ∷ []) g
-    (subst (λ (l : List Given). Contains l g)
+    (subst (λ (l : List LinearRow). Contains l g)
     (one_pushed all more t (substituted k form r) (get_or kinds i Ge) m er ek et) has)) [
       | inl a ↦ among g a
       | inr b ↦ elim (contains_cases new g [] b) [
@@ -80,27 +80,27 @@ substituted_among k form all more rows kinds i r t m er ek et n h is among g has
         Contains (given_by is_equality rows kinds) (member is_equality kinds i r Ge)
     at_place rows kinds i r n h is =
         let later = given_by is_equality (drop (suc i) rows) (drop (suc i) kinds) in
-        subst (λ (l : List Given). Contains l (member is_equality kinds i r Ge))
+        subst (λ (l : List LinearRow). Contains l (member is_equality kinds i r Ge))
         (sym (given_split is_equality rows kinds i r Ge n h is))
         (Contains-append_right (front is_equality rows kinds i) (member is_equality kinds i r Ge ∷ later)
         (member is_equality kinds i r Ge) (contains_head (member is_equality kinds i r Ge) later))
 
 -- one row more, which is formed or left out
 formed_more : (k : ℕ) (form : List ℤ) (rows : List (List ℤ)) (kinds : List ConKind) (i : ℕ) (r : List ℤ)
-    (all more : List Given) → length kinds ≡ length rows → i < length rows → r ≡ get_or rows i r →
-    AllFormed k form (front is_equality rows kinds i) all → ((g : Given) → Contains all g → Contains more g) →
+    (all more : List LinearRow) → length kinds ≡ length rows → i < length rows → r ≡ get_or rows i r →
+    AllFormed k form (front is_equality rows kinds i) all → ((g : LinearRow) → Contains all g → Contains more g) →
     Contains more (substituted_given k form (member is_equality kinds i r Ge))
     ⊎ ((e : E.Excess) × (checked_substitution k form r ≡ Err e)) →
     AllFormed k form (front is_equality rows kinds (i + 1)) more
 formed_more k form rows kinds i r all more n low is h grows here g has =
-    let m : Given = member is_equality kinds i r Ge in
+    let m : LinearRow = member is_equality kinds i r Ge in
     let one : front is_equality rows kinds (i + 1) ≡ front is_equality rows kinds i ++ m ∷ [] =
     ap (front is_equality rows kinds) (add-one i) ∙ given_more is_equality rows kinds i r Ge n low is in
     elim (Contains-append_cases (front is_equality rows kinds i) (m ∷ []) g
-    (subst (λ (l : List Given). Contains l g) one has)) [
+    (subst (λ (l : List LinearRow). Contains l g) one has)) [
       | inl a ↦ elim (h g a) [ inl b ↦ inl (grows (substituted_given k form g) b) | inr e ↦ inr e ]
       | inr b ↦ elim (contains_cases m g [] b) [
-        | inl e ↦ subst (λ (x : Given). Contains more (substituted_given k form x)
+        | inl e ↦ subst (λ (x : LinearRow). Contains more (substituted_given k form x)
             ⊎ ((e : E.Excess) × (checked_substitution k form x.row ≡ Err e))) e here
         | inr none ↦ absurd (contains_none g none)
       ]
@@ -122,8 +122,8 @@ formed_pushed k form n rows kinds i all more o r t h ed er ek et m low is = reco
       let pushed = one_pushed all more t (substituted k form r) (get_or kinds i Ge) h.many er ek et in
       let new : Given = substituted_given k form (member is_equality kinds i r Ge) in
       formed_more k form rows kinds i r (constraints all) (constraints more) m low is h.formed
-      (λ g c. subst (λ (l : List Given). Contains l g) (sym pushed) (Contains-append_left (constraints all) (new ∷ []) g c))
-      (inl (subst (λ (l : List Given). Contains l new) (sym pushed)
+      (λ g c. subst (λ (l : List LinearRow). Contains l g) (sym pushed) (Contains-append_left (constraints all) (new ∷ []) g c))
+      (inl (subst (λ (l : List LinearRow). Contains l new) (sym pushed)
       (Contains-append_right (constraints all) (new ∷ []) new (contains_head new []))));
 }
 
@@ -198,7 +198,7 @@ all_substituted k form list all rows kinds i o er ek n h =
     (take_all i kinds (omega (arith, n, h))) ∙
     ap (substituted_rows k form) (listed_same list rows kinds er ek))
 
-pub none_formed : (k : ℕ) (form : List ℤ) (formed : List Given) → AllFormed k form [] formed
+pub none_formed : (k : ℕ) (form : List ℤ) (formed : List LinearRow) → AllFormed k form [] formed
 none_formed k form formed g has = absurd (contains_none g has)
 
 pub all_formed : (k : ℕ) (form : List ℤ) (list all : Listed ConKind) (rows : List (List ℤ)) (kinds : List ConKind)
@@ -207,4 +207,4 @@ pub all_formed : (k : ℕ) (form : List ℤ) (list all : Listed ConKind) (rows :
 all_formed k form list all rows kinds i er ek n h formed =
     let same = ap (λ (l : List (List ℤ)). given_by is_equality l (take i kinds)) (take_all i rows h) ∙
     ap (given_by is_equality rows) (take_all i kinds (omega (arith, n, h))) ∙ listed_same list rows kinds er ek in
-    subst (λ (l : List Given). AllFormed k form l (constraints all)) same formed
+    subst (λ (l : List LinearRow). AllFormed k form l (constraints all)) same formed

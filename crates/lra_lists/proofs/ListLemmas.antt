@@ -4,17 +4,17 @@ use Rattle.std.proofs.Common.{refl, sym, ◌∙◌, subst, ℤ, pos, ◌<ℤ◌,
 use Rattle.std.specs.List.{Contains}
 use Rattle.std.proofs.Math.Seq.{take-suc}
 use Rattle.std.proofs.lemmas.List.{map-append, take_all}
-use Rattle.lra_linear.specs.Descriptions.{Given, line}
-use Rattle.lra_linear.specs.OperationStrain.{unit_row}
-use Rattle.lra_linear.specs.Vectors.{cleared, entry, zeros}
-use Rattle.lra_linear.proofs.Lines.{entry_zeros}
-use Rattle.lra_linear.proofs.Membership.{contains_head, contains_tail}
-use Rattle.lra_linear.specs.Kinds.{is_line}
+use Rattle.lra_linear_spec.specs.Descriptions.{LinearRow, line}
+use Rattle.lra_linear_spec.specs.OperationStrain.{unit_row}
+use Rattle.lra_linear_spec.specs.Vectors.{cleared, entry, zeros}
+use Rattle.lra_linear_spec.proofs.Lines.{entry_zeros}
+use Rattle.lra_linear_spec.proofs.Membership.{contains_head, contains_tail}
+use Rattle.lra_linear_spec.specs.Kinds.{is_line}
 use Rattle.lra_sys.specs.Listed.{FitKinds, FitsKind, Listed, generators, given_by}
-use Rattle.lra_linear.specs.declared.GenKind.{GenKind}
-use Rattle.lra_linear.specs.declared.GenKind.TheVariants.{Line, Point, Ray}
+use Rattle.lra_linear_spec.specs.declared.GenKind.{GenKind}
+use Rattle.lra_linear_spec.specs.declared.GenKind.TheVariants.{Line, Point, Ray}
 use Rattle.lra_descriptions.proofs.SeveralKinds.{fit_append, given_append}
-use Rattle.lra_linear.proofs.UnitRows.{unit_other}
+use Rattle.lra_linear_spec.proofs.UnitRows.{unit_other}
 use Rattle.lra_lists.proofs.Sums.{mapped_by}
 
 -- ---- mapped row by row
@@ -22,8 +22,8 @@ mapped_given : (f : List ℤ → List ℤ) (rows : List (List ℤ)) (kinds : Lis
     given_by is_line (map f rows) kinds ≡ mapped_by f (given_by is_line rows kinds)
 mapped_given f [] kinds = refl
 mapped_given f (r ∷ rows) [] = refl
-mapped_given f (r ∷ rows) (k ∷ kinds) = ap (λ (l : List Given).
-    (let g : Given = record { row = f r; equal = is_line k } in g) ∷ l) (mapped_given f rows kinds)
+mapped_given f (r ∷ rows) (k ∷ kinds) = ap (λ (l : List LinearRow).
+    (let g : LinearRow = record { row = f r; equal = is_line k } in g) ∷ l) (mapped_given f rows kinds)
 
 kind_fits : (k : GenKind) (r t : List ℤ) → entry t 0 ≡ entry r 0 → FitsKind k r → FitsKind k t
 kind_fits Point r t e h = subst (λ (z : ℤ). pos 0 <ℤ z) (sym e) h
@@ -102,9 +102,9 @@ line_fits list all more row u ea mr mk er m fit level =
     (fit_append list.rows (row ∷ []) list.kinds (Line ∷ []) (sym m) fit
     (ap (λ (y : List ℤ). entry y 0) er ∙ level, tt)))
 
-pub line_seen : (all list given : List Given) (n m k : ℕ) → all ≡ list ++ line (unit_row m k) ∷ [] → list ≡ given →
+pub line_seen : (all list given : List LinearRow) (n m k : ℕ) → all ≡ list ++ line (unit_row m k) ∷ [] → list ≡ given →
     m ≡ n → all ≡ given ++ line (unit_row n k) ∷ []
-line_seen all list given n m k e el em = e ∙ ap (λ (l : List Given). l ++ line (unit_row m k) ∷ []) el ∙
+line_seen all list given n m k e el em = e ∙ ap (λ (l : List LinearRow). l ++ line (unit_row m k) ∷ []) el ∙
     ap (λ (j : ℕ). given ++ line (unit_row j k) ∷ []) em
 
 pub unit_seen : (n m x : ℕ) (row : List ℤ) → row ≡ unit_row m (x + 1) → m ≡ n → row ≡ unit_row n (suc x)

@@ -1,15 +1,15 @@
 -- What is told of a row of a list where a number passes as it is formed.
 use Rattle.std.proofs.Common.{◌≡◌, ℕ, zero, suc, ◌<◌, List, [], ◌∷◌, ◌++◌, length, map, drop, get_or, arith, ap, refl, sym}
 use Rattle.std.proofs.Common.{◌∙◌, subst, ℤ, Result, Err}
-use Rattle.lra_linear.specs.declared.Cause.TheVariants.{Excess}
-use Rattle.lra_linear.specs.declared.ConKind.{ConKind}
-use Rattle.lra_linear.specs.declared.ConKind.TheVariants.{Ge}
-use Rattle.lra_linear.specs.declared.Excess as E
-use Rattle.lra_linear.specs.declared.GenKind.{GenKind}
-use Rattle.lra_linear.specs.Descriptions.{Given}
-use Rattle.lra_linear.specs.Kinds.{is_equality}
-use Rattle.lra_linear.specs.OperationStrain.{FormingPasses}
-use Rattle.lra_linear.specs.Strain.{Loss}
+use Rattle.lra_linear_spec.specs.declared.Cause.TheVariants.{Excess}
+use Rattle.lra_linear_spec.specs.declared.ConKind.{ConKind}
+use Rattle.lra_linear_spec.specs.declared.ConKind.TheVariants.{Ge}
+use Rattle.lra_linear_spec.specs.declared.Excess as E
+use Rattle.lra_linear_spec.specs.declared.GenKind.{GenKind}
+use Rattle.lra_linear_spec.specs.Descriptions.{LinearRow}
+use Rattle.lra_linear_spec.specs.Kinds.{is_equality}
+use Rattle.lra_linear_spec.specs.OperationStrain.{FormingPasses}
+use Rattle.lra_linear_spec.specs.Strain.{Loss}
 use Rattle.lra_row.specs.Rows.{IsExcessOf}
 use Rattle.lra_row.specs.declared.error.RowError.{RowError}
 use Rattle.lra_row.specs.declared.error.RowError.TheVariants as of_row
@@ -33,11 +33,11 @@ pub loss_told : (list chosen : Listed ConKind) (rows : List (List ℤ)) (kinds :
 loss_told list chosen rows kinds place row e loss ec er ek n h is el =
     let here : row ≡ get_or list.rows place row = is ∙ ap (λ (l : List (List ℤ)). get_or l place row) er in
     let many : length list.kinds ≡ length list.rows = ap length (sym ek) ∙ n in
-    let later : List Given = given_by is_equality (drop (suc place) list.rows) (drop (suc place) list.kinds) in
+    let later : List LinearRow = given_by is_equality (drop (suc place) list.rows) (drop (suc place) list.kinds) in
     subst (IsLossAt (constraints list) list.rows place e) (sym el) (record {
       later = later;
       is = given_split is_equality list.rows list.kinds place row Ge many h here ∙
-          ap (λ (l : List Given). l ++ member is_equality list.kinds place row Ge ∷ later) (sym ec) ∙
+          ap (λ (l : List LinearRow). l ++ member is_equality list.kinds place row Ge ∷ later) (sym ec) ∙
           ap (λ (l : List ConKind). constraints chosen ++ member is_equality l place row Ge ∷ later) (sym ek);
       is_row = here ∙ default_other list.rows place row [] h;
       is_cause = refl;
@@ -49,7 +49,7 @@ pub excess_of : {A : Type 0} (q : Result A E.Excess) (error : RowError) (e : E.E
 excess_of q error e is h = subst (IsExcessOf q) is h
 
 -- a number passes in what is formed of the row at the place
-pub lost_at : {A : Type 0} (check : List ℤ → Result A E.Excess) (given told : List Given) (rows seen : List (List ℤ))
+pub lost_at : {A : Type 0} (check : List ℤ → Result A E.Excess) (given told : List LinearRow) (rows seen : List (List ℤ))
     (place : ℕ) (r : List ℤ) (e : E.Excess) (loss : Loss) → IsLossAt given rows place e loss → given ≡ told →
     rows ≡ seen → place < length seen → r ≡ get_or seen place r → check r ≡ Err e →
     FormingPasses (λ g. check g.row) told loss
@@ -72,5 +72,5 @@ pub dual_loss : (rows : Listed ConKind) (list : Listed GenKind) (place : ℕ) (e
     rows.rows ≡ list.rows → rows.kinds ≡ map dual_kind list.kinds →
     IsLossAt (constraints rows) rows.rows place e loss → IsLossAt (generators list) list.rows place e loss
 dual_loss rows list place e loss er ek h =
-    subst (λ (l : List Given). IsLossAt l list.rows place e loss) (dual_constraints rows list er ek)
+    subst (λ (l : List LinearRow). IsLossAt l list.rows place e loss) (dual_constraints rows list er ek)
     (subst (λ (l : List (List ℤ)). IsLossAt (constraints rows) l place e loss) er h)

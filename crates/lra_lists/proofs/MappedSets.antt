@@ -2,18 +2,18 @@
 use Rattle.std.proofs.Common.{◌≡◌, ℕ, suc, ◌<◌, List, length, map, ap, sym, ◌∙◌, subst, ℤ, pos, ◌*ℤ◌, ◌<ℤ◌, arith, inl, inr}
 use Rattle.std.specs.List.{Contains}
 use Rattle.std.proofs.lemmas.Int.{ints}
-use Rattle.lra_linear.specs.Cones.{Generated}
-use Rattle.lra_linear.specs.Descriptions.{Gen, Given, system_of}
-use Rattle.lra_linear.specs.Points.{IsPoint, PointSet, SamePoint}
-use Rattle.lra_linear.specs.Polyhedra.{IsPolyhedron, Polyhedron}
-use Rattle.lra_linear.specs.Vectors.{entry, negated, sum_of}
-use Rattle.lra_linear.proofs.Combinations.{generated_same}
-use Rattle.lra_linear.proofs.Descriptions.{gen_generated, generated_gen}
-use Rattle.lra_linear.proofs.LinearMaps.{sum_generated}
-use Rattle.lra_linear.proofs.Membership.{contains_none}
-use Rattle.lra_linear.proofs.Ring.{ring, v, ◌⊗◌}
-use Rattle.lra_linear.proofs.SetOperations.{has_vertex}
-use Rattle.lra_linear.proofs.Signs.{times_positive}
+use Rattle.lra_linear_spec.specs.Cones.{Generated}
+use Rattle.lra_linear_spec.specs.Descriptions.{Gen, LinearRow, system_of}
+use Rattle.lra_linear_spec.specs.Points.{IsPoint, PointSet, SamePoint}
+use Rattle.lra_linear_spec.specs.Polyhedra.{IsPolyhedron, Polyhedron}
+use Rattle.lra_linear_spec.specs.Vectors.{entry, negated, sum_of}
+use Rattle.lra_linear_spec.proofs.Combinations.{generated_same}
+use Rattle.lra_linear_spec.proofs.Descriptions.{gen_generated, generated_gen}
+use Rattle.lra_linear_spec.proofs.LinearMaps.{sum_generated}
+use Rattle.lra_linear_spec.proofs.Membership.{contains_none}
+use Rattle.lra_linear_spec.proofs.Ring.{ring, v, ◌⊗◌}
+use Rattle.lra_linear_spec.proofs.SetOperations.{has_vertex}
+use Rattle.lra_linear_spec.proofs.Signs.{times_positive}
 use Rattle.lra_lists.proofs.Sums.{IsLinear, generated_mapped, generated_same_point, mapped_by, row_of_sum, sum_mapped, system_mapped}
 
 -- the rows m r are those of a linear map f that keeps column 0
@@ -30,7 +30,7 @@ pub record MappedFrom (n : ℕ) (m : List ℤ → List ℤ) (P : PointSet) (x : 
   pub inside : P from
   pub same : SamePoint x (m from)
 
-pub mapped_in : (f : (ℕ → ℤ) → ℕ → ℤ) (m : List ℤ → List ℤ) (n : ℕ) (list : List Given) (x y : List ℤ) →
+pub mapped_in : (f : (ℕ → ℤ) → ℕ → ℤ) (m : List ℤ → List ℤ) (n : ℕ) (list : List LinearRow) (x y : List ℤ) →
     IsMapOf f m (suc n) → ((t : List ℤ) → Contains (system_of list) t → length t ≡ suc n) →
     pos 0 <ℤ entry x 0 → IsPoint n y → SamePoint x (m y) → Gen list y → Gen (mapped_by m list) x
 mapped_in f m n list x y h widths px py s g =
@@ -43,7 +43,7 @@ mapped_in f m n list x y h widths px py s g =
     (generated_mapped f h.linear m (system_of list) (entry y) (λ r k. h.entries r (widths r k))
     (gen_generated list (entry y) g)))))
 
-pub mapped_from : (f : (ℕ → ℤ) → ℕ → ℤ) (m : List ℤ → List ℤ) (n : ℕ) (list : List Given) (x : List ℤ) →
+pub mapped_from : (f : (ℕ → ℤ) → ℕ → ℤ) (m : List ℤ → List ℤ) (n : ℕ) (list : List LinearRow) (x : List ℤ) →
     IsMapOf f m (suc n) → ((t : List ℤ) → Contains (system_of list) t → length t ≡ suc n) →
     pos 0 <ℤ entry x 0 → Gen (mapped_by m list) x → MappedFrom n m (Gen list) x
 mapped_from f m n list x h widths px g =
@@ -76,5 +76,5 @@ mapped_from f m n list x h widths px g =
 -- the rows of a polyhedron's generators
 pub widths_of : (p : Polyhedron) → IsPolyhedron p → (t : List ℤ) → Contains (system_of p.generators) t →
     length t ≡ suc p.dims
-widths_of p (inl none) t k = absurd (contains_none t (subst (λ (l : List Given). Contains (system_of l) t) none.1 k))
+widths_of p (inl none) t k = absurd (contains_none t (subst (λ (l : List LinearRow). Contains (system_of l) t) none.1 k))
 widths_of p (inr h) t k = (has_vertex p h).widths t k

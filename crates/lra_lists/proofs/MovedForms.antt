@@ -4,18 +4,18 @@ use Rattle.std.proofs.Common.{◌≡◌, ℕ, List, [], ◌∷◌, ◌++◌, len
 use Rattle.std.specs.List.{Contains}
 use Rattle.std.proofs.lemmas.List.{map-append}
 use Rattle.std.proofs.lemmas.List.Elements.{Contains-append_cases, Contains-append_left}
-use Rattle.lra_linear.specs.Canonical.{IsCanonical}
-use Rattle.lra_linear.specs.Cones.{Generated, all_rows, both_ways}
-use Rattle.lra_linear.specs.Echelon.{IsEchelon, IsEchelonOf, Spanned, pivot}
-use Rattle.lra_linear.specs.Vectors.{entry, negated, signed_sum}
-use Rattle.lra_linear.proofs.CanonicalForms.{spanned_in_cone, spanned_negative}
-use Rattle.lra_linear.proofs.Combinations.{generated_divided, generated_plus, generated_row, generated_same, generated_times, generated_zero}
-use Rattle.lra_linear.proofs.Lines.{signed_from}
-use Rattle.lra_linear.proofs.Membership.{contains_cases, contains_head, contains_middle, contains_none, contains_split, contains_tail, map_from}
-use Rattle.lra_linear.proofs.Pivots.{pivot_is}
-use Rattle.lra_linear.proofs.Products.{entry_negated}
-use Rattle.lra_linear.proofs.Ring.{ring, v, ⊖, ◌⊕◌, ◌⊗◌}
-use Rattle.lra_linear.proofs.Spans.{spanned_row, spanned_same}
+use Rattle.lra_linear_spec.specs.Canonical.{IsCanonical}
+use Rattle.lra_linear_spec.specs.Cones.{Generated, all_rows, both_ways}
+use Rattle.lra_linear_spec.specs.Echelon.{IsEchelon, IsEchelonOf, Spanned, pivot}
+use Rattle.lra_linear_spec.specs.Vectors.{entry, negated, signed_sum}
+use Rattle.lra_linear_spec.proofs.CanonicalForms.{spanned_in_cone, spanned_negative}
+use Rattle.lra_linear_spec.proofs.Combinations.{generated_divided, generated_plus, generated_row, generated_same, generated_times, generated_zero}
+use Rattle.lra_linear_spec.proofs.Lines.{signed_from}
+use Rattle.lra_linear_spec.proofs.Membership.{contains_cases, contains_head, contains_middle, contains_none, contains_split, contains_tail, map_from}
+use Rattle.lra_linear_spec.proofs.Pivots.{pivot_is}
+use Rattle.lra_linear_spec.proofs.Products.{entry_negated}
+use Rattle.lra_linear_spec.proofs.Ring.{ring, v, ⊖, ◌⊕◌, ◌⊗◌}
+use Rattle.lra_linear_spec.proofs.Spans.{spanned_row, spanned_same}
 use Rattle.lra_canon.specs.Reduced.{IsAlong, IsReducedBy}
 use Rattle.lra_pair.specs.OwnLists.{AreReducedBy}
 use Rattle.lra_pair.proofs.TightRows.{reduced_from}

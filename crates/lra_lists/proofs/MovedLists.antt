@@ -3,9 +3,9 @@ use Rattle.std.proofs.Common.{◌≡◌, ℕ, suc, ◌<◌, ◌+◌, add-one, Bo
 use Rattle.std.specs.List.{All, Contains}
 use Rattle.std.proofs.lemmas.List.{map-append}
 use Rattle.std.proofs.lemmas.List.Elements.{All-contains}
-use Rattle.lra_linear.specs.Descriptions.{Given, lines_of, rays_of}
-use Rattle.lra_linear.proofs.Membership.{contains_cases, contains_head, contains_none, contains_tail, map_from}
-use Rattle.lra_linear.proofs.Polyhedra.{lines_of_append, rays_of_append}
+use Rattle.lra_linear_spec.specs.Descriptions.{LinearRow, lines_of, rays_of}
+use Rattle.lra_linear_spec.proofs.Membership.{contains_cases, contains_head, contains_none, contains_tail, map_from}
+use Rattle.lra_linear_spec.proofs.Polyhedra.{lines_of_append, rays_of_append}
 use Rattle.lra_sys.specs.Listed.{Listed, given_by}
 use Rattle.lra_canon.specs.Echelons.{HaveWidth}
 use Rattle.lra_pair.proofs.OwnRows.{all_width}
@@ -28,10 +28,10 @@ part_more {K = K} f equal rows kinds i lines rays lines' rays' r t k h n low is 
     record {
       lines_are = el ∙ ap (λ (l : List (List ℤ)). l ++ cond m.equal (t ∷ []) []) h.lines_are ∙ ap (λ (y : List ℤ). map f (lines_of fr) ++ cond m.equal (y ∷ []) []) et ∙
           ap (λ (l : List (List ℤ)). map f (lines_of fr) ++ l) (lines_one m.equal r) ∙
-          sym (map-append f (lines_of fr) (cond m.equal (r ∷ []) [])) ∙ ap (map f) (sym (lines_of_append fr (m ∷ []))) ∙ ap (λ (l : List Given). map f (lines_of l)) (sym more);
+          sym (map-append f (lines_of fr) (cond m.equal (r ∷ []) [])) ∙ ap (map f) (sym (lines_of_append fr (m ∷ []))) ∙ ap (λ (l : List LinearRow). map f (lines_of l)) (sym more);
       rays_are = er ∙ ap (λ (l : List (List ℤ)). l ++ cond m.equal [] (t ∷ [])) h.rays_are ∙ ap (λ (y : List ℤ). map f (rays_of fr) ++ cond m.equal [] (y ∷ [])) et ∙
           ap (λ (l : List (List ℤ)). map f (rays_of fr) ++ l) (rays_one m.equal r) ∙
-          sym (map-append f (rays_of fr) (cond m.equal [] (r ∷ []))) ∙ ap (map f) (sym (rays_of_append fr (m ∷ []))) ∙ ap (λ (l : List Given). map f (rays_of l)) (sym more);
+          sym (map-append f (rays_of fr) (cond m.equal [] (r ∷ []))) ∙ ap (map f) (sym (rays_of_append fr (m ∷ []))) ∙ ap (λ (l : List LinearRow). map f (rays_of l)) (sym more);
     }
   where
     lines_one : (b : Bool) (r : List ℤ) → cond b (f r ∷ []) [] ≡ map f (cond b (r ∷ []) [])

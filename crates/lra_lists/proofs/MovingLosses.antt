@@ -2,13 +2,13 @@
 use Rattle.std.proofs.Common.{◌≡◌, ℕ, ◌<◌, List, ◌∷◌, length, map, drop, get_or, ap, sym, ◌∙◌, subst, ℤ, inl, inr, Bool, false, IsTrue, Result, Err, suc}
 use Rattle.std.specs.List.{Contains}
 use Rattle.std.proofs.lemmas.List.Elements.{Contains-append_right}
-use Rattle.lra_linear.specs.declared.Excess as E
-use Rattle.lra_linear.specs.CheckedArithmetic.{checked_product, checked_substitution}
-use Rattle.lra_linear.specs.Descriptions.{Given, lines_of, rays_of}
-use Rattle.lra_linear.specs.Echelon.{IsEchelonOf}
-use Rattle.lra_linear.specs.SetOperations.{assigned}
-use Rattle.lra_linear.specs.Vectors.{substituted}
-use Rattle.lra_linear.proofs.Membership.{contains_head}
+use Rattle.lra_linear_spec.specs.declared.Excess as E
+use Rattle.lra_linear_spec.specs.CheckedArithmetic.{checked_product, checked_substitution}
+use Rattle.lra_linear_spec.specs.Descriptions.{LinearRow, lines_of, rays_of}
+use Rattle.lra_linear_spec.specs.Echelon.{IsEchelonOf}
+use Rattle.lra_linear_spec.specs.SetOperations.{assigned}
+use Rattle.lra_linear_spec.specs.Vectors.{substituted}
+use Rattle.lra_linear_spec.proofs.Membership.{contains_head}
 use Rattle.lra_row.specs.Rows.{IsExcessOf}
 use Rattle.lra_row.specs.declared.error.RowError.{RowError}
 use Rattle.lra_row.specs.declared.error.RowError.TheVariants.{Excess, Memory}
@@ -29,15 +29,16 @@ on_excess P Q Memory f h = tt
 pub some_passes : {K : Type 0} {A : Type 0} (equal : K → Bool) (check : List ℤ →
     Result A E.Excess) (rows seen : List (List ℤ)) (kinds also : List K) (place : ℕ) (r : List ℤ) (k : K) (error : RowError) →
     seen ≡ rows → also ≡ kinds → length also ≡ length rows → place < length seen → r ≡ get_or seen place r → IsExcessOf (check r) error →
-    OnExcess (λ e. (g : Given) × Contains (given_by equal rows kinds) g × (check g.row ≡ Err e)) error
+    OnExcess (λ e. (g : LinearRow) × Contains (given_by equal rows kinds) g × (check g.row ≡ Err e)) error
 some_passes equal check rows seen kinds also place r k Memory er ek n low is x = tt
 some_passes {K = K} equal check rows seen kinds also place r k (Excess e) er ek n low is x =
     let here : r ≡ get_or rows place r = is ∙ ap (λ (l : List (List ℤ)). get_or l place r) er in
     let many : length kinds ≡ length rows = ap length (sym ek) ∙ n in
     let inside : place < length rows = subst (λ (l : List (List ℤ)). place < length l) er low in
-    let g : Given = member equal kinds place r k in
-    let later : List Given = given_by equal (drop (suc place) rows) (drop (suc place) kinds) in
-    let has : Contains (given_by equal rows kinds) g = subst (λ (l : List Given). Contains l g) (sym (given_split equal rows kinds place r k many inside here))
+    let g : LinearRow = member equal kinds place r k in
+    let later : List LinearRow = given_by equal (drop (suc place) rows) (drop (suc place) kinds) in
+    let has : Contains (given_by equal rows kinds) g =
+    subst (λ (l : List LinearRow). Contains l g) (sym (given_split equal rows kinds place r k many inside here))
     (Contains-append_right (front equal rows kinds place) (g ∷ later) g (contains_head g later)) in
     (g, has, x)
 
@@ -51,23 +52,23 @@ reduction_passes lines rays form (Excess e) is x = inr (form, is, x)
 reduction_passes lines rays form Memory is x = tt
 
 -- of all that is moved
-pub substitution_forms : (k : ℕ) (form : List ℤ) (rows : List Given) (error : RowError) →
-    OnExcess (λ e. (g : Given) × Contains rows g × (checked_substitution k form g.row ≡ Err e)) error → OnExcess (SubstitutionPasses k form rows) error
+pub substitution_forms : (k : ℕ) (form : List ℤ) (rows : List LinearRow) (error : RowError) →
+    OnExcess (λ e. (g : LinearRow) × Contains rows g × (checked_substitution k form g.row ≡ Err e)) error → OnExcess (SubstitutionPasses k form rows) error
 substitution_forms k form rows (Excess e) h = inl h
 substitution_forms k form rows Memory h = tt
 
-pub substitution_canonical : (k : ℕ) (form : List ℤ) (rows : List Given) (lines rays : List (List ℤ)) (error : RowError) → lines ≡ map (substituted k form) (lines_of rows) →
+pub substitution_canonical : (k : ℕ) (form : List ℤ) (rows : List LinearRow) (lines rays : List (List ℤ)) (error : RowError) → lines ≡ map (substituted k form) (lines_of rows) →
     rays ≡ map (substituted k form) (rays_of rows) → OnExcess (CanonicalPasses lines rays) error → OnExcess (SubstitutionPasses k form rows) error
 substitution_canonical k form rows lines rays Memory el er h = tt
 substitution_canonical k form rows lines rays (Excess e) el er h = inr (subst (λ (l : List (List ℤ)). CanonicalPasses l (map (substituted k form) (rays_of rows)) e) el
     (subst (λ (l : List (List ℤ)). CanonicalPasses lines l e) er h))
 
-pub assignment_forms : (k : ℕ) (form : List ℤ) (generators : List Given) (error : RowError) →
-    OnExcess (λ e. (g : Given) × Contains generators g × (checked_product form g.row ≡ Err e)) error → OnExcess (AssignmentPasses k form generators) error
+pub assignment_forms : (k : ℕ) (form : List ℤ) (generators : List LinearRow) (error : RowError) →
+    OnExcess (λ e. (g : LinearRow) × Contains generators g × (checked_product form g.row ≡ Err e)) error → OnExcess (AssignmentPasses k form generators) error
 assignment_forms k form generators (Excess e) h = inl h
 assignment_forms k form generators Memory h = tt
 
-pub assignment_canonical : (k : ℕ) (form : List ℤ) (generators : List Given) (lines rays : List (List ℤ)) (error : RowError) → lines ≡ map (assigned k form) (lines_of generators) →
+pub assignment_canonical : (k : ℕ) (form : List ℤ) (generators : List LinearRow) (lines rays : List (List ℤ)) (error : RowError) → lines ≡ map (assigned k form) (lines_of generators) →
     rays ≡ map (assigned k form) (rays_of generators) → OnExcess (CanonicalPasses lines rays) error → OnExcess (AssignmentPasses k form generators) error
 assignment_canonical k form generators lines rays Memory el er h = tt
 assignment_canonical k form generators lines rays (Excess e) el er h = inr (subst (λ (l : List (List ℤ)). CanonicalPasses l (map (assigned k form) (rays_of generators)) e) el

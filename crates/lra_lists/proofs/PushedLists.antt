@@ -4,14 +4,14 @@ use Rattle.std.proofs.Common.{length, map, take, get_or, ap, refl, sym, ◌∙�
 use Rattle.std.specs.Prelude.{slice_set}
 use Rattle.std.proofs.Math.Seq.{take-suc}
 use Rattle.std.proofs.lemmas.List.{length-append, map-append, take_all}
-use Rattle.lra_linear.specs.Descriptions.{Given, given_as, line}
-use Rattle.lra_linear.specs.OperationStrain.{as_directions, unit_row}
-use Rattle.lra_linear.specs.Vectors.{behind_zero, cleared, units, zeros}
-use Rattle.lra_linear.proofs.Lines.{zeros_length}
-use Rattle.lra_linear.specs.Kinds.{is_line}
+use Rattle.lra_linear_spec.specs.Descriptions.{LinearRow, rows_as, line}
+use Rattle.lra_linear_spec.specs.OperationStrain.{as_directions, unit_row}
+use Rattle.lra_linear_spec.specs.Vectors.{behind_zero, cleared, units, zeros}
+use Rattle.lra_linear_spec.proofs.Lines.{zeros_length}
+use Rattle.lra_linear_spec.specs.Kinds.{is_line}
 use Rattle.lra_sys.specs.Listed.{FitKinds, FitsKind, Listed, generators, given_by}
-use Rattle.lra_linear.specs.declared.GenKind.{GenKind}
-use Rattle.lra_linear.specs.declared.GenKind.TheVariants.{Line, Point}
+use Rattle.lra_linear_spec.specs.declared.GenKind.{GenKind}
+use Rattle.lra_linear_spec.specs.declared.GenKind.TheVariants.{Line, Point}
 use Rattle.lra_sys.proofs.FirstMembers.{front, given_more, member}
 use Rattle.lra_descriptions.proofs.SeveralKinds.{fit_append, given_append}
 
@@ -36,7 +36,7 @@ given_pushed all more r k n er ek =
     given_append is_line all.rows (r ∷ []) all.kinds (k ∷ []) n
 
 -- ---- directions
-pub direction_added : (base : List Given) (all more : Listed GenKind) (rows : List (List ℤ)) (kinds : List GenKind)
+pub direction_added : (base : List LinearRow) (all more : Listed GenKind) (rows : List (List ℤ)) (kinds : List GenKind)
     (i : ℕ) (r t : List ℤ) (k : GenKind) →
     generators all ≡ base ++ as_directions (front is_line rows kinds i) → length all.rows ≡ length all.kinds →
     more.rows ≡ all.rows ++ t ∷ [] → more.kinds ≡ all.kinds ++ k ∷ [] → t ≡ cleared 0 r →
@@ -44,16 +44,16 @@ pub direction_added : (base : List Given) (all more : Listed GenKind) (rows : Li
     generators more ≡ base ++ as_directions (front is_line rows kinds (i + 1))
 direction_added base all more rows kinds i r t k ea n er ek et el m h e =
     given_pushed all more t k n er ek
-    ∙ ap (λ (l : List Given). l ++ record { row = t; equal = is_line k } ∷ []) ea
+    ∙ ap (λ (l : List LinearRow). l ++ record { row = t; equal = is_line k } ∷ []) ea
     ∙ append_assoc base (as_directions (front is_line rows kinds i)) (record { row = t; equal = is_line k } ∷ [])
     ∙ ap (λ (x : List ℤ). base ++ (as_directions (front is_line rows kinds i) ++
-    (let g : Given = record { row = x; equal = is_line k } in g) ∷ [])) et
+    (let g : LinearRow = record { row = x; equal = is_line k } in g) ∷ [])) et
     ∙ ap (λ (b : Bool). base ++ (as_directions (front is_line rows kinds i) ++
-    (let g : Given = record { row = cleared 0 r; equal = b } in g) ∷ [])) el
-    ∙ ap (λ (l : List Given). base ++ l) (sym (map-append
-    (λ (g : Given). (let d : Given = record { row = cleared 0 g.row; equal = g.equal } in d))
+    (let g : LinearRow = record { row = cleared 0 r; equal = b } in g) ∷ [])) el
+    ∙ ap (λ (l : List LinearRow). base ++ l) (sym (map-append
+    (λ (g : LinearRow). (let d : LinearRow = record { row = cleared 0 g.row; equal = g.equal } in d))
     (front is_line rows kinds i) (member is_line kinds i r Point ∷ [])))
-    ∙ ap (λ (l : List Given). base ++ as_directions l) (sym (given_more is_line rows kinds i r Point m h e))
+    ∙ ap (λ (l : List LinearRow). base ++ as_directions l) (sym (given_more is_line rows kinds i r Point m h e))
     ∙ ap (λ (j : ℕ). base ++ as_directions (front is_line rows kinds j)) (sym (add-one i))
 
 -- ---- zeros behind a row
@@ -106,35 +106,35 @@ new_unit : (n k i m j : ℕ) → i < k → m ≡ n + k → j ≡ suc n + i → u
 new_unit n k i m j h em ej = set_behind (suc n) k i (suc m) j (pos 1) (omega (arith, em)) ej ∙
     ap (λ (l : List ℤ). zeros (suc n) ++ l) (sym (unit_at k i h))
 
-given_as_joined : (b : Bool) (xs ys : List (List ℤ)) → given_as b (xs ++ ys) ≡ given_as b xs ++ given_as b ys
+given_as_joined : (b : Bool) (xs ys : List (List ℤ)) → rows_as b (xs ++ ys) ≡ rows_as b xs ++ rows_as b ys
 given_as_joined b [] ys = refl
-given_as_joined b (x ∷ xs) ys = ap (λ (l : List Given). (let g : Given = record { row = x; equal = b } in g) ∷ l)
+given_as_joined b (x ∷ xs) ys = ap (λ (l : List LinearRow). (let g : LinearRow = record { row = x; equal = b } in g) ∷ l)
     (given_as_joined b xs ys)
 
-pub line_pushed : (base : List Given) (all more : Listed GenKind) (n k i m j : ℕ) (row : List ℤ) →
-    generators all ≡ base ++ given_as true (map (λ u. zeros (suc n) ++ u) (take i (units k))) →
+pub line_pushed : (base : List LinearRow) (all more : Listed GenKind) (n k i m j : ℕ) (row : List ℤ) →
+    generators all ≡ base ++ rows_as true (map (λ u. zeros (suc n) ++ u) (take i (units k))) →
     length all.rows ≡ length all.kinds → more.rows ≡ all.rows ++ row ∷ [] → more.kinds ≡ all.kinds ++ Line ∷ [] →
     row ≡ unit_row m j → m ≡ n + k → j ≡ suc n + i → i < k →
-    generators more ≡ base ++ given_as true (map (λ u. zeros (suc n) ++ u) (take (i + 1) (units k)))
+    generators more ≡ base ++ rows_as true (map (λ u. zeros (suc n) ++ u) (take (i + 1) (units k)))
 line_pushed base all more n k i m j row ea c er ek e em ej h =
     let f : List ℤ → List ℤ = λ u. zeros (suc n) ++ u in
     let count = units_count k in
     given_pushed all more row Line c er ek
-    ∙ ap (λ (l : List Given). l ++ line row ∷ []) ea
-    ∙ append_assoc base (given_as true (map f (take i (units k)))) (line row ∷ [])
-    ∙ ap (λ (x : List ℤ). base ++ (given_as true (map f (take i (units k))) ++ line x ∷ []))
+    ∙ ap (λ (l : List LinearRow). l ++ line row ∷ []) ea
+    ∙ append_assoc base (rows_as true (map f (take i (units k)))) (line row ∷ [])
+    ∙ ap (λ (x : List ℤ). base ++ (rows_as true (map f (take i (units k))) ++ line x ∷ []))
     (e ∙ new_unit n k i m j h em ej)
-    ∙ ap (λ (l : List Given). base ++ l) (sym (given_as_joined true (map f (take i (units k)))
+    ∙ ap (λ (l : List LinearRow). base ++ l) (sym (given_as_joined true (map f (take i (units k)))
     (f (get_or (units k) i []) ∷ [])))
-    ∙ ap (λ (l : List (List ℤ)). base ++ given_as true l)
+    ∙ ap (λ (l : List (List ℤ)). base ++ rows_as true l)
     (sym (map-append f (take i (units k)) (get_or (units k) i [] ∷ [])))
-    ∙ ap (λ (l : List (List ℤ)). base ++ given_as true (map f l))
+    ∙ ap (λ (l : List (List ℤ)). base ++ rows_as true (map f l))
     (sym (take-suc (units k) i [] (omega (arith, h, count))))
-    ∙ ap (λ (s : ℕ). base ++ given_as true (map f (take s (units k)))) (sym (add-one i))
+    ∙ ap (λ (s : ℕ). base ++ rows_as true (map f (take s (units k)))) (sym (add-one i))
 
-pub all_lines : (base : List Given) (all : Listed GenKind) (n k i : ℕ) →
-    generators all ≡ base ++ given_as true (map (λ u. zeros (suc n) ++ u) (take i (units k))) → k ≤ i →
-    generators all ≡ base ++ given_as true (map (λ u. zeros (suc n) ++ u) (units k))
+pub all_lines : (base : List LinearRow) (all : Listed GenKind) (n k i : ℕ) →
+    generators all ≡ base ++ rows_as true (map (λ u. zeros (suc n) ++ u) (take i (units k))) → k ≤ i →
+    generators all ≡ base ++ rows_as true (map (λ u. zeros (suc n) ++ u) (units k))
 all_lines base all n k i e h = let count = units_count k in e ∙
-    ap (λ (l : List (List ℤ)). base ++ given_as true (map (λ u. zeros (suc n) ++ u) l))
+    ap (λ (l : List (List ℤ)). base ++ rows_as true (map (λ u. zeros (suc n) ++ u) l))
     (take_all i (units k) (omega (arith, h, count)))

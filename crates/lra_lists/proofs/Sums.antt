@@ -2,16 +2,16 @@
 use Rattle.std.proofs.Common.{◌≡◌, ℕ, ◌<◌, Bool, true, false, List, [], ◌∷◌, ◌++◌, length, map, drop, ap, refl, sym, ◌∙◌, subst, ℤ, pos, neg_ℤ, ◌+ℤ◌, ◌*ℤ◌, ◌<ℤ◌, ◌≤ℤ◌, arith}
 use Rattle.std.specs.List.{Contains}
 use Rattle.std.proofs.lemmas.Int.{ints}
-use Rattle.lra_linear.specs.Cones.{Generated, with_row}
-use Rattle.lra_linear.specs.Descriptions.{Given, line, system_of}
-use Rattle.lra_linear.specs.Points.{SamePoint}
-use Rattle.lra_linear.specs.Vectors.{blend, entry, negated, sum_of, zeros}
-use Rattle.lra_linear.proofs.Combinations.{generated_divided, generated_plus, generated_same, generated_times, generated_zero}
-use Rattle.lra_linear.proofs.Membership.{contains_head, contains_tail}
-use Rattle.lra_linear.proofs.Products.{blend_length, entry_blend, entry_negated}
-use Rattle.lra_linear.proofs.Ring.{ring, v, ⊖, ◌⊕◌, ◌⊗◌}
-use Rattle.lra_linear.proofs.Signs.{as_nat, positive_nat}
-use Rattle.lra_linear.proofs.Lines.{entry_zeros, zeros_length}
+use Rattle.lra_linear_spec.specs.Cones.{Generated, with_row}
+use Rattle.lra_linear_spec.specs.Descriptions.{LinearRow, line, system_of}
+use Rattle.lra_linear_spec.specs.Points.{SamePoint}
+use Rattle.lra_linear_spec.specs.Vectors.{blend, entry, negated, sum_of, zeros}
+use Rattle.lra_linear_spec.proofs.Combinations.{generated_divided, generated_plus, generated_same, generated_times, generated_zero}
+use Rattle.lra_linear_spec.proofs.Membership.{contains_head, contains_tail}
+use Rattle.lra_linear_spec.proofs.Products.{blend_length, entry_blend, entry_negated}
+use Rattle.lra_linear_spec.proofs.Ring.{ring, v, ⊖, ◌⊕◌, ◌⊗◌}
+use Rattle.lra_linear_spec.proofs.Signs.{as_nat, positive_nat}
+use Rattle.lra_linear_spec.proofs.Lines.{entry_zeros, zeros_length}
 use Rattle.lra_canon.proofs.Solutions.{sum_none}
 use Rattle.lra_descriptions.proofs.SeveralKinds.{system_append}
 
@@ -66,7 +66,7 @@ pub record WithLine (rows : List (List ℤ)) (r : List ℤ) (u : ℕ → ℤ) : 
   pub free : ℤ
   pub is_sum : (j : ℕ) → pos multiple *ℤ u j ≡ sum_of factors rows j +ℤ (free *ℤ entry r j)
 
-pub with_line : (list : List Given) (r : List ℤ) (u : ℕ → ℤ) → Generated (system_of (list ++ line r ∷ [])) u →
+pub with_line : (list : List LinearRow) (r : List ℤ) (u : ℕ → ℤ) → Generated (system_of (list ++ line r ∷ [])) u →
     WithLine (system_of list) r u
 with_line list r u g =
     let p = parts (system_of list) (r ∷ negated r ∷ []) u
@@ -141,10 +141,10 @@ generated_linear f l rows target u h g = generated_divided target g.multiple (f 
     linear_times f l (pos g.multiple) u j) (linear_sum f l rows target h g.factors))
 
 -- ---- the system of mapped generators
-abbrev pub mapped_by : (List ℤ → List ℤ) → List Given → List Given
+abbrev pub mapped_by : (List ℤ → List ℤ) → List LinearRow → List LinearRow
 mapped_by m list = map (λ g. record { row = m g.row; equal = g.equal }) list
 
-pub system_mapped : (m : List ℤ → List ℤ) → ((r : List ℤ) → m (negated r) ≡ negated (m r)) → (list : List Given) →
+pub system_mapped : (m : List ℤ → List ℤ) → ((r : List ℤ) → m (negated r) ≡ negated (m r)) → (list : List LinearRow) →
     system_of (mapped_by m list) ≡ map m (system_of list)
 system_mapped m n [] = refl
 system_mapped m n (g ∷ list) = by_kind g.equal (system_mapped m n list)

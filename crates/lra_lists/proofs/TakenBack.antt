@@ -4,14 +4,14 @@ use Rattle.std.proofs.Common.{◌≡◌, ◌≢◌, ℕ, zero, suc, ◌<◌, Lis
 use Rattle.std.specs.Prelude.{slice_set}
 use Rattle.std.proofs.lemmas.List.{length-set}
 use Rattle.std.proofs.lemmas.Bool.{cases_eq}
-use Rattle.lra_linear.specs.Cones.{AreDual}
-use Rattle.lra_linear.specs.SetOperations.{assigned}
-use Rattle.lra_linear.specs.Vectors.{cleared, dot, entry, negated, product, substituted}
-use Rattle.lra_linear.proofs.Combinations.{generated_same}
-use Rattle.lra_linear.proofs.Membership.{map_from, map_has}
-use Rattle.lra_linear.proofs.Products.{blend_length, dot_same, entry_blend, entry_negated, entry_set_other, entry_set_same, negated_length, product_comm, row_same}
-use Rattle.lra_linear.proofs.Ring.{ring, v, ⊖, ◌⊕◌, ◌⊗◌}
-use Rattle.lra_linear.proofs.SetOperations.{substituted_product}
+use Rattle.lra_linear_spec.specs.Cones.{AreDual}
+use Rattle.lra_linear_spec.specs.SetOperations.{assigned}
+use Rattle.lra_linear_spec.specs.Vectors.{cleared, dot, entry, negated, product, substituted}
+use Rattle.lra_linear_spec.proofs.Combinations.{generated_same}
+use Rattle.lra_linear_spec.proofs.Membership.{map_from, map_has}
+use Rattle.lra_linear_spec.proofs.Products.{blend_length, dot_same, entry_blend, entry_negated, entry_set_other, entry_set_same, negated_length, product_comm, row_same}
+use Rattle.lra_linear_spec.proofs.Ring.{ring, v, ⊖, ◌⊕◌, ◌⊗◌}
+use Rattle.lra_linear_spec.proofs.SetOperations.{substituted_product}
 use Rattle.lra_lists.specs.Moving.{TakesBack}
 use Rattle.lra_lists.proofs.MovedForms.{IsReversible}
 use Rattle.lra_lists.proofs.Sums.{IsLinear, generated_mapped}

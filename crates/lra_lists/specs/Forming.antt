@@ -1,31 +1,32 @@
 -- Rows formed of the rows of a list by a form: which are formed, and what is told where a number passes in one.
 use Rattle.std.specs.Prelude.{◌≡◌, ◌⊎◌, ℕ, ℤ, List, [], ◌++◌, ◌∷◌, get_or, length, take, Option, IfNone, IfSome, Err}
 use Rattle.std.specs.List.{Contains}
-use Rattle.lra_linear.specs.declared.ConKind.{ConKind}
-use Rattle.lra_linear.specs.declared.Excess as E
-use Rattle.lra_linear.specs.declared.Cause.TheVariants.{Excess}
-use Rattle.lra_linear.specs.CheckedArithmetic.{checked_substitution}
-use Rattle.lra_linear.specs.Descriptions.{Given}
-use Rattle.lra_linear.specs.Kinds.{is_equality}
-use Rattle.lra_linear.specs.OperationStrain.{FormingPasses, substituted_rows}
-use Rattle.lra_linear.specs.Strain.{Loss}
-use Rattle.lra_linear.specs.Vectors.{substituted}
+use Rattle.lra_linear_spec.specs.declared.ConKind.{ConKind}
+use Rattle.lra_linear_spec.specs.declared.Excess as E
+use Rattle.lra_linear_spec.specs.declared.Cause.TheVariants.{Excess}
+use Rattle.lra_linear_spec.specs.CheckedArithmetic.{checked_substitution}
+use Rattle.lra_linear_spec.specs.Descriptions.{LinearRow}
+use Rattle.lra_linear_spec.specs.Kinds.{is_equality}
+use Rattle.lra_linear_spec.specs.OperationStrain.{FormingPasses, substituted_rows}
+use Rattle.lra_linear_spec.specs.Strain.{Loss}
+use Rattle.lra_linear_spec.specs.Vectors.{substituted}
 use Rattle.lra_sys.specs.Listed.{Listed, constraints, given_by}
 
 -- the loss of the row at the place of a list, with those before it taken, where this number passes
-pub record IsLossAt (given : List Given) (rows : List (List ℤ)) (place : ℕ) (e : E.Excess) (loss : Loss) : Type 0 where
-  pub later : List Given
-  pub is : given ≡ loss.chosen ++ loss.further ∷ later
-  pub is_row : loss.further.row ≡ get_or rows place []
-  pub is_cause : loss.cause ≡ Excess e
+pub record IsLossAt (given : List LinearRow) (rows : List (List ℤ)) (place : ℕ) (e : E.Excess) (loss : Loss) : Type 0
+  where
+    pub later : List LinearRow
+    pub is : given ≡ loss.chosen ++ loss.further ∷ later
+    pub is_row : loss.further.row ≡ get_or rows place []
+    pub is_cause : loss.cause ≡ Excess e
 
 -- the row with the form put in for column k
-abbrev pub substituted_given : ℕ → List ℤ → Given → Given
+abbrev pub substituted_given : ℕ → List ℤ → LinearRow → LinearRow
 substituted_given k form g = record { row = substituted k form g.row; equal = g.equal }
 
 -- each of the rows is formed, or a number passes in it
-abbrev pub AllFormed : ℕ → List ℤ → List Given → List Given → Type 0
-AllFormed k form rows formed = (g : Given) → Contains rows g →
+abbrev pub AllFormed : ℕ → List ℤ → List LinearRow → List LinearRow → Type 0
+AllFormed k form rows formed = (g : LinearRow) → Contains rows g →
     Contains formed (substituted_given k form g) ⊎ ((e : E.Excess) × (checked_substitution k form g.row ≡ Err e))
 
 -- the constraints that were formed of the rows before the place, with the form put in for column k, and what is told of
@@ -36,7 +37,7 @@ pub record AreFormed (k : ℕ) (form : List ℤ) (n : ℕ) (rows : List (List �
   pub many : length all.rows ≡ length all.kinds
   pub whole : IfNone lost
       (constraints all ≡ substituted_rows k form (given_by is_equality (take i rows) (take i kinds)))
-  pub among : (g : Given) → Contains (constraints all) g →
+  pub among : (g : LinearRow) → Contains (constraints all) g →
       Contains (substituted_rows k form (given_by is_equality rows kinds)) g
   pub is_lost : IfSome lost
       (FormingPasses (λ g. checked_substitution k form g.row) (given_by is_equality rows kinds))

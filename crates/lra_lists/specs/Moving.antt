@@ -1,17 +1,17 @@
 -- Assignments that can be taken back, and the canonical lists that are made of a polyhedron's by one.
 use Rattle.std.specs.Prelude.{◌≡◌, ◌≢◌, ◌⊎◌, ℕ, suc, ◌<◌, ℤ, pos, negsuc, neg_ℤ, ◌*ℤ◌, List, length, map, Err}
 use Rattle.std.specs.List.{Contains}
-use Rattle.lra_linear.specs.declared.Excess as E
-use Rattle.lra_linear.specs.CheckedArithmetic.{checked_product, checked_substitution}
-use Rattle.lra_linear.specs.Descriptions.{Con, Given, lines_of, rays_of}
-use Rattle.lra_linear.specs.Echelon.{IsEchelonOf}
-use Rattle.lra_linear.specs.Points.{IsEmptySet}
-use Rattle.lra_linear.specs.Polyhedra.{Polyhedron}
-use Rattle.lra_linear.specs.SetOperations.{assigned}
-use Rattle.lra_linear.specs.Vectors.{entry, substituted}
-use Rattle.lra_linear.specs.declared.ConKind.{ConKind}
+use Rattle.lra_linear_spec.specs.declared.Excess as E
+use Rattle.lra_linear_spec.specs.CheckedArithmetic.{checked_product, checked_substitution}
+use Rattle.lra_linear_spec.specs.Descriptions.{Con, LinearRow, lines_of, rays_of}
+use Rattle.lra_linear_spec.specs.Echelon.{IsEchelonOf}
+use Rattle.lra_linear_spec.specs.Points.{IsEmptySet}
+use Rattle.lra_linear_spec.specs.Polyhedra.{Polyhedron}
+use Rattle.lra_linear_spec.specs.SetOperations.{assigned}
+use Rattle.lra_linear_spec.specs.Vectors.{entry, substituted}
+use Rattle.lra_linear_spec.specs.declared.ConKind.{ConKind}
 use Rattle.lra_sys.specs.Listed.{Listed}
-use Rattle.lra_linear.specs.declared.GenKind.{GenKind}
+use Rattle.lra_linear_spec.specs.declared.GenKind.{GenKind}
 use Rattle.lra_row.specs.declared.error.RowError.{RowError}
 use Rattle.lra_row.specs.declared.error.RowError.TheVariants.{Excess, Memory}
 use Rattle.lra_canon.specs.Echelons.{HaveWidth, IsEchelonExcess}
@@ -30,7 +30,7 @@ pub record TakesBack (k w : ℕ) (f g : List ℤ) : Type 0 where
 
 -- The constraints with the form put in for column k, as a canonical list: the equalities in echelon form, the
 -- inequalities reduced by it, in order.
-pub record IsSubstitutedList (n k : ℕ) (form : List ℤ) (given : List Given) (list : Listed ConKind) : Type 0 where
+pub record IsSubstitutedList (n k : ℕ) (form : List ℤ) (given : List LinearRow) (list : Listed ConKind) : Type 0 where
   pub lines : List (List ℤ)
   pub rays : List (List ℤ)
   pub is_form : IsEchelonOf lines (map (substituted k form) (lines_of given))
@@ -41,7 +41,7 @@ pub record IsSubstitutedList (n k : ℕ) (form : List ℤ) (given : List Given) 
 
 -- The generators with the form's value in column k, as a canonical list: the lines in echelon form, the points and rays
 -- reduced by it, in order.
-pub record IsAssignedList (n k : ℕ) (form : List ℤ) (given : List Given) (list : Listed GenKind) : Type 0 where
+pub record IsAssignedList (n k : ℕ) (form : List ℤ) (given : List LinearRow) (list : Listed GenKind) : Type 0 where
   pub lines : List (List ℤ)
   pub rays : List (List ℤ)
   pub is_form : IsEchelonOf lines (map (assigned k form) (lines_of given))
@@ -62,15 +62,15 @@ CanonicalPasses lines rays e = IsEchelonExcess lines (Excess e)
     ⊎ ((form : List (List ℤ)) × IsEchelonOf form lines × AnyReductionExcess form rays (Excess e))
 
 -- as the form is put in for column k of a constraint, or these constraints come into canonical form
-abbrev pub SubstitutionPasses : ℕ → List ℤ → List Given → E.Excess → Type 0
+abbrev pub SubstitutionPasses : ℕ → List ℤ → List LinearRow → E.Excess → Type 0
 SubstitutionPasses k form rows e =
-    ((g : Given) × Contains rows g × (checked_substitution k form g.row ≡ Err e))
+    ((g : LinearRow) × Contains rows g × (checked_substitution k form g.row ≡ Err e))
     ⊎ CanonicalPasses (map (substituted k form) (lines_of rows)) (map (substituted k form) (rays_of rows)) e
 
 -- as the form's value is put into column k of a generator, or these generators come into canonical form
-abbrev pub AssignmentPasses : ℕ → List ℤ → List Given → E.Excess → Type 0
+abbrev pub AssignmentPasses : ℕ → List ℤ → List LinearRow → E.Excess → Type 0
 AssignmentPasses k form generators e =
-    ((g : Given) × Contains generators g × (checked_product form g.row ≡ Err e))
+    ((g : LinearRow) × Contains generators g × (checked_product form g.row ≡ Err e))
     ⊎ CanonicalPasses (map (assigned k form) (lines_of generators)) (map (assigned k form) (rays_of generators)) e
 
 -- a number passes as both lists of P are moved by the form, which the other one takes back

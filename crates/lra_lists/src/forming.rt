@@ -2,11 +2,11 @@
 
 ghost use Rattle.std.specs.Prelude.{◌≡◌, ◌<◌, ◌+◌, suc, take, length, IfOk, IfErr, IfNone, IfSome, OnOk};
 ghost use Rattle.std.specs.List.{Contains};
-ghost use Rattle.lra_linear.specs.CheckedArithmetic.{checked_product, checked_substitution};
-ghost use Rattle.lra_linear.specs.Descriptions.{Given};
-ghost use Rattle.lra_linear.specs.Kinds.{is_equality};
-ghost use Rattle.lra_linear.specs.OperationStrain.{FormingPasses, mapped, substituted_rows};
-ghost use Rattle.lra_linear.specs.SetOperations.{assigned};
+ghost use Rattle.lra_linear_spec.specs.CheckedArithmetic.{checked_product, checked_substitution};
+ghost use Rattle.lra_linear_spec.specs.Descriptions.{LinearRow};
+ghost use Rattle.lra_linear_spec.specs.Kinds.{is_equality};
+ghost use Rattle.lra_linear_spec.specs.OperationStrain.{FormingPasses, mapped, substituted_rows};
+ghost use Rattle.lra_linear_spec.specs.SetOperations.{assigned};
 ghost use Rattle.lra_row.specs.Rows.{IsExcessOf};
 ghost use Rattle.lra_sys.specs.Dimensions.{too_many_dimensions};
 ghost use Rattle.lra_sys.specs.Listed.{constraints, generators, given_by, FitKinds};
@@ -14,7 +14,7 @@ ghost use Rattle.lra_lists.specs.Forming.{AllFormed, AreFormed, IsLossAt};
 
 use lra_cone::Loss;
 use lra_descriptions::dual_rows;
-use lra_linear::{Cause, Excess};
+use lra_linear_spec::{Cause, Excess};
 use lra_row::{Row, RowError};
 use lra_sys::{ConSys, GenSys, TOO_MANY_DIMENSIONS};
 use std::alloc::{AllocError, Global};
@@ -165,7 +165,7 @@ pub fn substitute_list(
     ensures dims { IfOk result (λ formed. formed.list.dims ≡ list.now.dims) }
     ensures all { IfOk result (λ formed. IfNone formed.lost
         (constraints formed.list ≡ substituted_rows (suc x) form.now (constraints list.now))) }
-    ensures among { IfOk result (λ formed. (g : Given) → Contains (constraints formed.list) g →
+    ensures among { IfOk result (λ formed. (g : LinearRow) → Contains (constraints formed.list) g →
         Contains (substituted_rows (suc x) form.now (constraints list.now)) g) }
     ensures formed { IfOk result (λ formed.
         AllFormed (suc x) form.now (constraints list.now) (constraints formed.list)) }

@@ -2,11 +2,11 @@
 
 ghost use Rattle.std.specs.Prelude.{◌≡◌, ◌++◌, ◌∷◌, [], ◌<◌, ◌≤◌, ◌+◌, suc, take, length, map, List, ℤ, pos, true};
 ghost use Rattle.std.specs.Prelude.{IfOk};
-ghost use Rattle.lra_linear.specs.Descriptions.{given_as, line};
-ghost use Rattle.lra_linear.specs.OperationStrain.{as_directions, shortened, unit_row};
-ghost use Rattle.lra_linear.specs.Vectors.{cleared, entry, units, zeros};
+ghost use Rattle.lra_linear_spec.specs.Descriptions.{rows_as, line};
+ghost use Rattle.lra_linear_spec.specs.OperationStrain.{as_directions, shortened, unit_row};
+ghost use Rattle.lra_linear_spec.specs.Vectors.{cleared, entry, units, zeros};
 ghost use Rattle.lra_sys.specs.Dimensions.{too_many_dimensions};
-ghost use Rattle.lra_linear.specs.Kinds.{is_line};
+ghost use Rattle.lra_linear_spec.specs.Kinds.{is_line};
 ghost use Rattle.lra_sys.specs.Listed.{generators, FitKinds, FitsKind};
 
 use lra_row::Row;
@@ -182,7 +182,7 @@ fn with_new_lines(alloc: Global, list: GenSys, n: usize, k: usize) -> Result<Gen
     requires kinds { FitKinds list.rows list.kinds }
     ensures dims { IfOk result (λ all. all.dims ≡ n + k) }
     ensures generators { IfOk result (λ all. generators all ≡
-        generators list ++ given_as true (map (λ u. zeros (suc n) ++ u) (units k))) }
+        generators list ++ rows_as true (map (λ u. zeros (suc n) ++ u) (units k))) }
     ensures kinds { IfOk result (λ all. FitKinds all.rows all.kinds) }
 {
     let mut all = list;
@@ -200,7 +200,7 @@ pub fn embed_list(alloc: Global, list: &GenSys, k: usize) -> Result<GenSys, Allo
     ensures dims { IfOk result (λ all. all.dims ≡ list.now.dims + k) }
     ensures generators { IfOk result (λ all. generators all ≡
         map (λ g. record { row = g.row ++ zeros k; equal = g.equal }) (generators list.now)
-        ++ given_as true (map (λ u. zeros (suc list.now.dims) ++ u) (units k))) }
+        ++ rows_as true (map (λ u. zeros (suc list.now.dims) ++ u) (units k))) }
     ensures kinds { IfOk result (λ all. FitKinds all.rows all.kinds) }
 {
     let longer = lengthen_list(alloc, list, k)?;

@@ -4,11 +4,11 @@ ghost use Rattle.std.specs.Prelude.{◌≡◌, ◌↔◌, ◌<◌, ◌++◌, ◌
 ghost use Rattle.std.specs.Prelude.{slice_set, Err, IfErr, IfOk, IfSome, IfNone, OnOk};
 ghost use Rattle.lra_canon.specs.Echelons.{HaveWidth};
 ghost use Rattle.std.specs.List.{Contains};
-ghost use Rattle.lra_linear.specs.CheckedArithmetic.{checked_product, checked_substitution};
-ghost use Rattle.lra_linear.specs.Descriptions.{Given, lines_of, rays_of};
-ghost use Rattle.lra_linear.specs.Echelon.{IsEchelonOf};
-ghost use Rattle.lra_linear.specs.SetOperations.{assigned};
-ghost use Rattle.lra_linear.specs.Vectors.{entry, negated, substituted};
+ghost use Rattle.lra_linear_spec.specs.CheckedArithmetic.{checked_product, checked_substitution};
+ghost use Rattle.lra_linear_spec.specs.Descriptions.{LinearRow, lines_of, rays_of};
+ghost use Rattle.lra_linear_spec.specs.Echelon.{IsEchelonOf};
+ghost use Rattle.lra_linear_spec.specs.SetOperations.{assigned};
+ghost use Rattle.lra_linear_spec.specs.Vectors.{entry, negated, substituted};
 ghost use Rattle.lra_lists.specs.Moving.{TakesBack, IsSubstitutedList, IsAssignedList};
 ghost use Rattle.lra_lists.specs.Moving.{AssignmentPasses, CanonicalPasses, HasUnit, OnExcess, SubstitutionPasses};
 ghost use Rattle.lra_pair.specs.OwnLists.{AreReducedBy};
@@ -92,7 +92,8 @@ fn substitute_parts(
         map (substituted column form.now) (lines_of (constraints list.now))) }
     ensures rays { IfOk result (λ parts. parts.rays.items ≡
         map (substituted column form.now) (rays_of (constraints list.now))) }
-    ensures excess { IfErr result (OnExcess (λ e. (g : Given) × Contains (constraints list.now) g ×
+    ensures excess { IfErr result
+        (OnExcess (λ e. (g : LinearRow) × Contains (constraints list.now) g ×
         (checked_substitution column form.now g.row ≡ Err e))) }
 {
     let mut parts = Own {
@@ -115,7 +116,8 @@ fn assign_parts(alloc: Global, list: &GenSys, column: usize, form: &Row) -> Resu
         map (assigned column form.now) (lines_of (generators list.now))) }
     ensures rays { IfOk result (λ parts. parts.rays.items ≡
         map (assigned column form.now) (rays_of (generators list.now))) }
-    ensures excess { IfErr result (OnExcess (λ e. (g : Given) × Contains (generators list.now) g ×
+    ensures excess { IfErr result
+        (OnExcess (λ e. (g : LinearRow) × Contains (generators list.now) g ×
         (checked_product form.now g.row ≡ Err e))) }
 {
     let mut parts = Own {

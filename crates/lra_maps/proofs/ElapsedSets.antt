@@ -3,26 +3,26 @@ use Rattle.std.proofs.Common.{◌≡◌, ℕ, zero, suc, ◌<◌, List, [], ◌�
 use Rattle.std.proofs.Common.{pos, ◌+ℤ◌, ◌*ℤ◌, ◌<ℤ◌, ◌≤ℤ◌, arith, inl, inr, ◌⊎◌}
 use Rattle.std.specs.List.{Contains}
 use Rattle.std.proofs.lemmas.List.Elements.{Contains-append_cases}
-use Rattle.lra_linear.specs.Cones.{Generated}
-use Rattle.lra_linear.specs.Descriptions.{Con, Gen, Given, system_of}
-use Rattle.lra_linear.specs.OperationStrain.{FromGeneratorsStrains, TimeElapseStrains, as_directions}
-use Rattle.lra_linear.specs.Points.{IsEmptySet, IsPoint, IsWithin}
-use Rattle.lra_linear.specs.Polyhedra.{HasPoint, IsPolyhedron, IsPolyhedronOf, Polyhedron, falsity}
-use Rattle.lra_linear.specs.SetOperations.{OnTheWay, TimeElapse}
-use Rattle.lra_linear.specs.Strain.{Loss}
-use Rattle.lra_linear.specs.Vectors.{blend, cleared, entry, negated, product}
-use Rattle.lra_linear.proofs.Combinations.{generated_divided, generated_plus, generated_row, generated_same}
-use Rattle.lra_linear.proofs.Combinations.{generated_times}
-use Rattle.lra_linear.proofs.Descriptions.{gen_generated, generated_gen}
-use Rattle.lra_linear.proofs.LinearMaps.{generated_left, generated_nonneg, generated_right}
-use Rattle.lra_linear.proofs.OneSpelling.{falsity_never, far}
-use Rattle.lra_linear.proofs.Polyhedra.{con_gen}
-use Rattle.lra_linear.proofs.Products.{blend_length, dot_linear, dot_same, entry_blend, product_none}
-use Rattle.lra_linear.proofs.Ring.{ring, v, ◌⊕◌, ◌⊗◌}
-use Rattle.lra_linear.proofs.SetOperations.{has_vertex}
-use Rattle.lra_linear.proofs.Signs.{as_nat, divide_nonnegative, positive_is_nonnegative, positive_nat, times_positive}
-use Rattle.lra_linear.proofs.Lines.{zeros_length}
-use Rattle.lra_linear.proofs.Membership.{map_from}
+use Rattle.lra_linear_spec.specs.Cones.{Generated}
+use Rattle.lra_linear_spec.specs.Descriptions.{Con, Gen, LinearRow, system_of}
+use Rattle.lra_linear_spec.specs.OperationStrain.{FromGeneratorsStrains, TimeElapseStrains, as_directions}
+use Rattle.lra_linear_spec.specs.Points.{IsEmptySet, IsPoint, IsWithin}
+use Rattle.lra_linear_spec.specs.Polyhedra.{HasPoint, IsPolyhedron, IsPolyhedronOf, Polyhedron, falsity}
+use Rattle.lra_linear_spec.specs.SetOperations.{OnTheWay, TimeElapse}
+use Rattle.lra_linear_spec.specs.Strain.{Loss}
+use Rattle.lra_linear_spec.specs.Vectors.{blend, cleared, entry, negated, product}
+use Rattle.lra_linear_spec.proofs.Combinations.{generated_divided, generated_plus, generated_row, generated_same}
+use Rattle.lra_linear_spec.proofs.Combinations.{generated_times}
+use Rattle.lra_linear_spec.proofs.Descriptions.{gen_generated, generated_gen}
+use Rattle.lra_linear_spec.proofs.LinearMaps.{generated_left, generated_nonneg, generated_right}
+use Rattle.lra_linear_spec.proofs.OneSpelling.{falsity_never, far}
+use Rattle.lra_linear_spec.proofs.Polyhedra.{con_gen}
+use Rattle.lra_linear_spec.proofs.Products.{blend_length, dot_linear, dot_same, entry_blend, product_none}
+use Rattle.lra_linear_spec.proofs.Ring.{ring, v, ◌⊕◌, ◌⊗◌}
+use Rattle.lra_linear_spec.proofs.SetOperations.{has_vertex}
+use Rattle.lra_linear_spec.proofs.Signs.{as_nat, divide_nonnegative, positive_is_nonnegative, positive_nat, times_positive}
+use Rattle.lra_linear_spec.proofs.Lines.{zeros_length}
+use Rattle.lra_linear_spec.proofs.Membership.{map_from}
 use Rattle.lra_descriptions.proofs.SeveralKinds.{system_append}
 use Rattle.lra_poly.specs.Outcomes.{Becomes, IfExact, IfFlagged, IsOfGenerators}
 use Rattle.lra_poly.specs.declared.outcome.Outcome.{Outcome}
@@ -275,13 +275,13 @@ gen_in_elapse p q h k e x i g c width valid =
     ]
 
 -- ---- the operation
-elapse_within : (p q r : Polyhedron) (list : List Given) → IsPolyhedron p → IsPolyhedron q → IsPolyhedron r →
+elapse_within : (p q r : Polyhedron) (list : List LinearRow) → IsPolyhedron p → IsPolyhedron q → IsPolyhedron r →
     q.dims ≡ p.dims → r.dims ≡ p.dims →
     list ≡ p.generators ++ as_directions q.generators → IsWithin p.dims (Gen list) (Con r.rows) →
     IsWithin p.dims (TimeElapse p.dims (Con p.rows) (Con q.rows)) (Con r.rows)
 elapse_within p q r list h k m e er el within = hull_holds p.dims (OnTheWay p.dims (Con p.rows) (Con q.rows)) r.rows
     (λ c i. rows_width r m c i ∙ ap suc er)
-    (λ x i u. within x i (subst (λ (l : List Given). Gen l x) (sym el) (way_in_gen p q h k e x i u)))
+    (λ x i u. within x i (subst (λ (l : List LinearRow). Gen l x) (sym el) (way_in_gen p q h k e x i u)))
 
 elapse_made : (p q r : Polyhedron) → HasPoint p → HasPoint q → q.dims ≡ p.dims →
     IsPolyhedronOf p.dims (Gen (p.generators ++ as_directions q.generators)) r →
@@ -296,21 +296,21 @@ elapse_made p q r h k e a = record {
   );
 }
 
-elapse_exact : (p q r : Polyhedron) (list : List Given) (o : Outcome) → HasPoint p → HasPoint q → q.dims ≡ p.dims →
+elapse_exact : (p q r : Polyhedron) (list : List LinearRow) (o : Outcome) → HasPoint p → HasPoint q → q.dims ≡ p.dims →
     list ≡ p.generators ++ as_directions q.generators →
     IfExact (IsPolyhedronOf p.dims (Gen list) r) o → IfExact
     (IsPolyhedronOf p.dims (TimeElapse p.dims (Con p.rows) (Con q.rows)) r) o
 elapse_exact p q r list o h k e el = if_exact (IsPolyhedronOf p.dims (Gen list) r)
     (IsPolyhedronOf p.dims (TimeElapse p.dims (Con p.rows) (Con q.rows)) r) o
-    (λ a. elapse_made p q r h k e (subst (λ (l : List Given). IsPolyhedronOf p.dims (Gen l) r) el a))
+    (λ a. elapse_made p q r h k e (subst (λ (l : List LinearRow). IsPolyhedronOf p.dims (Gen l) r) el a))
 
 -- where the directions are taken in from the lists at hand
-pub elapse_extended : (p q r : Polyhedron) (along second : List Given) → HasPoint p → HasPoint q → q.dims ≡ p.dims →
+pub elapse_extended : (p q r : Polyhedron) (along second : List LinearRow) → HasPoint p → HasPoint q → q.dims ≡ p.dims →
     along ≡ as_directions second → second ≡ q.generators → IsPolyhedronOf p.dims (Gen (p.generators ++ along)) r →
     IsPolyhedronOf p.dims (TimeElapse p.dims (Con p.rows) (Con q.rows)) r
 elapse_extended p q r along second h k e ea es is =
     elapse_made p q r h k e
-    (subst (λ (l : List Given). IsPolyhedronOf p.dims (Gen (p.generators ++ l)) r) (ea ∙ ap as_directions es) is)
+    (subst (λ (l : List LinearRow). IsPolyhedronOf p.dims (Gen (p.generators ++ l)) r) (ea ∙ ap as_directions es) is)
 
 taken_strain : (p q : Polyhedron) (loss : Loss) → HasPoint p → HasPoint q → q.dims ≡ p.dims →
     FromGeneratorsStrains p.dims (p.generators ++ as_directions q.generators) loss → TimeElapseStrains p q loss
@@ -321,13 +321,13 @@ taken_strain p q loss h k e (inr b) = inr (record {
   strains = b.strains;
 })
 
-elapse_strain : (p q : Polyhedron) (list : List Given) (o : Outcome) → HasPoint p → HasPoint q → q.dims ≡ p.dims →
+elapse_strain : (p q : Polyhedron) (list : List LinearRow) (o : Outcome) → HasPoint p → HasPoint q → q.dims ≡ p.dims →
     list ≡ p.generators ++ as_directions q.generators →
     IfFlagged (FromGeneratorsStrains p.dims list) o → IfFlagged (TimeElapseStrains p q) o
 elapse_strain p q list o h k e el = if_flagged (FromGeneratorsStrains p.dims list) (TimeElapseStrains p q) o
-    (λ loss s. taken_strain p q loss h k e (subst (λ (l : List Given). FromGeneratorsStrains p.dims l loss) el s))
+    (λ loss s. taken_strain p q loss h k e (subst (λ (l : List LinearRow). FromGeneratorsStrains p.dims l loss) el s))
 
-pub elapse_becomes : (p q r : Polyhedron) (list : List Given) (o : Outcome) → HasPoint p → HasPoint q → q.dims ≡ p.dims →
+pub elapse_becomes : (p q r : Polyhedron) (list : List LinearRow) (o : Outcome) → HasPoint p → HasPoint q → q.dims ≡ p.dims →
     list ≡ p.generators ++ as_directions q.generators → IsOfGenerators p.dims list r o →
     Becomes p.dims (TimeElapse p.dims (Con p.rows) (Con q.rows)) (TimeElapseStrains p q) r o
 elapse_becomes p q r list o h k e el b = record {
@@ -355,10 +355,10 @@ elapse_nothing n p q r none canonical dims empty = record {
     never w = elim none [ inl a ↦ a w.start w.starts w.in_first | inr b ↦ b w.step w.steps w.in_second ]
 
 -- ---- as the code tells it
-pub list_is : (p q : Polyhedron) (first second all : List Given) → all ≡ first ++ as_directions second →
+pub list_is : (p q : Polyhedron) (first second all : List LinearRow) → all ≡ first ++ as_directions second →
     first ≡ p.generators → second ≡ q.generators → all ≡ p.generators ++ as_directions q.generators
-list_is p q first second all e ef es = e ∙ ap (λ (l : List Given). l ++ as_directions second) ef ∙
-    ap (λ (l : List Given). p.generators ++ as_directions l) es
+list_is p q first second all e ef es = e ∙ ap (λ (l : List LinearRow). l ++ as_directions second) ef ∙
+    ap (λ (l : List LinearRow). p.generators ++ as_directions l) es
 
 pub elapse_copied : (p q r : Polyhedron) → r ≡ q → q.dims ≡ p.dims → IsPolyhedron q → IsEmptySet q.dims (Con q.rows) →
     IsPolyhedronOf p.dims (TimeElapse p.dims (Con p.rows) (Con q.rows)) r

@@ -4,22 +4,22 @@ use Rattle.std.proofs.Common.{sym, ◌∙◌, subst, ℤ, pos, neg_ℤ, ◌+ℤ�
 use Rattle.std.specs.List.{Contains}
 use Rattle.std.proofs.lemmas.List.{length-drop, length-take-le, take_all}
 use Rattle.std.proofs.lemmas.List.Elements.{Contains-append_cases}
-use Rattle.lra_linear.specs.Cones.{Generated, both_ways}
-use Rattle.lra_linear.specs.Descriptions.{Con, Gen, Given, given_as, system_of}
-use Rattle.lra_linear.specs.OperationStrain.{embedded}
-use Rattle.lra_linear.specs.Points.{IsPoint, SameSet}
-use Rattle.lra_linear.specs.Polyhedra.{IsPolyhedron, Polyhedron}
-use Rattle.lra_linear.specs.SetOperations.{Embed}
-use Rattle.lra_linear.specs.Vectors.{entry, negated, units, zeros}
-use Rattle.lra_linear.proofs.Combinations.{generated_plus, generated_row, generated_same, generated_zero}
-use Rattle.lra_linear.proofs.Descriptions.{gen_generated, generated_gen}
-use Rattle.lra_linear.proofs.LinearMaps.{generated_left, generated_right}
-use Rattle.lra_linear.proofs.Lines.{generated_described, whole_described}
-use Rattle.lra_linear.proofs.Membership.{map_from}
-use Rattle.lra_linear.proofs.Polyhedra.{con_gen}
-use Rattle.lra_linear.proofs.Ring.{ring, v, ◌⊕◌, ◌⊗◌}
+use Rattle.lra_linear_spec.specs.Cones.{Generated, both_ways}
+use Rattle.lra_linear_spec.specs.Descriptions.{Con, Gen, LinearRow, rows_as, system_of}
+use Rattle.lra_linear_spec.specs.OperationStrain.{embedded}
+use Rattle.lra_linear_spec.specs.Points.{IsPoint, SameSet}
+use Rattle.lra_linear_spec.specs.Polyhedra.{IsPolyhedron, Polyhedron}
+use Rattle.lra_linear_spec.specs.SetOperations.{Embed}
+use Rattle.lra_linear_spec.specs.Vectors.{entry, negated, units, zeros}
+use Rattle.lra_linear_spec.proofs.Combinations.{generated_plus, generated_row, generated_same, generated_zero}
+use Rattle.lra_linear_spec.proofs.Descriptions.{gen_generated, generated_gen}
+use Rattle.lra_linear_spec.proofs.LinearMaps.{generated_left, generated_right}
+use Rattle.lra_linear_spec.proofs.Lines.{generated_described, whole_described}
+use Rattle.lra_linear_spec.proofs.Membership.{map_from}
+use Rattle.lra_linear_spec.proofs.Polyhedra.{con_gen}
+use Rattle.lra_linear_spec.proofs.Ring.{ring, v, ◌⊕◌, ◌⊗◌}
 use Rattle.lra_sys.specs.Listed.{Listed, generators}
-use Rattle.lra_linear.specs.declared.GenKind.{GenKind}
+use Rattle.lra_linear_spec.specs.declared.GenKind.{GenKind}
 use Rattle.lra_descriptions.proofs.SeveralKinds.{system_append, system_lines}
 use Rattle.lra_lists.proofs.ListLemmas.{longer_entry, short_divisor}
 use Rattle.lra_lists.proofs.MappedSets.{widths_of}
@@ -93,8 +93,8 @@ system_embedded : (p : Polyhedron) (k : ℕ) →
     map (λ u. zeros (suc p.dims) ++ u) (both_ways (units k))
 system_embedded p k =
     system_append (mapped_by (λ r. r ++ zeros k) p.generators)
-    (given_as true (map (λ u. zeros (suc p.dims) ++ u) (units k)))
-    ∙ ap (λ (l : List (List ℤ)). l ++ system_of (given_as true (map (λ u. zeros (suc p.dims) ++ u) (units k))))
+    (rows_as true (map (λ u. zeros (suc p.dims) ++ u) (units k)))
+    ∙ ap (λ (l : List (List ℤ)). l ++ system_of (rows_as true (map (λ u. zeros (suc p.dims) ++ u) (units k))))
     (system_mapped (λ r. r ++ zeros k) (longer_negated k) p.generators)
     ∙ ap (λ (l : List (List ℤ)). map (λ r. r ++ zeros k) (system_of p.generators) ++ l)
     (system_lines (map (λ u. zeros (suc p.dims) ++ u) (units k)) ∙ both_behind (suc p.dims) (units k))
@@ -187,13 +187,13 @@ embedded_generators p k h = (
 pub embed_takes : (p : Polyhedron) (list all : Listed GenKind) (k : ℕ) → IsPolyhedron p → list.dims ≡ p.dims →
     generators list ≡ p.generators → all.dims ≡ list.dims + k →
     generators all ≡ mapped_by (λ r. r ++ zeros k) (generators list) ++
-    given_as true (map (λ u. zeros (suc list.dims) ++ u) (units k)) →
+    rows_as true (map (λ u. zeros (suc list.dims) ++ u) (units k)) →
     Takes (p.dims + k) (Embed p.dims (Con p.rows)) (embedded k p) all
 embed_takes p list all k h ed eg ad ag = record {
   dimensions = ad ∙ ap (λ (d : ℕ). d + k) ed;
-  are = ag ∙ ap (λ (l : List Given). mapped_by (λ r. r ++ zeros k) l ++
-      given_as true (map (λ u. zeros (suc list.dims) ++ u) (units k))) eg ∙
+  are = ag ∙ ap (λ (l : List LinearRow). mapped_by (λ r. r ++ zeros k) l ++
+      rows_as true (map (λ u. zeros (suc list.dims) ++ u) (units k))) eg ∙
       ap (λ (d : ℕ). mapped_by (λ r. r ++ zeros k) p.generators ++
-      given_as true (map (λ u. zeros (suc d) ++ u) (units k))) ed;
+      rows_as true (map (λ u. zeros (suc d) ++ u) (units k))) ed;
   same = embedded_generators p k h;
 }

@@ -1,16 +1,16 @@
 -- Fewer dimensions: the generators without their last columns.
 use Rattle.std.proofs.Common.{◌≡◌, ℕ, zero, suc, ◌≤◌, ◌+◌, ◌-◌, List, [], ◌∷◌, take, ap, refl, sym, ◌∙◌, subst}
 use Rattle.std.proofs.Common.{ℤ, pos, neg_ℤ, ◌+ℤ◌, ◌*ℤ◌, arith}
-use Rattle.lra_linear.specs.Descriptions.{Con, Gen}
-use Rattle.lra_linear.specs.OperationStrain.{shortened}
-use Rattle.lra_linear.specs.Points.{IsPoint, SameSet}
-use Rattle.lra_linear.specs.Polyhedra.{IsPolyhedron, Polyhedron}
-use Rattle.lra_linear.specs.SetOperations.{RemoveLast}
-use Rattle.lra_linear.specs.Vectors.{entry, negated}
-use Rattle.lra_linear.proofs.Polyhedra.{con_gen}
-use Rattle.lra_linear.proofs.Ring.{ring, v, ◌⊕◌, ◌⊗◌}
+use Rattle.lra_linear_spec.specs.Descriptions.{Con, Gen}
+use Rattle.lra_linear_spec.specs.OperationStrain.{shortened}
+use Rattle.lra_linear_spec.specs.Points.{IsPoint, SameSet}
+use Rattle.lra_linear_spec.specs.Polyhedra.{IsPolyhedron, Polyhedron}
+use Rattle.lra_linear_spec.specs.SetOperations.{RemoveLast}
+use Rattle.lra_linear_spec.specs.Vectors.{entry, negated}
+use Rattle.lra_linear_spec.proofs.Polyhedra.{con_gen}
+use Rattle.lra_linear_spec.proofs.Ring.{ring, v, ◌⊕◌, ◌⊗◌}
 use Rattle.lra_sys.specs.Listed.{Listed, generators}
-use Rattle.lra_linear.specs.declared.GenKind.{GenKind}
+use Rattle.lra_linear_spec.specs.declared.GenKind.{GenKind}
 use Rattle.lra_lists.proofs.MappedSets.{IsMapOf, mapped_from, mapped_in, widths_of}
 use Rattle.lra_lists.proofs.Sums.{IsLinear}
 use Rattle.lra_poly.proofs.TakenGenerators.{Takes}

@@ -1,12 +1,12 @@
 //! Changes of the dimensions, and time-elapse.
 
 ghost use Rattle.std.specs.Prelude.{◌≡◌, ◌⊎◌, ◌<◌, ◌≤◌, ◌-◌, ◌+◌, ◌++◌, IfOk, OnErr};
-ghost use Rattle.lra_linear.specs.Descriptions.{Con};
-ghost use Rattle.lra_linear.specs.OperationStrain.{EmbedStrains};
-ghost use Rattle.lra_linear.specs.OperationStrain.{RemoveLastStrains, TimeElapseStrains};
-ghost use Rattle.lra_linear.specs.OperationStrain.{as_directions, embedded, shortened};
-ghost use Rattle.lra_linear.specs.Points.{IsEmptySet};
-ghost use Rattle.lra_linear.specs.SetOperations.{Embed, RemoveLast, TimeElapse};
+ghost use Rattle.lra_linear_spec.specs.Descriptions.{Con};
+ghost use Rattle.lra_linear_spec.specs.OperationStrain.{EmbedStrains};
+ghost use Rattle.lra_linear_spec.specs.OperationStrain.{RemoveLastStrains, TimeElapseStrains};
+ghost use Rattle.lra_linear_spec.specs.OperationStrain.{as_directions, embedded, shortened};
+ghost use Rattle.lra_linear_spec.specs.Points.{IsEmptySet};
+ghost use Rattle.lra_linear_spec.specs.SetOperations.{Embed, RemoveLast, TimeElapse};
 ghost use Rattle.lra_poly.specs.Outcomes.{Becomes, IfFlagged, IsOfGenerators};
 ghost use Rattle.lra_poly.specs.United.{AreTriedPoints};
 ghost use Rattle.lra_sys.specs.Dimensions.{too_many_dimensions};

@@ -7,11 +7,11 @@ use Rattle.std.specs.Ordering.{int_eq}
 use Rattle.std.proofs.lemmas.Bool.Decides.{Decides-int_eq}
 use Rattle.std.proofs.lemmas.List.{drop_more, drop_all, append-nil, get_or_default}
 use Rattle.std.proofs.lemmas.List.Elements.{All-get_or, All-from_recursion}
-use Rattle.lra_linear.specs.Kinds.{is_equality}
-use Rattle.lra_linear.specs.Range.{InRange}
-use Rattle.lra_linear.specs.declared.ConKind.{ConKind}
-use Rattle.lra_linear.specs.declared.ConKind.TheVariants.{Ge}
-use Rattle.lra_linear.specs.Vectors.{entry}
+use Rattle.lra_linear_spec.specs.Kinds.{is_equality}
+use Rattle.lra_linear_spec.specs.Range.{InRange}
+use Rattle.lra_linear_spec.specs.declared.ConKind.{ConKind}
+use Rattle.lra_linear_spec.specs.declared.ConKind.TheVariants.{Ge}
+use Rattle.lra_linear_spec.specs.Vectors.{entry}
 use Rattle.lra_sys.specs.Listed.{given_by}
 use Rattle.lra_multipliers.specs.Multipliers.{is_signed, are_signed}
 use Rattle.lra_multipliers.specs.Columns.{added_to, column_sum, kinds_signed, used_from}

@@ -15,16 +15,16 @@ use borrow.Author.Count.{below_more}
 use Rattle.std.specs.Int.{w128}
 use Rattle.std.proofs.lemmas.Int.{ints, to_z-of_z}
 use Rattle.std.proofs.lemmas.Option.{same_Some, none-some}
-use Rattle.lra_linear.specs.declared.Excess.{Excess}
-use Rattle.lra_linear.specs.CheckedArithmetic.{checked_added_entry, checked_added, then_rest, and_then}
-use Rattle.lra_linear.specs.Descriptions.{Given, rows_of}
-use Rattle.lra_linear.specs.Polyhedra.{positivity}
-use Rattle.lra_linear.specs.Range.{InRange, in_range}
-use Rattle.lra_linear.specs.Vectors.{entry, zeros, signed_sum}
-use Rattle.lra_linear.proofs.CheckedArithmetic.{in_range_yes, in_range_no}
-use Rattle.lra_linear.proofs.Lines.{entry_zeros}
-use Rattle.lra_linear.proofs.Products.{entry_past, row_same}
-use Rattle.lra_linear.proofs.Ring.{ring, v, ◌⊕◌, ◌⊗◌}
+use Rattle.lra_linear_spec.specs.declared.Excess.{Excess}
+use Rattle.lra_linear_spec.specs.CheckedArithmetic.{checked_added_entry, checked_added, then_rest, and_then}
+use Rattle.lra_linear_spec.specs.Descriptions.{LinearRow, rows_of}
+use Rattle.lra_linear_spec.specs.Polyhedra.{positivity}
+use Rattle.lra_linear_spec.specs.Range.{InRange, in_range}
+use Rattle.lra_linear_spec.specs.Vectors.{entry, zeros, signed_sum}
+use Rattle.lra_linear_spec.proofs.CheckedArithmetic.{in_range_yes, in_range_no}
+use Rattle.lra_linear_spec.proofs.Lines.{entry_zeros}
+use Rattle.lra_linear_spec.proofs.Products.{entry_past, row_same}
+use Rattle.lra_linear_spec.proofs.Ring.{ring, v, ◌⊕◌, ◌⊗◌}
 use Rattle.lra_multipliers.specs.Symbols.{constant_row}
 use Rattle.lra_multipliers.specs.Multipliers.{Multipliers, IsSigned, AreSigned, Shows, checked_multiple, checked_sum, premises_sum, IsWide, wide, IsAnswer}
 use Rattle.lra_multipliers.specs.Multipliers.{is_signed, are_signed, may_show, shown_if, compared, checked}
@@ -160,10 +160,10 @@ multiple_columns claim d =
     (added_columns d (zeros (length claim)) claim (length claim) (length_zeros (length claim)) refl)
 
 -- ---- sums
-abbrev pub AreWide : ℕ → List Given → Type 0
+abbrev pub AreWide : ℕ → List LinearRow → Type 0
 AreWide n gs = AllByRecursion (λ g. length g.row ≡ n) gs
 
-then_columns : (sum : List ℤ) (l : ℤ) (g : Given) (ls : List ℤ) (gs : List Given) (n : ℕ) (r : Result (List ℤ) Excess) → Matches
+then_columns : (sum : List ℤ) (l : ℤ) (g : LinearRow) (ls : List ℤ) (gs : List LinearRow) (n : ℕ) (r : Result (List ℤ) Excess) → Matches
     (λ j. added_to (entry sum j) (l *ℤ entry g.row j)) n r →
     ((next : List ℤ) → length next ≡ n → Matches (λ j. column_sum (entry next j) ls (rows_of gs) j) n (checked_sum next ls gs)) →
     Matches (λ j. column_sum (entry sum j) (l ∷ ls) (rows_of (g ∷ gs)) j) n (and_then r (λ next. checked_sum next ls gs))
@@ -172,7 +172,7 @@ then_columns sum l g ls gs n (Ok next) m k =
     (λ j h. sym (ap (λ (o : Option ℤ). option_and_then (λ (x : ℤ). column_sum x ls (rows_of gs) j) o) (m.1 j h))) (k next m.0)
 then_columns sum l g ls gs n (Err e) m k = (m.0, m.1, ap (λ (o : Option ℤ). option_and_then (λ (x : ℤ). column_sum x ls (rows_of gs) m.0) o) m.2)
 
-summed_columns : (sum ls : List ℤ) (gs : List Given) (n : ℕ) → length sum ≡ n → AreWide n gs → Matches (λ j. column_sum (entry sum j) ls (rows_of gs) j) n
+summed_columns : (sum ls : List ℤ) (gs : List LinearRow) (n : ℕ) → length sum ≡ n → AreWide n gs → Matches (λ j. column_sum (entry sum j) ls (rows_of gs) j) n
     (checked_sum sum ls gs)
 summed_columns sum [] gs n e w = (e, λ j h. refl)
 summed_columns sum (l ∷ ls) [] n e w = (e, λ j h. refl)
@@ -192,7 +192,7 @@ first_added n k j =
     ap (λ (z : ℤ). added_to z (k *ℤ entry (constant_row (suc n) (pos 1)) j)) (entry_zeros (suc n) j) ∙
     ap (added_to (pos 0)) (one_entry n k j) ∙ added_to_zero (first_of j k)
 
-pub sum_columns : (premises : List Given) (c : ℤ) (cs : List ℤ) (m : Multipliers) → AreWide (length (c ∷ cs)) premises →
+pub sum_columns : (premises : List LinearRow) (c : ℤ) (cs : List ℤ) (m : Multipliers) → AreWide (length (c ∷ cs)) premises →
     Matches (premises_column (rows_of premises) m) (length (c ∷ cs)) (premises_sum premises (c ∷ cs) m)
 sum_columns premises c cs m w =
     matches_same (λ j. column_sum (entry (zeros (suc (length cs))) j) (m.constant ∷ m.factors) (constant_row (suc (length cs)) (pos 1) ∷ rows_of premises) j)
@@ -328,7 +328,7 @@ multiple_value claim row d e = (m.0, λ j. by j (cases_lt j (length claim)))
     by j (inl h) = within_is (d *ℤ entry claim j) (entry row j) (m.1 j h)
     by j (inr h) = entry_past row j (omega (arith, m.0, h)) ∙ sym (ap (λ (z : ℤ). d *ℤ z) (entry_past claim j h) ∙ times_zero d)
 
-sum_past : (ls : List ℤ) (gs : List Given) (n j : ℕ) → AreWide n gs → n ≤ j → signed_sum ls (rows_of gs) j ≡ pos 0
+sum_past : (ls : List ℤ) (gs : List LinearRow) (n j : ℕ) → AreWide n gs → n ≤ j → signed_sum ls (rows_of gs) j ≡ pos 0
 sum_past [] gs n j w h = refl
 sum_past (l ∷ ls) [] n j w h = refl
 sum_past (l ∷ ls) (g ∷ gs) n j w h =
@@ -348,7 +348,7 @@ positive_entry : (n : ℕ) (k : ℤ) (j : ℕ) → k *ℤ entry (positivity n) j
 positive_entry n k zero = ring (v k ⊗ v (pos 1)) (v k) (omega arith)
 positive_entry n k (suc j) = ap (λ (z : ℤ). k *ℤ z) (entry_zeros n j) ∙ times_zero k
 
-sum_value : (premises : List Given) (c : ℤ) (cs sum : List ℤ) (m : Multipliers) → AreWide (length (c ∷ cs)) premises → premises_sum premises (c ∷ cs) m ≡ Ok
+sum_value : (premises : List LinearRow) (c : ℤ) (cs sum : List ℤ) (m : Multipliers) → AreWide (length (c ∷ cs)) premises → premises_sum premises (c ∷ cs) m ≡ Ok
     sum →
     (length sum ≡ length (c ∷ cs)) × ((j : ℕ) → entry sum j ≡ first_of j m.constant +ℤ signed_sum m.factors (rows_of premises) j)
 sum_value premises c cs sum m w e = (k.0, λ j. by j (cases_lt j (length (c ∷ cs))))
@@ -375,24 +375,24 @@ signed_tells false l = constant_tells l
 false_true : (let b : Bool = false in b) ≡ true → ⊥
 false_true e = cc
 
-are_signed_tells : (gs : List Given) (ls : List ℤ) → Decides (are_signed gs ls) (AreSigned gs ls)
+are_signed_tells : (gs : List LinearRow) (ls : List ℤ) → Decides (are_signed gs ls) (AreSigned gs ls)
 are_signed_tells [] [] = (λ e. tt, λ h. refl)
 are_signed_tells [] (l ∷ ls) = (λ e. false_true e, λ h. absurd h)
 are_signed_tells (g ∷ gs) [] = (λ e. false_true e, λ h. absurd h)
 are_signed_tells (g ∷ gs) (l ∷ ls) = Decides-and {P = IsSigned g.equal l} {Q = AreSigned gs ls} (is_signed g.equal l) (are_signed gs ls)
     (signed_tells g.equal l) (are_signed_tells gs ls)
 
-abbrev HasSigns : List Given → Multipliers → Type 0
+abbrev HasSigns : List LinearRow → Multipliers → Type 0
 HasSigns premises m = ((pos 0 <ℤ m.divisor) × (pos 0 ≤ℤ m.constant)) × AreSigned premises m.factors
 
-signs_tell : (premises : List Given) (m : Multipliers) → Decides (may_show premises m) (HasSigns premises m)
+signs_tell : (premises : List LinearRow) (m : Multipliers) → Decides (may_show premises m) (HasSigns premises m)
 signs_tell premises m =
     Decides-and {P = (pos 0 <ℤ m.divisor) × (pos 0 ≤ℤ m.constant)} {Q = AreSigned premises m.factors} (int_le (pos 1) m.divisor && int_le (pos 0) m.constant)
     (are_signed premises m.factors)
     (Decides-and {P = pos 0 <ℤ m.divisor} {Q = pos 0 ≤ℤ m.constant} (int_le (pos 1) m.divisor) (int_le (pos 0) m.constant) (divisor_tells m.divisor)
     (constant_tells m.constant)) (are_signed_tells premises m.factors)
 
-shows_decided : (premises : List Given) (c : ℤ) (cs : List ℤ) (m : Multipliers) (row sum : List ℤ) → AreWide (length (c ∷ cs)) premises → checked_multiple
+shows_decided : (premises : List LinearRow) (c : ℤ) (cs : List ℤ) (m : Multipliers) (row sum : List ℤ) → AreWide (length (c ∷ cs)) premises → checked_multiple
     (c ∷ cs) m.divisor ≡ Ok row →
     premises_sum premises (c ∷ cs) m ≡ Ok sum → Decides (may_show premises m && pointwise int_eq row sum) (Shows premises (c ∷ cs) m)
 shows_decided premises c cs m row sum w f g =
@@ -424,18 +424,18 @@ shows_decided premises c cs m row sum w f g =
 ok_err : (r : List ℤ) (e : Excess) → (let a : Result (List ℤ) Excess = Ok r in a) ≡ Err e → ⊥
 ok_err r e f = cc
 
-not_wide : (premises : List Given) (claim : List ℤ) (m : Multipliers) (row sum : List ℤ) → checked_multiple claim m.divisor ≡ Ok row → premises_sum premises
+not_wide : (premises : List LinearRow) (claim : List ℤ) (m : Multipliers) (row sum : List ℤ) → checked_multiple claim m.divisor ≡ Ok row → premises_sum premises
     claim m ≡ Ok sum →
     IsWide premises claim m → ⊥
 not_wide premises claim m row sum f g (inl x) = ok_err row x.0 (sym f ∙ x.1)
 not_wide premises claim m row sum f g (inr x) = ok_err sum x.0 (sym g ∙ x.1)
 
-answer_by : (premises : List Given) (claim : List ℤ) (m : Multipliers) (t : Bool) → (IsWide premises claim m → ⊥) → Decides t (Shows premises claim m) →
+answer_by : (premises : List LinearRow) (claim : List ℤ) (m : Multipliers) (t : Bool) → (IsWide premises claim m → ⊥) → Decides t (Shows premises claim m) →
     IsAnswer premises claim m (shown_if t)
 answer_by premises claim m true n d = (n, d.0 refl)
 answer_by premises claim m false n d = (n, λ s. false_true (d.1 s))
 
-exact_by : (premises : List Given) (claim : List ℤ) (m : Multipliers) (a b : Result (List ℤ) Excess) → checked_multiple claim m.divisor ≡ a → premises_sum
+exact_by : (premises : List LinearRow) (claim : List ℤ) (m : Multipliers) (a b : Result (List ℤ) Excess) → checked_multiple claim m.divisor ≡ a → premises_sum
     premises claim m ≡ b →
     ((row sum : List ℤ) → checked_multiple claim m.divisor ≡ Ok row → premises_sum premises claim m ≡ Ok sum →
     Decides (may_show premises m && pointwise int_eq row sum) (Shows premises claim m)) → IsAnswer premises claim m (compared a b (may_show premises m))
@@ -444,7 +444,7 @@ exact_by premises claim m (Ok row) (Err e) f g d = inr (e, g)
 exact_by premises claim m (Ok row) (Ok sum) f g d =
     answer_by premises claim m (may_show premises m && pointwise int_eq row sum) (not_wide premises claim m row sum f g) (d row sum f g)
 
-pub checked_exact : (premises : List Given) (claim : List ℤ) (m : Multipliers) → 0 < length claim → AreWide (length claim) premises →
+pub checked_exact : (premises : List LinearRow) (claim : List ℤ) (m : Multipliers) → 0 < length claim → AreWide (length claim) premises →
     IsAnswer premises claim m
     (checked premises claim m)
 checked_exact premises [] m h w = absurd (omega (arith, h))
@@ -453,7 +453,7 @@ checked_exact premises (c ∷ cs) m h w =
     (λ row sum f g. shows_decided premises c cs m row sum w f g)
 
 -- ---- as the code tells it
-pub checked_told : (premises : List Given) (claim : List ℤ) (m : Multipliers) (t : Option Bool) → 0 < length claim → AreWide (length claim) premises →
+pub checked_told : (premises : List LinearRow) (claim : List ℤ) (m : Multipliers) (t : Option Bool) → 0 < length claim → AreWide (length claim) premises →
     ColumnsTell (column_agrees (rows_of premises) claim m) (length claim) t → checked premises claim m ≡ answer_told (may_show premises m) t
 checked_told premises [] m t h w a = absurd (omega (arith, h))
 checked_told premises (c ∷ cs) m None h w a =

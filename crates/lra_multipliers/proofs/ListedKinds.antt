@@ -1,6 +1,6 @@
 -- A list of rows has as many kinds.
 use Rattle.std.proofs.Common.{◌≡◌, ◌+◌, ◌++◌, ℕ, ℤ, List, [], ◌∷◌, length, ap, sym, ◌∙◌, length-append}
-use Rattle.lra_linear.specs.declared.ConKind.{ConKind}
+use Rattle.lra_linear_spec.specs.declared.ConKind.{ConKind}
 use Rattle.lra_sys.specs.Listed.{Listed}
 
 pub kinds_pushed : (old new : Listed ConKind) (row : List ℤ) (kind : ConKind) → length old.kinds ≡ length old.rows → new.rows ≡ old.rows ++ row ∷ [] →

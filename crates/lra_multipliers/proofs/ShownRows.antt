@@ -1,14 +1,14 @@
 -- What multipliers show: where the premises hold, the claim does.
 use Rattle.std.proofs.Common.{◌≡◌, ℕ, ◌<◌, ℤ, pos, ◌+ℤ◌, ◌*ℤ◌, ◌<ℤ◌, ◌≤ℤ◌, Bool, true, false, List, [], ◌∷◌, length, ap, sym, ◌∙◌, subst, arith}
 use Rattle.std.proofs.lemmas.Int.{ints}
-use Rattle.lra_linear.specs.Descriptions.{Given, rows_of, HoldsWith, Con}
-use Rattle.lra_linear.specs.Polyhedra.{positivity}
-use Rattle.lra_linear.specs.Vectors.{entry, dot, product, signed_sum}
-use Rattle.lra_linear.proofs.Membership.{contains_head, contains_tail}
-use Rattle.lra_linear.proofs.Products.{dot_same, dot_zero, dot_plus, dot_scale, product_comm}
-use Rattle.lra_linear.proofs.OneSpelling.{positivity_product}
-use Rattle.lra_linear.proofs.Ring.{ring, v, ◌⊗◌, mul_nonnegative}
-use Rattle.lra_linear.proofs.Signs.{as_nat, add_nonnegative, divide_nonnegative, zero_at_least}
+use Rattle.lra_linear_spec.specs.Descriptions.{LinearRow, rows_of, HoldsWith, Con}
+use Rattle.lra_linear_spec.specs.Polyhedra.{positivity}
+use Rattle.lra_linear_spec.specs.Vectors.{entry, dot, product, signed_sum}
+use Rattle.lra_linear_spec.proofs.Membership.{contains_head, contains_tail}
+use Rattle.lra_linear_spec.proofs.Products.{dot_same, dot_zero, dot_plus, dot_scale, product_comm}
+use Rattle.lra_linear_spec.proofs.OneSpelling.{positivity_product}
+use Rattle.lra_linear_spec.proofs.Ring.{ring, v, ◌⊗◌, mul_nonnegative}
+use Rattle.lra_linear_spec.proofs.Signs.{as_nat, add_nonnegative, divide_nonnegative, zero_at_least}
 use Rattle.lra_multipliers.specs.Multipliers.{Multipliers, IsSigned, AreSigned, Shows}
 
 times_held : (b : Bool) (l z : ℤ) → IsSigned b l → HoldsWith b z → pos 0 ≤ℤ (l *ℤ z)
@@ -16,7 +16,7 @@ times_held true l z s h = zero_at_least (l *ℤ z) (ap (λ (y : ℤ). l *ℤ y) 
 times_held false l z s h = mul_nonnegative l z s h
 
 -- the sum of the premises, at a point at which they hold
-sum_holds : (premises : List Given) (ls x : List ℤ) → AreSigned premises ls → Con premises x → pos 0 ≤ℤ dot x (signed_sum ls (rows_of premises))
+sum_holds : (premises : List LinearRow) (ls x : List ℤ) → AreSigned premises ls → Con premises x → pos 0 ≤ℤ dot x (signed_sum ls (rows_of premises))
 sum_holds [] [] x s h = zero_at_least (dot x (λ j. pos 0)) (dot_zero x)
 sum_holds [] (l ∷ ls) x s h = absurd s
 sum_holds (g ∷ gs) [] x s h = absurd s
@@ -35,7 +35,7 @@ divided d z h k =
     positive m e = omega (arith, ints, h, e)
 
 -- the claim at a point whose column 0 is not below 0
-pub shown_holds : (premises : List Given) (claim x : List ℤ) (m : Multipliers) → Shows premises claim m → pos 0 ≤ℤ entry x 0 → Con premises x → pos 0 ≤ℤ
+pub shown_holds : (premises : List LinearRow) (claim x : List ℤ) (m : Multipliers) → Shows premises claim m → pos 0 ≤ℤ entry x 0 → Con premises x → pos 0 ≤ℤ
     product claim x
 shown_holds premises claim x m s o h =
     subst (λ (z : ℤ). pos 0 ≤ℤ z) (product_comm x claim)

@@ -3,11 +3,11 @@ use Rattle.std.specs.Prelude.{◌≡◌, ◌⊎◌, ℕ, ℤ, pos, ◌+ℤ◌, �
 use Rattle.std.specs.Prelude.{length, Result, Ok, Err, int_le, ◌&&◌}
 use Rattle.std.specs.Ordering.{int_eq}
 use Rattle.std.specs.Cmp.Lexicographic.{pointwise}
-use Rattle.lra_linear.specs.declared.Excess.{Excess}
-use Rattle.lra_linear.specs.CheckedArithmetic.{checked_added, and_then}
-use Rattle.lra_linear.specs.Descriptions.{Given, rows_of, Con}
-use Rattle.lra_linear.specs.Polyhedra.{positivity}
-use Rattle.lra_linear.specs.Vectors.{entry, zeros, signed_sum, product}
+use Rattle.lra_linear_spec.specs.declared.Excess.{Excess}
+use Rattle.lra_linear_spec.specs.CheckedArithmetic.{checked_added, and_then}
+use Rattle.lra_linear_spec.specs.Descriptions.{LinearRow, rows_of, Con}
+use Rattle.lra_linear_spec.specs.Polyhedra.{positivity}
+use Rattle.lra_linear_spec.specs.Vectors.{entry, zeros, signed_sum, product}
 use Rattle.lra_multipliers.specs.Symbols.{constant_row}
 
 -- of the claim, of 1 >= 0, and of each premise
@@ -22,14 +22,14 @@ IsSigned true l = ⊤
 IsSigned false l = pos 0 ≤ℤ l
 
 -- one for each premise
-abbrev pub AreSigned : List Given → List ℤ → Type 0
+abbrev pub AreSigned : List LinearRow → List ℤ → Type 0
 AreSigned [] [] = ⊤
 AreSigned [] (l ∷ ls) = ⊥
 AreSigned (g ∷ gs) [] = ⊥
 AreSigned (g ∷ gs) (l ∷ ls) = IsSigned g.equal l × AreSigned gs ls
 
 -- a positive multiple of the claim is a sum of 1 >= 0 and the premises, column by column
-pub record Shows (premises : List Given) (claim : List ℤ) (m : Multipliers) : Type 0 where
+pub record Shows (premises : List LinearRow) (claim : List ℤ) (m : Multipliers) : Type 0 where
   pub divisor : pos 0 <ℤ m.divisor
   pub constant : pos 0 ≤ℤ m.constant
   pub factors : AreSigned premises m.factors
@@ -40,17 +40,17 @@ pub record Shows (premises : List Given) (claim : List ℤ) (m : Multipliers) : 
 abbrev pub checked_multiple : List ℤ → ℤ → Result (List ℤ) Excess
 checked_multiple claim divisor = checked_added divisor (zeros (length claim)) claim
 
-abbrev pub checked_sum : List ℤ → List ℤ → List Given → Result (List ℤ) Excess
+abbrev pub checked_sum : List ℤ → List ℤ → List LinearRow → Result (List ℤ) Excess
 checked_sum sum [] premises = Ok sum
 checked_sum sum (l ∷ ls) [] = Ok sum
 checked_sum sum (l ∷ ls) (g ∷ gs) = and_then (checked_added l sum g.row) (λ next. checked_sum next ls gs)
 
-abbrev pub premises_sum : List Given → List ℤ → Multipliers → Result (List ℤ) Excess
+abbrev pub premises_sum : List LinearRow → List ℤ → Multipliers → Result (List ℤ) Excess
 premises_sum premises claim m = checked_sum (zeros (length claim)) (m.constant ∷ m.factors)
     (record { row = constant_row (length claim) (pos 1); equal = false } ∷ premises)
 
 -- a product or a partial sum passes the range
-abbrev pub IsWide : List Given → List ℤ → Multipliers → Type 0
+abbrev pub IsWide : List LinearRow → List ℤ → Multipliers → Type 0
 IsWide premises claim m = ((e : Excess) × (checked_multiple claim m.divisor ≡ Err e)) ⊎
     ((e : Excess) × (premises_sum premises claim m ≡ Err e))
 
@@ -60,7 +60,7 @@ pub data Answer : Type 0 where
   wide : Answer
 
 -- the answer of the check; exactly one is right
-abbrev pub IsAnswer : List Given → List ℤ → Multipliers → Answer → Type 0
+abbrev pub IsAnswer : List LinearRow → List ℤ → Multipliers → Answer → Type 0
 IsAnswer premises claim m yes = (¬ IsWide premises claim m) × Shows premises claim m
 IsAnswer premises claim m no = (¬ IsWide premises claim m) × (¬ Shows premises claim m)
 IsAnswer premises claim m wide = IsWide premises claim m
@@ -70,13 +70,13 @@ abbrev pub is_signed : Bool → ℤ → Bool
 is_signed true l = true
 is_signed false l = int_le (pos 0) l
 
-abbrev pub are_signed : List Given → List ℤ → Bool
+abbrev pub are_signed : List LinearRow → List ℤ → Bool
 are_signed [] [] = true
 are_signed [] (l ∷ ls) = false
 are_signed (g ∷ gs) [] = false
 are_signed (g ∷ gs) (l ∷ ls) = is_signed g.equal l && are_signed gs ls
 
-abbrev pub may_show : List Given → Multipliers → Bool
+abbrev pub may_show : List LinearRow → Multipliers → Bool
 may_show premises m = int_le (pos 1) m.divisor && int_le (pos 0) m.constant && are_signed premises m.factors
 
 abbrev pub shown_if : Bool → Answer
@@ -88,11 +88,11 @@ compared (Err e) sum signed = wide
 compared (Ok row) (Err e) signed = wide
 compared (Ok row) (Ok sum) signed = shown_if (signed && pointwise int_eq row sum)
 
-abbrev pub checked : List Given → List ℤ → Multipliers → Answer
+abbrev pub checked : List LinearRow → List ℤ → Multipliers → Answer
 checked premises claim m = compared (checked_multiple claim m.divisor) (premises_sum premises claim m)
     (may_show premises m)
 
 -- where the premises hold, a claim that multipliers show does
 abbrev pub MultipliersShow : Type 0
-MultipliersShow = (premises : List Given) (claim x : List ℤ) (m : Multipliers) → Shows premises claim m →
+MultipliersShow = (premises : List LinearRow) (claim x : List ℤ) (m : Multipliers) → Shows premises claim m →
     pos 0 ≤ℤ entry x 0 → Con premises x → pos 0 ≤ℤ product claim x

@@ -2,11 +2,11 @@
 -- for each value of which nothing is told. Column 0 of a row is its constant. All rows of a path have one width.
 use Rattle.std.specs.Prelude.{ℕ, suc, ◌+◌, ◌-◌, ℤ, pos, List, [], ◌∷◌, ◌++◌, map, length, take, slice_set, Result, Ok}
 use Rattle.std.specs.List.{range_with_len}
-use Rattle.lra_linear.specs.declared.Excess.{Excess}
-use Rattle.lra_linear.specs.CheckedArithmetic.{checked_added, and_then}
-use Rattle.lra_linear.specs.Descriptions.{Given}
-use Rattle.lra_linear.specs.Kinds.{is_equality}
-use Rattle.lra_linear.specs.Vectors.{zeros}
+use Rattle.lra_linear_spec.specs.declared.Excess.{Excess}
+use Rattle.lra_linear_spec.specs.CheckedArithmetic.{checked_added, and_then}
+use Rattle.lra_linear_spec.specs.Descriptions.{LinearRow}
+use Rattle.lra_linear_spec.specs.Kinds.{is_equality}
+use Rattle.lra_linear_spec.specs.Vectors.{zeros}
 use Rattle.lra_lin.specs.Form.{form_row}
 use Rattle.lra_domain.specs.Actions.{Action, assign, forget, test, embed, remove_last}
 
@@ -35,10 +35,10 @@ composed width (k ∷ cs) forms = composed_from (constant_row width k) cs forms
 -- a path so far: the rows of the variables that live, its tests, and the first column that is free
 pub record Walked : Type 0 where
   pub forms : List (List ℤ)
-  pub tests : List Given
+  pub tests : List LinearRow
   pub free : ℕ
 
-abbrev pub tests_too : Walked → Given → Walked
+abbrev pub tests_too : Walked → LinearRow → Walked
 tests_too w g = record w { tests = w.tests ++ g ∷ [] }
 
 abbrev pub gives : Walked → ℕ → List ℤ → Walked

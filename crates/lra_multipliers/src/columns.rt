@@ -2,8 +2,8 @@
 
 ghost use Rattle.std.specs.Prelude.{◌≡◌, ◌<◌, length, suc, ◌*ℤ◌, IfSome};
 ghost use Rattle.std.specs.List.{All};
-ghost use Rattle.lra_linear.specs.Kinds.{is_equality};
-ghost use Rattle.lra_linear.specs.Range.{InRange};
+ghost use Rattle.lra_linear_spec.specs.Kinds.{is_equality};
+ghost use Rattle.lra_linear_spec.specs.Range.{InRange};
 ghost use Rattle.lra_sys.specs.Listed.{constraints};
 ghost use Rattle.lra_multipliers.specs.Multipliers.{IsAnswer, is_signed, checked};
 ghost use Rattle.lra_multipliers.specs.Columns.{added_to, column_sum, column_agrees, ColumnsTell, first_of};
@@ -11,7 +11,7 @@ ghost use Rattle.lra_multipliers.specs.Columns.{kinds_signed, kinds_show, answer
 ghost use Rattle.lra_multipliers.specs.MultiplierViews.{answer_view, multipliers_view};
 
 use crate::multipliers::Multipliers;
-use lra_linear::ConKind;
+use lra_linear_spec::ConKind;
 use lra_row::{Row, add, mul};
 use lra_sys::ConSys;
 

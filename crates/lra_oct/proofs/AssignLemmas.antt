@@ -7,9 +7,9 @@ use Rattle.std.proofs.Math.ListN.{length-set}
 use Rattle.std.proofs.lemmas.Int.{ints}
 use Rattle.std.proofs.lemmas.List.{get_or-set_same, get_or-set_other, get_or-replicate}
 use Rattle.std.proofs.lemmas.Bool.Decides.{eqb_tells}
-use Rattle.lra_linear.specs.Range.{InRange}
-use Rattle.lra_linear.specs.Vectors.{entry, product}
-use Rattle.lra_linear.proofs.Products.{entry_set_same}
+use Rattle.lra_linear_spec.specs.Range.{InRange}
+use Rattle.lra_linear_spec.specs.Vectors.{entry, product}
+use Rattle.lra_linear_spec.proofs.Products.{entry_set_same}
 use Rattle.lra_lin.specs.Form.{Form, form_value}
 use Rattle.lra_domain.specs.Actions.{assign}
 use Rattle.lra_domain.specs.Meaning.{Meets}

@@ -3,7 +3,7 @@ use Rattle.std.proofs.Common.{◌≡◌, ℕ, suc, ◌+◌, ◌*◌, ◌<◌, �
 use Rattle.std.specs.Prelude.{◌-ℤ◌, ◌+ℤ◌, ◌≤ℤ◌, neg_ℤ, unsigned_abs}
 use Rattle.std.proofs.lemmas.Int.{ints}
 use Rattle.std.proofs.lemmas.Bool.Decides.{eqb_tells, leb_tells}
-use Rattle.lra_linear.specs.Range.{InRange}
+use Rattle.lra_linear_spec.specs.Range.{InRange}
 use Rattle.lra_dbm.specs.Entry.{◌⊑◌, ◌⊞◌, lesser, passes_range}
 use Rattle.lra_dbm.specs.Tight.{opposite, signed_value, IsStore}
 use Rattle.lra_dbm.specs.Cells.{Cells, entries, entered, forgotten, IsMatrix}

@@ -5,7 +5,7 @@ use Rattle.std.proofs.Common.{true, false}
 use Rattle.std.specs.Prelude.{◌==◌}
 use Rattle.std.proofs.lemmas.List.Elements.{All-tail}
 use Rattle.std.specs.List.{All}
-use Rattle.lra_linear.specs.Range.{InRange}
+use Rattle.lra_linear_spec.specs.Range.{InRange}
 use Rattle.lra_oct.specs.declared.forms.Shape.{Shape}
 use Rattle.lra_oct.specs.declared.forms.Shape.TheVariants.{Constant, One, Two, Other}
 use Rattle.lra_oct.specs.Forms.{ShapeFits, Term, terms_at, terms_from, shape_of}

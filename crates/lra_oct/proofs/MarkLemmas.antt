@@ -1,7 +1,7 @@
 -- The mark of a tight octagon: what a change leaves of it, and a test that it lets pass.
 use Rattle.std.proofs.Common.{◌≡◌, ◌≢◌, ◌<◌, ℕ, ℤ, List, Bool, Option, IsTrue, inl, inr, refl, sym, subst}
 use Rattle.std.specs.Prelude.{◌⊎◌}
-use Rattle.lra_linear.specs.declared.ConKind.{ConKind}
+use Rattle.lra_linear_spec.specs.declared.ConKind.{ConKind}
 use Rattle.lra_lin.specs.Form.{Form}
 use Rattle.lra_domain.specs.declared.Exactness.{Exactness}
 use Rattle.lra_domain.specs.declared.Exactness.TheVariants.{Exact}

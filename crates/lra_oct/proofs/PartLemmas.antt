@@ -8,11 +8,11 @@ use Rattle.std.specs.List.{All}
 use Rattle.std.proofs.lemmas.Int.{ints}
 use Rattle.std.proofs.lemmas.List.{append-nil}
 use Rattle.std.proofs.lemmas.List.Elements.{All-cons}
-use Rattle.lra_linear.specs.Range.{InRange}
-use Rattle.lra_linear.specs.declared.ConKind.{ConKind}
-use Rattle.lra_linear.specs.declared.ConKind.TheVariants.{Ge, Eq}
+use Rattle.lra_linear_spec.specs.Range.{InRange}
+use Rattle.lra_linear_spec.specs.declared.ConKind.{ConKind}
+use Rattle.lra_linear_spec.specs.declared.ConKind.TheVariants.{Ge, Eq}
 use Rattle.lra_sys.specs.Listed.{Listed}
-use Rattle.lra_linear.proofs.UnitRows.{set_in_range, zeros_in_range}
+use Rattle.lra_linear_spec.proofs.UnitRows.{set_in_range, zeros_in_range}
 use Rattle.lra_box.proofs.PartLemmas.{kinds_append}
 use Rattle.lra_dbm.specs.Entry.{half_of, EntryInRange}
 use Rattle.lra_dbm.specs.Tight.{Entries, opposite, with_sign}

@@ -14,13 +14,13 @@ use Rattle.std.proofs.lemmas.Bool.{false≢true}
 use Rattle.std.proofs.lemmas.Bool.Decides.{eqb_tells, leb_tells}
 use Rattle.std.proofs.lemmas.List.{length-replicate}
 use Rattle.std.proofs.lemmas.List.Elements.{Contains-append_cases, Contains-append_left, Contains-append_right}
-use Rattle.lra_linear.specs.Echelon.{lead_from, pivot}
-use Rattle.lra_linear.specs.RowOrder.{Ascends, inequality_cmp}
-use Rattle.lra_linear.specs.Vectors.{entry}
-use Rattle.lra_linear.specs.declared.ConKind.{ConKind}
-use Rattle.lra_linear.specs.declared.ConKind.TheVariants.{Ge, Eq}
-use Rattle.lra_linear.proofs.Membership.{contains_cases, contains_none}
-use Rattle.lra_linear.proofs.Products.{entry_set_other, entry_set_same}
+use Rattle.lra_linear_spec.specs.Echelon.{lead_from, pivot}
+use Rattle.lra_linear_spec.specs.RowOrder.{Ascends, inequality_cmp}
+use Rattle.lra_linear_spec.specs.Vectors.{entry}
+use Rattle.lra_linear_spec.specs.declared.ConKind.{ConKind}
+use Rattle.lra_linear_spec.specs.declared.ConKind.TheVariants.{Ge, Eq}
+use Rattle.lra_linear_spec.proofs.Membership.{contains_cases, contains_none}
+use Rattle.lra_linear_spec.proofs.Products.{entry_set_other, entry_set_same}
 use Rattle.lra_box.proofs.RowLemmas.{ascends_append, earlier, entry_zeros, only_has, tied}
 use Rattle.lra_dbm.specs.Tight.{Entries, opposite}
 use Rattle.lra_dbm.proofs.Clears.{half_opposite, in_pair}

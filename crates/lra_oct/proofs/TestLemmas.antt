@@ -4,8 +4,8 @@ use Rattle.std.specs.Prelude.{◌-ℤ◌, ◌≤ℤ◌, neg_ℤ, int_lt, ◌⊎�
 use Rattle.std.specs.Int.{int_div_euclid}
 use Rattle.std.proofs.lemmas.Int.{ints}
 use Rattle.std.proofs.lemmas.Bool.{false≢true}
-use Rattle.lra_linear.specs.Vectors.{product}
-use Rattle.lra_linear.specs.declared.ConKind.TheVariants.{Ge, Eq}
+use Rattle.lra_linear_spec.specs.Vectors.{product}
+use Rattle.lra_linear_spec.specs.declared.ConKind.TheVariants.{Ge, Eq}
 use Rattle.lra_lin.specs.Form.{Form, form_value}
 use Rattle.lra_lin.proofs.FormLemmas.{product_negated}
 use Rattle.lra_domain.specs.Actions.{test}

@@ -6,11 +6,11 @@ use Rattle.std.proofs.Math.ListN.{length-set}
 use Rattle.std.proofs.lemmas.Int.{ints}
 use Rattle.std.proofs.lemmas.Bool.Decides.{eqb_tells, leb_tells}
 use Rattle.std.proofs.lemmas.List.{length-replicate}
-use Rattle.lra_linear.specs.declared.ConKind.{ConKind}
-use Rattle.lra_linear.specs.declared.ConKind.TheVariants.{Ge, Eq}
-use Rattle.lra_linear.specs.Vectors.{entry}
-use Rattle.lra_linear.proofs.CheckedArithmetic.{in_range_yes}
-use Rattle.lra_linear.proofs.Products.{entry_set_same}
+use Rattle.lra_linear_spec.specs.declared.ConKind.{ConKind}
+use Rattle.lra_linear_spec.specs.declared.ConKind.TheVariants.{Ge, Eq}
+use Rattle.lra_linear_spec.specs.Vectors.{entry}
+use Rattle.lra_linear_spec.proofs.CheckedArithmetic.{in_range_yes}
+use Rattle.lra_linear_spec.proofs.Products.{entry_set_same}
 use Rattle.lra_lin.specs.Form.{Form}
 use Rattle.lra_domain.specs.Actions.{Action, ActionFits, assign, forget, test, embed, remove_last}
 use Rattle.lra_domain.specs.Bounds.{greater}

@@ -6,7 +6,7 @@ use Rattle.std.specs.Prelude.{◌-ℤ◌, neg_ℤ, slice_index_or}
 use Rattle.std.specs.Option.{option_map}
 use Rattle.std.proofs.lemmas.Int.{ints}
 use Rattle.std.proofs.lemmas.Bool.Decides.{eqb_tells}
-use Rattle.lra_linear.specs.Vectors.{entry}
+use Rattle.lra_linear_spec.specs.Vectors.{entry}
 use Rattle.lra_dbm.specs.Entry.{◌⊑◌, ◌⊞◌, half_of, EntryInRange}
 use Rattle.lra_dbm.specs.Tight.{Entries, opposite, with_sign, signed_value, IsStore}
 use Rattle.lra_dbm.specs.Cells.{Cells, entries, IsMatrix}

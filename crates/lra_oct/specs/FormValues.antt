@@ -4,8 +4,8 @@ use Rattle.std.proofs.Common.{List, [], ◌∷◌, length, inl, inr, refl, ap, s
 use Rattle.std.specs.Prelude.{neg_ℤ}
 use Rattle.std.proofs.lemmas.Int.{ints}
 use Rattle.std.proofs.lemmas.Bool.Decides.{eqb_tells}
-use Rattle.lra_linear.specs.Vectors.{entry, dot, product}
-use Rattle.lra_linear.proofs.Ring.{mul_add}
+use Rattle.lra_linear_spec.specs.Vectors.{entry, dot, product}
+use Rattle.lra_linear_spec.proofs.Ring.{mul_add}
 use Rattle.lra_dbm.specs.Tight.{signed_value}
 use Rattle.lra_oct.specs.declared.forms.Shape.{Shape}
 use Rattle.lra_oct.specs.declared.forms.Shape.TheVariants.{Constant, One, Two, Other}

@@ -6,8 +6,8 @@ use Rattle.std.specs.Prelude.{neg_ℤ}
 use Rattle.std.specs.Prelude.{◌+ℤ◌, int_le, List, [], ◌∷◌, ◌++◌, length, replicate, slice_set, Option, None, Some}
 use Rattle.std.specs.Ordering.{int_eq}
 use Rattle.lra_sys.specs.Listed.{Listed}
-use Rattle.lra_linear.specs.declared.ConKind.{ConKind}
-use Rattle.lra_linear.specs.declared.ConKind.TheVariants.{Ge, Eq}
+use Rattle.lra_linear_spec.specs.declared.ConKind.{ConKind}
+use Rattle.lra_linear_spec.specs.declared.ConKind.TheVariants.{Ge, Eq}
 use Rattle.lra_dbm.specs.Tight.{Entries, opposite, with_sign}
 use Rattle.lra_dbm.specs.Cells.{Cells, entries}
 use Rattle.lra_oct.specs.Tables.{most}

@@ -4,7 +4,7 @@ use Rattle.std.proofs.Common.{Option, None, Some, ap, refl, sym, ◌∙◌, subs
 use Rattle.std.specs.Prelude.{◌-ℤ◌, neg_ℤ}
 use Rattle.std.specs.Option.{option_map}
 use Rattle.std.proofs.lemmas.Int.{ints}
-use Rattle.lra_linear.specs.Vectors.{entry}
+use Rattle.lra_linear_spec.specs.Vectors.{entry}
 use Rattle.lra_dbm.specs.Entry.{◌⊑◌, half_of}
 use Rattle.lra_dbm.specs.Tight.{Entries, opposite, signed_value, IsStore}
 use Rattle.lra_dbm.proofs.EntryLemmas.{le_same, le_trans}

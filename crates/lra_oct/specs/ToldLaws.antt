@@ -3,8 +3,8 @@ use Rattle.std.proofs.Common.{◌≡◌, ◌∙◌, ◌<◌, ◌*◌, ℕ, zero,
 use Rattle.std.proofs.Common.{cond, Option, None, Some, refl, sym, ap, subst, arith}
 use Rattle.std.specs.Prelude.{◌-ℤ◌, neg_ℤ}
 use Rattle.std.proofs.lemmas.Int.{ints}
-use Rattle.lra_linear.specs.Range.{in_range}
-use Rattle.lra_linear.specs.Vectors.{product}
+use Rattle.lra_linear_spec.specs.Range.{in_range}
+use Rattle.lra_linear_spec.specs.Vectors.{product}
 use Rattle.lra_lin.specs.Form.{Form, form_value}
 use Rattle.lra_domain.specs.Bounds.{IsLowerBound, IsBetween, IsUpperBound}
 use Rattle.lra_dbm.specs.Entry.{◌⊑◌}

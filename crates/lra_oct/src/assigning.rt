@@ -1,7 +1,7 @@
 //! Assignments of linear forms to a variable of an octagon.
 
 ghost use Rattle.std.specs.Prelude.{◌≡◌, ◌≤◌, ◌<◌, ◌^◌, length, unsigned_abs, All, Some, IfOk};
-ghost use Rattle.lra_linear.specs.Range.{InRange};
+ghost use Rattle.lra_linear_spec.specs.Range.{InRange};
 ghost use Rattle.lra_domain.specs.Actions.{assign};
 ghost use Rattle.lra_domain.specs.Meaning.{Meets};
 ghost use Rattle.lra_box.specs.Bounds.{form, EndsInRange};

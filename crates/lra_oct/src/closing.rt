@@ -1,7 +1,7 @@
 //! Bounds that are entered into the matrix of an octagon, which is then closed.
 
 ghost use Rattle.std.specs.Prelude.{◌≡◌, ◌≢◌, ◌≤◌, ◌<◌, ◌*◌, ◌/◌, ◌^◌, neg_ℤ};
-ghost use Rattle.lra_linear.specs.Range.{InRange};
+ghost use Rattle.lra_linear_spec.specs.Range.{InRange};
 ghost use Rattle.lra_dbm.specs.Cells.{IsMatrix};
 ghost use Rattle.lra_oct.specs.Content.{seen, DimsFit};
 ghost use Rattle.lra_oct.specs.Closed.{ClosedTo, Equates, EquatedTo};

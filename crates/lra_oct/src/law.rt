@@ -3,7 +3,7 @@
 ghost use Rattle.std.specs.Prelude.{◌≡◌, ◌↔◌, ℕ, ℤ, List};
 ghost use Rattle.std.specs.List.{Contains};
 ghost use Rattle.lra_domain.specs.Actions.{Action, ActionFits};
-ghost use Rattle.lra_linear.specs.RowOrder.{Ascends, inequality_cmp};
+ghost use Rattle.lra_linear_spec.specs.RowOrder.{Ascends, inequality_cmp};
 ghost use Rattle.lra_dbm.specs.Tight.{Entries};
 ghost use Rattle.lra_oct.specs.Content.{Content};
 ghost use Rattle.lra_oct.specs.ExactRows.{IsEqualityRow, IsInequalityRow};

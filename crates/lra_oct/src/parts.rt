@@ -1,8 +1,8 @@
 //! The rows that mean an octagon.
 
 ghost use Rattle.std.specs.Prelude.{◌≡◌, ◌≤◌, ◌<◌, ◌*◌, ◌^◌, ◌/◌, ◌-◌, ◌++◌, ◌+ℤ◌, ℕ, suc, length, IfOk, IfSome, OnOk};
-ghost use Rattle.lra_linear.specs.Range.{InRange};
-ghost use Rattle.lra_linear.specs.declared.ConKind.TheVariants.{Ge, Eq};
+ghost use Rattle.lra_linear_spec.specs.Range.{InRange};
+ghost use Rattle.lra_linear_spec.specs.declared.ConKind.TheVariants.{Ge, Eq};
 ghost use Rattle.lra_dbm.specs.Cells.{IsMatrix, entries, entry_at};
 ghost use Rattle.lra_oct.specs.Content.{seen, DimsFit};
 ghost use Rattle.lra_oct.specs.Tables.{IsHalf};
@@ -14,7 +14,7 @@ ghost use Rattle.lra_oct.specs.Parts.{octagon_parts, Pushed};
 use crate::bounds::Bounds;
 use crate::unary::most;
 use lra_dbm::{Matrix, opposite};
-use lra_linear::ConKind;
+use lra_linear_spec::ConKind;
 use lra_row::Row;
 use lra_sys::ConSys;
 use std::alloc::{AllocError, Global};

@@ -1,7 +1,7 @@
 //! What an octagon tells of a form, without memory: its least and its greatest value.
 
 ghost use Rattle.std.specs.Prelude.{◌≡◌, ◌≤◌, ◌<◌, ◌*◌, ◌^◌, length, Some, IfSome};
-ghost use Rattle.lra_linear.specs.Range.{InRange};
+ghost use Rattle.lra_linear_spec.specs.Range.{InRange};
 ghost use Rattle.lra_box.specs.Ends.{IsEnd};
 ghost use Rattle.lra_dbm.specs.Cells.{IsMatrix, entries};
 ghost use Rattle.lra_oct.specs.Content.{seen, CellsFit, DimsFit};

@@ -3,7 +3,7 @@
 ghost use Rattle.std.specs.Prelude.{◌≡◌, ◌≤◌, ◌<◌, ◌*◌, ◌^◌, ℕ, pos, length, unsigned_abs, All, Some, IfOk};
 ghost use Rattle.std.specs.Prelude.{slice_index_or};
 ghost use Rattle.std.specs.Int.{int_div_euclid};
-ghost use Rattle.lra_linear.specs.Range.{InRange};
+ghost use Rattle.lra_linear_spec.specs.Range.{InRange};
 ghost use Rattle.lra_domain.specs.Actions.{test};
 ghost use Rattle.lra_domain.specs.Meaning.{Meets};
 ghost use Rattle.lra_box.specs.Bounds.{form, EndsInRange, open_interval};
@@ -25,7 +25,7 @@ use lra_box::{Interval, opposite_row, refine_all, wide_row};
 use lra_dbm::Matrix;
 use lra_domain::{Exactness, worse};
 use lra_lin::Test;
-use lra_linear::ConKind;
+use lra_linear_spec::ConKind;
 use std::alloc::{AllocError, Global};
 
 /// The quotient, rounded down.

@@ -20,7 +20,7 @@ use crate::testing::quotient;
 use lra_dbm::{Matrix, opposite};
 use lra_domain::Exactness;
 use lra_lin::{LinExpr, Test};
-use lra_linear::ConKind;
+use lra_linear_spec::ConKind;
 
 /// The shape of the opposite form.
 fn opposite_shape(n: usize, shape: Shape) -> Shape

@@ -1,7 +1,7 @@
 //! The unary bounds of a matrix: an interval for each variable.
 
 ghost use Rattle.std.specs.Prelude.{◌≡◌, ◌≤◌, ◌<◌, ◌*◌, ◌^◌, ℕ, length, slice_index_or, IfOk, IfSome};
-ghost use Rattle.lra_linear.specs.Range.{InRange};
+ghost use Rattle.lra_linear_spec.specs.Range.{InRange};
 ghost use Rattle.lra_dbm.specs.Cells.{IsMatrix, entries};
 ghost use Rattle.lra_box.specs.Bounds.{EndsInRange, open_interval};
 ghost use Rattle.lra_oct.specs.Tables.{most, interval, intervals, upper_of, some_crossed, IsHalf};

@@ -6,31 +6,31 @@ use Rattle.std.proofs.lemmas.Int.{ints}
 use Rattle.std.proofs.lemmas.List.{length-replicate}
 use Rattle.std.proofs.lemmas.List.Elements.{Contains-append_cases, Contains-append_left, Contains-append_right}
 use Rattle.std.proofs.lemmas.List.Sorted.{Contains-permutation, IsPermutation-sym, length_permutation}
-use Rattle.lra_linear.specs.Vectors.{entry, dot, product, negated, zeros}
-use Rattle.lra_linear.specs.Cones.{both_ways, all_rows, AreDual}
-use Rattle.lra_linear.specs.Descriptions.{Given, Con, Gen, inequality, given_as, system_of, HoldsWith}
-use Rattle.lra_linear.specs.OperationStrain.{unit_row}
-use Rattle.lra_linear.specs.Points.{IsWithin, SameSet, IsEmptySet}
-use Rattle.lra_linear.specs.Polyhedra.{positivity, falsity}
-use Rattle.lra_linear.specs.Canonical.{IsCanonical}
-use Rattle.lra_linear.proofs.CanonicalForms.{no_repeat}
-use Rattle.lra_linear.proofs.Descriptions.{system_from, system_has, gen_generated, generated_gen, dual_same_points, dual_flipped}
-use Rattle.lra_linear.proofs.Combinations.{generated_row}
-use Rattle.lra_linear.proofs.LinearMaps.{generated_nonneg}
-use Rattle.lra_linear.proofs.Membership.{contains_head, contains_tail, contains_none, contains_cases}
-use Rattle.lra_linear.proofs.OneSpelling.{given_from, falsity_never, given_has}
-use Rattle.lra_linear.proofs.Lines.{signed_zero}
-use Rattle.lra_linear.proofs.Products.{negated_dot, dot_negated}
-use Rattle.lra_linear.proofs.Signs.{between_opposites}
+use Rattle.lra_linear_spec.specs.Vectors.{entry, dot, product, negated, zeros}
+use Rattle.lra_linear_spec.specs.Cones.{both_ways, all_rows, AreDual}
+use Rattle.lra_linear_spec.specs.Descriptions.{LinearRow, Con, Gen, inequality, rows_as, system_of, HoldsWith}
+use Rattle.lra_linear_spec.specs.OperationStrain.{unit_row}
+use Rattle.lra_linear_spec.specs.Points.{IsWithin, SameSet, IsEmptySet}
+use Rattle.lra_linear_spec.specs.Polyhedra.{positivity, falsity}
+use Rattle.lra_linear_spec.specs.Canonical.{IsCanonical}
+use Rattle.lra_linear_spec.proofs.CanonicalForms.{no_repeat}
+use Rattle.lra_linear_spec.proofs.Descriptions.{system_from, system_has, gen_generated, generated_gen, dual_same_points, dual_flipped}
+use Rattle.lra_linear_spec.proofs.Combinations.{generated_row}
+use Rattle.lra_linear_spec.proofs.LinearMaps.{generated_nonneg}
+use Rattle.lra_linear_spec.proofs.Membership.{contains_head, contains_tail, contains_none, contains_cases}
+use Rattle.lra_linear_spec.proofs.OneSpelling.{given_from, falsity_never, given_has}
+use Rattle.lra_linear_spec.proofs.Lines.{signed_zero}
+use Rattle.lra_linear_spec.proofs.Products.{negated_dot, dot_negated}
+use Rattle.lra_linear_spec.proofs.Signs.{between_opposites}
 use Rattle.lra_canon.proofs.Orders.{ascends}
 use Rattle.lra_canon.specs.declared.order.Order.TheVariants.{Inequalities}
 use Rattle.lra_sys.specs.Listed.{Listed, generators, constraints, given_by, FitsKind, FitKinds}
-use Rattle.lra_linear.specs.Kinds.{is_equality, is_line}
-use Rattle.lra_linear.specs.declared.ConKind.{ConKind}
-use Rattle.lra_linear.specs.declared.ConKind.TheVariants.{Ge, Eq}
-use Rattle.lra_linear.specs.declared.GenKind.{GenKind}
-use Rattle.lra_linear.specs.declared.GenKind.TheVariants.{Point, Ray, Line}
-use Rattle.lra_linear.specs.Strain.{Loss, Strains}
+use Rattle.lra_linear_spec.specs.Kinds.{is_equality, is_line}
+use Rattle.lra_linear_spec.specs.declared.ConKind.{ConKind}
+use Rattle.lra_linear_spec.specs.declared.ConKind.TheVariants.{Ge, Eq}
+use Rattle.lra_linear_spec.specs.declared.GenKind.{GenKind}
+use Rattle.lra_linear_spec.specs.declared.GenKind.TheVariants.{Point, Ray, Line}
+use Rattle.lra_linear_spec.specs.Strain.{Loss, Strains}
 use Rattle.lra_cone.specs.Cones.{Shape, IsCone}
 use Rattle.lra_cone.specs.Losses.{IfLost}
 use Rattle.lra_descriptions.specs.ShownLists.{without, ShowsConstraints, HasConstraints, AreConstraintsOf, dual_kind, IsSeenValid, IsValid, ShowsValid}
@@ -42,14 +42,14 @@ use Rattle.lra_descriptions.proofs.Parted.{without_from, without_has}
 use Rattle.lra_pair.proofs.GeneratorLists.{nothing_generated, at_points}
 
 -- ---- the list
-pub listed_constraints : (n : ℕ) (lines rays : List (List ℤ)) (list : Listed ConKind) (h : ShowsConstraints n lines rays list) → constraints list ≡ given_as true lines ++ given_as false h.inequalities
+pub listed_constraints : (n : ℕ) (lines rays : List (List ℤ)) (list : Listed ConKind) (h : ShowsConstraints n lines rays list) → constraints list ≡ rows_as true lines ++ rows_as false h.inequalities
 listed_constraints n lines rays list h =
     let es = replicate (length lines) Eq in
     let gs = replicate (length h.inequalities) Ge in
     ap (λ (x : List (List ℤ)). given_by is_equality x list.kinds) h.rows_are ∙ ap (given_by is_equality (lines ++ h.inequalities)) h.kinds_are ∙
     given_append is_equality lines h.inequalities es gs (sym (length-replicate (length lines) Eq)) ∙
-    ap (λ (x : List Given). x ++ given_by is_equality h.inequalities gs) (given_same is_equality lines Eq) ∙
-    ap (λ (x : List Given). given_as true lines ++ x) (given_same is_equality h.inequalities Ge)
+    ap (λ (x : List LinearRow). x ++ given_by is_equality h.inequalities gs) (given_same is_equality lines Eq) ∙
+    ap (λ (x : List LinearRow). rows_as true lines ++ x) (given_same is_equality h.inequalities Ge)
 
 shown_from : (n : ℕ) (lines rays : List (List ℤ)) (list : Listed ConKind) (h : ShowsConstraints n lines rays list) (r : List ℤ) → Contains h.inequalities r → Contains rays r × (r ≢ positivity n)
 shown_from n lines rays list h r m =
@@ -85,22 +85,22 @@ pub listed_hold : (n : ℕ) (system lines rays : List (List ℤ)) (list : Listed
     HasConstraints n system (constraints list)
 listed_hold n system lines rays list dual canonical h = (listed_facets n system lines rays list dual canonical h).0
 
-pub constraints_shown : (s : Shape) (n : ℕ) (given : List Given) (list : Listed ConKind) → IsCone s → s.dims ≡ n → s.taken ≡ given → ShowsConstraints n s.lines s.rays list →
+pub constraints_shown : (s : Shape) (n : ℕ) (given : List LinearRow) (list : Listed ConKind) → IsCone s → s.dims ≡ n → s.taken ≡ given → ShowsConstraints n s.lines s.rays list →
     HasConstraints n (system_of given) (constraints list)
 constraints_shown s n given list k d t h =
     listed_hold n (system_of given) s.lines s.rays list (subst (λ (m : ℕ). AreDual (suc m) (system_of given) (all_rows s.lines s.rays)) d
-    (subst (λ (l : List Given). AreDual (suc s.dims) (system_of l) (all_rows s.lines s.rays)) t k.dual)) k.canonical h
+    (subst (λ (l : List LinearRow). AreDual (suc s.dims) (system_of l) (all_rows s.lines s.rays)) t k.dual)) k.canonical h
 
 -- ---- the same points
-system_whole : (lines rays : List (List ℤ)) → system_of (given_as true lines ++ given_as false rays) ≡ both_ways lines ++ rays
-system_whole lines rays = system_append (given_as true lines) (given_as false rays) ∙ ap (λ (x : List (List ℤ)). x ++ system_of (given_as false rays)) (system_lines lines) ∙
+system_whole : (lines rays : List (List ℤ)) → system_of (rows_as true lines ++ rows_as false rays) ≡ both_ways lines ++ rays
+system_whole lines rays = system_append (rows_as true lines) (rows_as false rays) ∙ ap (λ (x : List (List ℤ)). x ++ system_of (rows_as false rays)) (system_lines lines) ∙
     ap (λ (x : List (List ℤ)). both_ways lines ++ x) (system_rays rays)
 
 swapped : (xs ys : List (List ℤ)) (t : List ℤ) → Contains (xs ++ ys) t → Contains (ys ++ xs) t
 swapped xs ys t m = elim (Contains-append_cases xs ys t m) [ inl i ↦ Contains-append_right ys xs t i | inr i ↦ Contains-append_left ys xs t i ]
 
-pub whole_dual : (n : ℕ) (generators : List Given) (rows : List Given) (h : HasConstraints n (system_of generators) rows) →
-    AreDual (suc n) (system_of (given_as true h.equalities ++ given_as false h.facets)) (system_of generators)
+pub whole_dual : (n : ℕ) (generators : List LinearRow) (rows : List LinearRow) (h : HasConstraints n (system_of generators) rows) →
+    AreDual (suc n) (system_of (rows_as true h.equalities ++ rows_as false h.facets)) (system_of generators)
 whole_dual n generators rows h =
     subst (λ (x : List (List ℤ)). AreDual (suc n) x (system_of generators)) (sym (system_whole h.equalities h.facets))
     (system_same (suc n) (all_rows h.equalities h.facets) (both_ways h.equalities ++ h.facets) (system_of generators) (swapped h.facets (both_ways h.equalities))
@@ -108,37 +108,37 @@ whole_dual n generators rows h =
     (dual_flipped (suc n) (system_of generators) (all_rows h.equalities h.facets) h.dual))
 
 -- the positivity row, which isn't shown, holds at each point
-pub shown_points : (n : ℕ) (system : List (List ℤ)) (rows : List Given) (h : HasConstraints n system rows) → SameSet n (Con rows) (Con (given_as true h.equalities ++ given_as false h.facets))
+pub shown_points : (n : ℕ) (system : List (List ℤ)) (rows : List LinearRow) (h : HasConstraints n system rows) → SameSet n (Con rows) (Con (rows_as true h.equalities ++ rows_as false h.facets))
 shown_points n system rows h = (
-  (λ x point con g m. elim (Contains-append_cases (given_as true h.equalities) (given_as false h.facets) g m) [
-    | inl i ↦ con g (subst (λ (l : List Given). Contains l g) (sym h.are) (Contains-append_left (given_as true h.equalities) (given_as false h.inequalities) g i))
+  (λ x point con g m. elim (Contains-append_cases (rows_as true h.equalities) (rows_as false h.facets) g m) [
+    | inl i ↦ con g (subst (λ (l : List LinearRow). Contains l g) (sym h.are) (Contains-append_left (rows_as true h.equalities) (rows_as false h.inequalities) g i))
     | inr i ↦
         let f = given_from false h.facets g i in
         elim (h.all_shown g.row f.1) [
           | inl e ↦ subst (λ b. HoldsWith b (product g.row x)) (sym f.0) (subst (λ (r : List ℤ). pos 0 ≤ℤ product r x) (sym e) (at_points n x point))
           | inr j ↦ subst (λ b. HoldsWith b (product g.row x)) (sym f.0) (con (record { row = g.row; equal = false })
-              (subst (λ (l : List Given). Contains l (record { row = g.row; equal = false })) (sym h.are)
-              (Contains-append_right (given_as true h.equalities) (given_as false h.inequalities) (record { row = g.row; equal = false }) (given_has false h.inequalities g.row j))))
+              (subst (λ (l : List LinearRow). Contains l (record { row = g.row; equal = false })) (sym h.are)
+              (Contains-append_right (rows_as true h.equalities) (rows_as false h.inequalities) (record { row = g.row; equal = false }) (given_has false h.inequalities g.row j))))
         ]
   ]),
-  (λ x point con g m. elim (Contains-append_cases (given_as true h.equalities) (given_as false h.inequalities) g (subst (λ (l : List Given). Contains l g) h.are m)) [
-    | inl i ↦ con g (Contains-append_left (given_as true h.equalities) (given_as false h.facets) g i)
+  (λ x point con g m. elim (Contains-append_cases (rows_as true h.equalities) (rows_as false h.inequalities) g (subst (λ (l : List LinearRow). Contains l g) h.are m)) [
+    | inl i ↦ con g (Contains-append_left (rows_as true h.equalities) (rows_as false h.facets) g i)
     | inr i ↦
         let f = given_from false h.inequalities g i in
         subst (λ b. HoldsWith b (product g.row x)) (sym f.0) (con (record { row = g.row; equal = false })
-        (Contains-append_right (given_as true h.equalities) (given_as false h.facets) (record { row = g.row; equal = false }) (given_has false h.facets g.row (h.shown g.row f.1).0)))
+        (Contains-append_right (rows_as true h.equalities) (rows_as false h.facets) (record { row = g.row; equal = false }) (given_has false h.facets g.row (h.shown g.row f.1).0)))
   ]),
 )
 
-pub same_constraints : (n : ℕ) (generators rows : List Given) → AreConstraintsOf n generators rows → SameSet n (Con rows) (Gen generators)
+pub same_constraints : (n : ℕ) (generators rows : List LinearRow) → AreConstraintsOf n generators rows → SameSet n (Con rows) (Gen generators)
 same_constraints n generators rows (inl h) = (
-  λ x point con. absurd (falsity_never n x point (con (inequality (falsity n)) (subst (λ (l : List Given). Contains l (inequality (falsity n))) (sym h.0)
+  λ x point con. absurd (falsity_never n x point (con (inequality (falsity n)) (subst (λ (l : List LinearRow). Contains l (inequality (falsity n))) (sym h.0)
       (contains_head (inequality (falsity n)) [])))),
   λ x point gen. absurd (h.1 x point gen),
 )
 same_constraints n generators rows (inr x) =
     let h = x.1 in
-    let whole = given_as true h.equalities ++ given_as false h.facets in
+    let whole = rows_as true h.equalities ++ rows_as false h.facets in
     let a = shown_points n (system_of generators) rows h in
     let b = dual_same_points n whole generators (whole_dual n generators rows h) in (
       λ x point con. b.0 x point (a.0 x point con),
@@ -154,11 +154,11 @@ pub nothing_is : (n : ℕ) (list : Listed ConKind) → list.rows ≡ negated (un
 nothing_is n list er ek = ap (λ (x : List (List ℤ)). given_by is_equality x list.kinds) er ∙ ap (given_by is_equality (negated (unit_row n 0) ∷ [])) ek ∙
     ap (λ (x : List ℤ). inequality (negsuc 0 ∷ x) ∷ []) (negated_zeros n)
 
-flat_kinds : (rows : List (List ℤ)) (kinds : List GenKind) → FitKinds rows kinds → ¬ (Contains kinds Point) → (g : Given) → Contains (given_by is_line rows kinds) g → entry g.row 0 ≡ pos 0
+flat_kinds : (rows : List (List ℤ)) (kinds : List GenKind) → FitKinds rows kinds → ¬ (Contains kinds Point) → (g : LinearRow) → Contains (given_by is_line rows kinds) g → entry g.row 0 ≡ pos 0
 flat_kinds [] kinds f n g m = absurd (contains_none g m)
 flat_kinds (r ∷ rows) [] f n g m = absurd (contains_none g m)
-flat_kinds (r ∷ rows) (k ∷ kinds) f n g m = elim (contains_cases (let x : Given = record { row = r; equal = is_line k } in x) g (given_by is_line rows kinds) m) [
-  | inl e ↦ subst (λ (y : Given). entry y.row 0 ≡ pos 0) e (here k f.0 (λ e. n (subst (λ (q : GenKind). Contains (q ∷ kinds) Point) (sym e) (contains_head Point kinds))))
+flat_kinds (r ∷ rows) (k ∷ kinds) f n g m = elim (contains_cases (let x : LinearRow = record { row = r; equal = is_line k } in x) g (given_by is_line rows kinds) m) [
+  | inl e ↦ subst (λ (y : LinearRow). entry y.row 0 ≡ pos 0) e (here k f.0 (λ e. n (subst (λ (q : GenKind). Contains (q ∷ kinds) Point) (sym e) (contains_head Point kinds))))
   | inr i ↦ flat_kinds rows kinds f.1 (λ i. n (contains_tail k Point kinds i)) g i
 ]
   where
@@ -178,7 +178,7 @@ no_point_given n given f none x point gen =
     either (inr b) = inr b.1
 
 -- ---- after a loss: what is valid on each generator holds at each of their points
-valid_at : (given : List Given) (equal : Bool) (r x : List ℤ) → IsValid equal r given → Gen given x → HoldsWith equal (product r x)
+valid_at : (given : List LinearRow) (equal : Bool) (r x : List ℤ) → IsValid equal r given → Gen given x → HoldsWith equal (product r x)
 valid_at given true r x valid gen =
     let g = gen_generated given (entry x) gen in
     between_opposites (product r x) (dot (negated r) (entry x)) (negated_dot r (entry x))
@@ -208,7 +208,7 @@ valid_at given false r x valid gen = generated_nonneg r (system_of given) (entry
     ]
 
 -- a list of those that are seen to be valid
-module _ {E : Type 0} (n : ℕ) (cone_lines cone_rays lines rays : List (List ℤ)) (given : List Given) (el : lines ≡ cone_lines) (er : rays ≡ cone_rays) where
+module _ {E : Type 0} (n : ℕ) (cone_lines cone_rays lines rays : List (List ℤ)) (given : List LinearRow) (el : lines ≡ cone_lines) (er : rays ≡ cone_rays) where
   pub shows_valid : (width : ℕ) (shown_lines shown_rays valid_lines valid_rays : List (List ℤ)) (result : Result (Listed ConKind) E) → width ≡ n → shown_lines ≡ valid_lines → shown_rays ≡ valid_rays →
       ((r : List ℤ) → (Contains valid_lines r ↔ (Contains lines r × IsSeenValid true r given))) → ((r : List ℤ) → (Contains valid_rays r ↔ (Contains rays r × IsSeenValid false r given))) →
       IfOk result (ShowsConstraints width shown_lines shown_rays) → IfOk result (ShowsValid n cone_lines cone_rays given)
@@ -223,12 +223,12 @@ module _ {E : Type 0} (n : ℕ) (cone_lines cone_rays lines rays : List (List �
   }
 
 -- what is seen to be valid is so
-seen_valid : (b : Bool) (r : List ℤ) (given : List Given) → IsSeenValid b r given → IsValid b r given
+seen_valid : (b : Bool) (r : List ℤ) (given : List LinearRow) → IsSeenValid b r given → IsValid b r given
 seen_valid b r given s g m = let v = s g m in (v.1, v.2)
 
-pub valid_within : (n : ℕ) (cone : Shape) (given : List Given) (list : Listed ConKind) → ShowsValid n cone.lines cone.rays given list → IsWithin n (Gen given) (Con (constraints list))
-valid_within n cone given list h x point gen g m = elim (Contains-append_cases (given_as true h.lines) (given_as false h.shown.inequalities) g
-    (subst (λ (l : List Given). Contains l g) (listed_constraints n h.lines h.rays list h.shown) m)) [
+pub valid_within : (n : ℕ) (cone : Shape) (given : List LinearRow) (list : Listed ConKind) → ShowsValid n cone.lines cone.rays given list → IsWithin n (Gen given) (Con (constraints list))
+valid_within n cone given list h x point gen g m = elim (Contains-append_cases (rows_as true h.lines) (rows_as false h.shown.inequalities) g
+    (subst (λ (l : List LinearRow). Contains l g) (listed_constraints n h.lines h.rays list h.shown) m)) [
       | inl i ↦ let f = given_from true h.lines g i in subst (λ b. HoldsWith b (product g.row x)) (sym f.0)
           (valid_at given true g.row x (seen_valid true g.row given ((h.lines_valid g.row).0 f.1).1) gen)
       | inr i ↦ let f = given_from false h.shown.inequalities g i in subst (λ b. HoldsWith b (product g.row x)) (sym f.0)
@@ -236,25 +236,26 @@ valid_within n cone given list h x point gen g m = elim (Contains-append_cases (
     ]
 
 -- ---- what the code gives back
-point_among : (rows : List (List ℤ)) (kinds : List GenKind) → length kinds ≡ length rows → FitKinds rows kinds → Contains kinds Point → (g : Given) × Contains (given_by is_line rows kinds) g ×
+point_among : (rows : List (List ℤ)) (kinds : List GenKind) → length kinds ≡ length rows → FitKinds rows kinds → Contains kinds Point → (g : LinearRow) × Contains (given_by is_line rows kinds) g ×
     (pos 0 <ℤ entry g.row 0)
 point_among [] [] n f m = absurd (contains_none Point m)
 point_among [] (k ∷ kinds) n f m = absurd (omega (arith, n))
 point_among (r ∷ rows) [] n f m = absurd (omega (arith, n))
 point_among (r ∷ rows) (k ∷ kinds) n f m = here k f.0 (point_cases (contains_cases k Point kinds m) (λ i. point_among rows kinds (omega (arith, n)) f.1 i))
   where
-    point_cases : (k ≡ Point) ⊎ Contains kinds Point → (Contains kinds Point → (g : Given) × Contains (given_by is_line rows kinds) g × (pos 0 <ℤ entry g.row 0)) → (k ≡ Point) ⊎
-        ((g : Given) × Contains (given_by is_line rows kinds) g × (pos 0 <ℤ entry g.row 0))
+    point_cases : (k ≡ Point) ⊎ Contains kinds Point → (Contains kinds Point → (g : LinearRow) × Contains (given_by is_line rows kinds) g × (pos 0 <ℤ entry g.row 0)) → (k ≡ Point) ⊎
+        ((g : LinearRow) × Contains (given_by is_line rows kinds) g × (pos 0 <ℤ entry g.row 0))
     point_cases (inl e) later = inl e
     point_cases (inr i) later = inr (later i)
 
     first : (k : GenKind) → FitsKind k r → k ≡ Point → pos 0 <ℤ entry r 0
     first k f e = subst (λ (q : GenKind). FitsKind q r) e f
 
-    here : (k : GenKind) → FitsKind k r → (k ≡ Point) ⊎ ((g : Given) × Contains (given_by is_line rows kinds) g × (pos 0 <ℤ entry g.row 0)) → (g : Given) ×
+    here : (k : GenKind) → FitsKind k r → (k ≡ Point) ⊎ ((g : LinearRow) × Contains (given_by is_line rows kinds) g × (pos 0 <ℤ entry g.row 0)) →
+        (g : LinearRow) ×
         Contains (record { row = r; equal = is_line k } ∷ given_by is_line rows kinds) g × (pos 0 <ℤ entry g.row 0)
-    here k f (inl e) = (record { row = r; equal = is_line k }, contains_head (let g : Given = record { row = r; equal = is_line k } in g) (given_by is_line rows kinds), first k f e)
-    here k f (inr x) = (x.0, contains_tail (let g : Given = record { row = r; equal = is_line k } in g) x.0 (given_by is_line rows kinds) x.1, x.2)
+    here k f (inl e) = (record { row = r; equal = is_line k }, contains_head (let g : LinearRow = record { row = r; equal = is_line k } in g) (given_by is_line rows kinds), first k f e)
+    here k f (inr x) = (x.0, contains_tail (let g : LinearRow = record { row = r; equal = is_line k } in g) x.0 (given_by is_line rows kinds) x.1, x.2)
 
 -- a point among the generators is one of their points
 pub some_point : (n : ℕ) (given : Listed GenKind) → length given.kinds ≡ length given.rows → FitKinds given.rows given.kinds → Contains given.kinds Point →
@@ -264,7 +265,7 @@ some_point n given many f m widths none =
     let has = system_has (generators given) x.0 x.1 in
     none x.0.row (record { width = widths x.0.row has; divisor = x.2 }) (generated_gen (generators given) (entry x.0.row) (generated_row (system_of (generators given)) x.0.row has))
 
-pub record Constrained (n : ℕ) (given rows : List Given) (losses : List Loss) : Type 0 where
+pub record Constrained (n : ℕ) (given rows : List LinearRow) (losses : List Loss) : Type 0 where
   pub exact : losses ≡ [] → SameSet n (Con rows) (Gen given)
   pub within : IsWithin n (Gen given) (Con rows)
   pub strain : IfLost (Strains (suc n) given) losses
@@ -277,7 +278,7 @@ nothing_constrained n given list losses f none er ek el =
     let same = same_constraints n (generators given) (constraints list) a in
     record { exact = λ _. same; within = same.1; strain = subst (IfLost (Strains (suc n) (generators given))) (sym el) tt; canonical = λ _. a }
 
-pub constrained : (n : ℕ) (given : Listed GenKind) (rows list : Listed ConKind) (cone : Shape) (kept : List Given) (losses : List Loss) → length given.kinds ≡ length given.rows →
+pub constrained : (n : ℕ) (given : Listed GenKind) (rows list : Listed ConKind) (cone : Shape) (kept : List LinearRow) (losses : List Loss) → length given.kinds ≡ length given.rows →
     FitKinds given.rows given.kinds → Contains given.kinds Point →
     rows.rows ≡ given.rows → rows.kinds ≡ map dual_kind given.kinds → rows.dims ≡ n → cone.dims ≡ n → IsConversion [] (constraints rows) kept cone losses →
     IsCone cone →
@@ -292,7 +293,7 @@ constrained n given rows list cone kept losses many f m er ek ed is_n c k shown 
     record {
       exact = λ none. same_constraints n (generators given) (constraints list) (canonical none);
       within = by_losses losses refl canonical valid all ed;
-      strain = subst (λ (l : List Given). IfLost (Strains (suc n) l) losses) all (subst (λ (i : ℕ). IfLost (Strains (suc i) (constraints rows)) losses) is_n c.strain);
+      strain = subst (λ (l : List LinearRow). IfLost (Strains (suc n) l) losses) all (subst (λ (i : ℕ). IfLost (Strains (suc i) (constraints rows)) losses) is_n c.strain);
       canonical = canonical;
     }
   where
@@ -301,7 +302,7 @@ constrained n given rows list cone kept losses many f m er ek ed is_n c k shown 
         constraints rows ≡ generators given → rows.dims ≡ n → IsWithin n (Gen (generators given)) (Con (constraints list))
     by_losses [] e canonical valid all d = (same_constraints n (generators given) (constraints list) (canonical e)).1
     by_losses (x ∷ l) e canonical valid all d =
-        valid_within n cone (generators given) list (subst (λ (g : List Given). ShowsValid n cone.lines cone.rays g list) all
+        valid_within n cone (generators given) list (subst (λ (g : List LinearRow). ShowsValid n cone.lines cone.rays g list) all
         (subst (λ (i : ℕ). ShowsValid i cone.lines cone.rays (constraints rows) list) d (valid (λ z. some_loss x l (sym e ∙ z)))))
       where
         some_loss : (x : Loss) (l : List Loss) → x ∷ l ≡ [] → ⊥

@@ -4,26 +4,26 @@ use Rattle.std.specs.List.{Contains}
 use Rattle.std.proofs.lemmas.Int.{ints}
 use Rattle.std.proofs.lemmas.List.{length-append, length-replicate}
 use Rattle.std.proofs.lemmas.List.Elements.{Contains-append_cases, Contains-append_left, Contains-append_right}
-use Rattle.lra_linear.specs.Vectors.{entry, dot, product, negated}
-use Rattle.lra_linear.specs.Canonical.{IsCanonical}
-use Rattle.lra_linear.specs.Cones.{Generated, both_ways, all_rows, AreDual}
-use Rattle.lra_linear.specs.Descriptions.{Given, Con, Gen, inequality, given_as, system_of}
-use Rattle.lra_linear.specs.Points.{IsPoint, SameSet, IsEmptySet}
-use Rattle.lra_linear.specs.Polyhedra.{positivity, falsity}
-use Rattle.lra_linear.proofs.Descriptions.{con_solves, con_cons, con_tail, dual_same_points}
-use Rattle.lra_linear.proofs.LinearMaps.{generated_nonneg}
-use Rattle.lra_linear.proofs.Lines.{signed_from, signed_zero, in_lines, in_lines_negated}
-use Rattle.lra_linear.proofs.Membership.{contains_head, contains_none}
-use Rattle.lra_linear.proofs.OneSpelling.{positivity_product, falsity_never}
-use Rattle.lra_linear.proofs.Polyhedra.{con_gen}
-use Rattle.lra_linear.proofs.Products.{entry_negated, negated_dot}
-use Rattle.lra_linear.proofs.Signs.{between_opposites}
+use Rattle.lra_linear_spec.specs.Vectors.{entry, dot, product, negated}
+use Rattle.lra_linear_spec.specs.Canonical.{IsCanonical}
+use Rattle.lra_linear_spec.specs.Cones.{Generated, both_ways, all_rows, AreDual}
+use Rattle.lra_linear_spec.specs.Descriptions.{LinearRow, Con, Gen, inequality, rows_as, system_of}
+use Rattle.lra_linear_spec.specs.Points.{IsPoint, SameSet, IsEmptySet}
+use Rattle.lra_linear_spec.specs.Polyhedra.{positivity, falsity}
+use Rattle.lra_linear_spec.proofs.Descriptions.{con_solves, con_cons, con_tail, dual_same_points}
+use Rattle.lra_linear_spec.proofs.LinearMaps.{generated_nonneg}
+use Rattle.lra_linear_spec.proofs.Lines.{signed_from, signed_zero, in_lines, in_lines_negated}
+use Rattle.lra_linear_spec.proofs.Membership.{contains_head, contains_none}
+use Rattle.lra_linear_spec.proofs.OneSpelling.{positivity_product, falsity_never}
+use Rattle.lra_linear_spec.proofs.Polyhedra.{con_gen}
+use Rattle.lra_linear_spec.proofs.Products.{entry_negated, negated_dot}
+use Rattle.lra_linear_spec.proofs.Signs.{between_opposites}
 use Rattle.lra_canon.proofs.Orders.{ascends}
 use Rattle.lra_canon.specs.declared.order.Order.TheVariants.{Generators}
-use Rattle.lra_linear.specs.Kinds.{is_line}
+use Rattle.lra_linear_spec.specs.Kinds.{is_line}
 use Rattle.lra_sys.specs.Listed.{Listed, generators, given_by, FitKinds}
-use Rattle.lra_linear.specs.declared.GenKind.{GenKind}
-use Rattle.lra_linear.specs.declared.GenKind.TheVariants.{Point, Ray, Line}
+use Rattle.lra_linear_spec.specs.declared.GenKind.{GenKind}
+use Rattle.lra_linear_spec.specs.declared.GenKind.TheVariants.{Point, Ray, Line}
 use Rattle.lra_cone.specs.Cones.{Shape, IsCone}
 use Rattle.lra_descriptions.specs.ShownLists.{points_of, ListsGenerators, ShowsGenerators, HasGenerators, AreGeneratorsOf}
 use Rattle.lra_cone.proofs.Reordered.{dual_again, canonical_again}
@@ -38,16 +38,18 @@ as_many xs ys j k =
     sym (length-append (replicate (length xs) j) (replicate (length ys) k))
 
 pub listed_generators : (lines rays : List (List ℤ)) (list : Listed GenKind) (h : ListsGenerators lines rays list) →
-    generators list ≡ given_as false h.points ++ given_as false h.directions ++ given_as true lines
+    generators list ≡ rows_as false h.points ++ rows_as false h.directions ++ rows_as true lines
 listed_generators lines rays list h =
     let ps = replicate (length h.points) Point in
     let rs = replicate (length h.directions) Ray in
     let ls = replicate (length lines) Line in
     ap (λ (x : List (List ℤ)). given_by is_line x list.kinds) h.rows_are ∙ ap (given_by is_line ((h.points ++ h.directions) ++ lines)) h.kinds_are ∙
     given_append is_line (h.points ++ h.directions) lines (ps ++ rs) ls (as_many h.points h.directions Point Ray) ∙
-    ap (λ (x : List Given). x ++ given_by is_line lines ls) (given_append is_line h.points h.directions ps rs (sym (length-replicate (length h.points) Point)) ∙
-    ap (λ (x : List Given). x ++ given_by is_line h.directions rs) (given_same is_line h.points Point) ∙ ap (λ (x : List Given). given_as false h.points ++ x) (given_same is_line h.directions Ray)) ∙
-    ap (λ (x : List Given). (given_as false h.points ++ given_as false h.directions) ++ x) (given_same is_line lines Line)
+    ap (λ (x : List LinearRow). x ++ given_by is_line lines ls)
+    (given_append is_line h.points h.directions ps rs (sym (length-replicate (length h.points) Point)) ∙
+    ap (λ (x : List LinearRow). x ++ given_by is_line h.directions rs) (given_same is_line h.points Point)
+    ∙ ap (λ (x : List LinearRow). rows_as false h.points ++ x) (given_same is_line h.directions Ray)) ∙
+    ap (λ (x : List LinearRow). (rows_as false h.points ++ rows_as false h.directions) ++ x) (given_same is_line lines Line)
 
 listed_fit : (lines rays : List (List ℤ)) (list : Listed GenKind) (h : ListsGenerators lines rays list) → ((r : List ℤ) → Contains h.points r → pos 0 <ℤ entry r 0) →
     ((r : List ℤ) → Contains h.directions r ⊎ Contains lines r → entry r 0 ≡ pos 0) → FitKinds list.rows list.kinds
@@ -61,10 +63,10 @@ listed_fit lines rays list h above flat =
     (fit_same lines Line (λ r m. flat r (inr m)))))
 
 -- ---- column 0 of a cone with the positivity row
-pub at_least_zero : (s : Shape) (kept : List Given) → IsCone s → s.taken ≡ inequality (positivity s.dims) ∷ kept → (t : List ℤ) → Contains (all_rows s.lines s.rays) t → pos 0 ≤ℤ entry t 0
+pub at_least_zero : (s : Shape) (kept : List LinearRow) → IsCone s → s.taken ≡ inequality (positivity s.dims) ∷ kept → (t : List ℤ) → Contains (all_rows s.lines s.rays) t → pos 0 ≤ℤ entry t 0
 at_least_zero s kept k e t m =
     subst (λ z. pos 0 ≤ℤ z) (positivity_product s.dims t)
-    (k.dual.meets t m (positivity s.dims) (subst (λ (l : List Given). Contains (system_of l) (positivity s.dims)) (sym e) (contains_head (positivity s.dims) (system_of kept))))
+    (k.dual.meets t m (positivity s.dims) (subst (λ (l : List LinearRow). Contains (system_of l) (positivity s.dims)) (sym e) (contains_head (positivity s.dims) (system_of kept))))
 
 flat_line : (lines rays : List (List ℤ)) → ((t : List ℤ) → Contains (all_rows lines rays) t → pos 0 ≤ℤ entry t 0) → (l : List ℤ) → Contains lines l → entry l 0 ≡ pos 0
 flat_line lines rays nonneg l m =
@@ -106,12 +108,13 @@ flat_rows lines rays nonneg none t m = elim (Contains-append_cases rays (both_wa
 ]
 
 -- then there is no point
-no_points : (s : Shape) (kept : List Given) → IsCone s → s.taken ≡ inequality (positivity s.dims) ∷ kept → points_of s.rays ≡ [] → IsEmptySet s.dims (Con kept)
+no_points : (s : Shape) (kept : List LinearRow) → IsCone s → s.taken ≡ inequality (positivity s.dims) ∷ kept → points_of s.rays ≡ [] →
+    IsEmptySet s.dims (Con kept)
 no_points s kept k e none x point con =
     let n = s.dims in
     let holds : Con (inequality (positivity n) ∷ kept) x = con_cons (inequality (positivity n)) kept x (at_points n x point) con in
     nothing_generated n (all_rows s.lines s.rays) x point (flat_rows s.lines s.rays (at_least_zero s kept k e) none)
-    (k.dual.solutions x point.width (con_solves s.taken x (subst (λ (l : List Given). Con l x) (sym e) holds)))
+    (k.dual.solutions x point.width (con_solves s.taken x (subst (λ (l : List LinearRow). Con l x) (sym e) holds)))
 
 -- ---- the list that is shown
 -- of any canonical description of which no row is below 0 in column 0
@@ -147,7 +150,7 @@ pub listed_have : (n : ℕ) (system lines rays : List (List ℤ)) (list : Listed
     HasGenerators n system (generators list) × FitKinds list.rows list.kinds
 listed_have n system lines rays list dual canonical nonneg h = let x = listed_counted n system lines rays list dual canonical nonneg h in (x.0, x.1)
 
-pub generators_shown : (s : Shape) (n : ℕ) (kept : List Given) (list : Listed GenKind) → IsCone s → s.dims ≡ n → s.taken ≡ inequality (positivity n) ∷ kept → ShowsGenerators s.lines s.rays list →
+pub generators_shown : (s : Shape) (n : ℕ) (kept : List LinearRow) (list : Listed GenKind) → IsCone s → s.dims ≡ n → s.taken ≡ inequality (positivity n) ∷ kept → ShowsGenerators s.lines s.rays list →
     AreGeneratorsOf n kept (generators list) × FitKinds list.rows list.kinds
 generators_shown s n kept list k d t shown = subst (λ (m : ℕ). AreGeneratorsOf m kept (generators list) × FitKinds list.rows list.kinds) d
     (here (t ∙ ap (λ (m : ℕ). inequality (positivity m) ∷ kept) (sym d)) shown)
@@ -159,20 +162,20 @@ generators_shown s n kept list k d t shown = subst (λ (m : ℕ). AreGeneratorsO
     )
     here e (inr h) =
         let x = listed_have s.dims (system_of s.taken) s.lines s.rays list k.dual k.canonical (at_least_zero s kept k e) h in
-        (inr (subst (λ (l : List Given). HasGenerators s.dims (system_of l) (generators list)) e x.0), x.1)
+        (inr (subst (λ (l : List LinearRow). HasGenerators s.dims (system_of l) (generators list)) e x.0), x.1)
 
 -- ---- the same points
-pub system_of_generators : (n : ℕ) (system : List (List ℤ)) (list : List Given) (h : HasGenerators n system list) → system_of list ≡ all_rows h.lines (h.points ++ h.rays)
+pub system_of_generators : (n : ℕ) (system : List (List ℤ)) (list : List LinearRow) (h : HasGenerators n system list) → system_of list ≡ all_rows h.lines (h.points ++ h.rays)
 system_of_generators n system list h =
-    ap system_of h.are ∙ system_append (given_as false h.points ++ given_as false h.rays) (given_as true h.lines) ∙
-    ap (λ (x : List (List ℤ)). x ++ system_of (given_as true h.lines)) (system_append (given_as false h.points) (given_as false h.rays) ∙
-    ap (λ (x : List (List ℤ)). x ++ system_of (given_as false h.rays)) (system_rays h.points) ∙ ap (λ (x : List (List ℤ)). h.points ++ x) (system_rays h.rays)) ∙
+    ap system_of h.are ∙ system_append (rows_as false h.points ++ rows_as false h.rays) (rows_as true h.lines) ∙
+    ap (λ (x : List (List ℤ)). x ++ system_of (rows_as true h.lines)) (system_append (rows_as false h.points) (rows_as false h.rays) ∙
+    ap (λ (x : List (List ℤ)). x ++ system_of (rows_as false h.rays)) (system_rays h.points) ∙ ap (λ (x : List (List ℤ)). h.points ++ x) (system_rays h.rays)) ∙
     ap (λ (x : List (List ℤ)). (h.points ++ h.rays) ++ x) (system_lines h.lines)
 
-pub same_points : (n : ℕ) (rows list : List Given) → AreGeneratorsOf n rows list → SameSet n (Con rows) (Gen list)
+pub same_points : (n : ℕ) (rows list : List LinearRow) → AreGeneratorsOf n rows list → SameSet n (Con rows) (Gen list)
 same_points n rows list (inl h) = (
   λ x point con. absurd (h.1 x point con),
-  λ x point gen. absurd (nothing x point (subst (λ (l : List Given). Gen l x) h.0 gen)),
+  λ x point gen. absurd (nothing x point (subst (λ (l : List LinearRow). Gen l x) h.0 gen)),
 )
   where
     nothing : (x : List ℤ) → IsPoint n x → Gen [] x → ⊥
@@ -188,9 +191,9 @@ same_points n rows list (inr h) =
     )
 
 -- as the code tells it
-pub generated : (cone start : Shape) (n dims : ℕ) (kept : List Given) (lines rays : List (List ℤ)) (list : Listed GenKind) → IsCone cone → dims ≡ n → cone.dims ≡ start.dims → start.dims ≡ dims →
+pub generated : (cone start : Shape) (n dims : ℕ) (kept : List LinearRow) (lines rays : List (List ℤ)) (list : Listed GenKind) → IsCone cone → dims ≡ n → cone.dims ≡ start.dims → start.dims ≡ dims →
     start.taken ≡ inequality (positivity dims) ∷ [] → cone.taken ≡ start.taken ++ kept →
     lines ≡ cone.lines → rays ≡ cone.rays → ShowsGenerators lines rays list → AreGeneratorsOf n kept (generators list) × FitKinds list.rows list.kinds
 generated cone start n dims kept lines rays list k en ec es et taken el er shown =
-    generators_shown cone n kept list k (ec ∙ es ∙ en) (taken ∙ ap (λ (l : List Given). l ++ kept) (et ∙ ap (λ (m : ℕ). inequality (positivity m) ∷ []) en))
+    generators_shown cone n kept list k (ec ∙ es ∙ en) (taken ∙ ap (λ (l : List LinearRow). l ++ kept) (et ∙ ap (λ (m : ℕ). inequality (positivity m) ∷ []) en))
     (subst (λ (x : List (List ℤ)). ShowsGenerators x cone.rays list) el (subst (λ (x : List (List ℤ)). ShowsGenerators lines x list) er shown))

@@ -3,24 +3,24 @@ use Rattle.std.proofs.Common.{◌≡◌, ◌≢◌, ℕ, zero, suc, ◌<◌, ◌
 use Rattle.std.specs.List.{Contains}
 use Rattle.std.proofs.lemmas.List.{take_all}
 use Rattle.std.proofs.lemmas.List.Elements.{Contains-append_cases}
-use Rattle.lra_linear.specs.declared.Cause.{Cause}
-use Rattle.lra_linear.specs.Descriptions.{Given, AreGenerators, Gen, system_of}
-use Rattle.lra_linear.specs.OperationStrain.{FromGeneratorsStrains, with_positivity}
-use Rattle.lra_linear.specs.Points.{IsEmptySet}
-use Rattle.lra_linear.specs.Polyhedra.{Polyhedron}
-use Rattle.lra_linear.specs.Strain.{Loss, Strains}
+use Rattle.lra_linear_spec.specs.declared.Cause.{Cause}
+use Rattle.lra_linear_spec.specs.Descriptions.{LinearRow, AreGenerators, Gen, system_of}
+use Rattle.lra_linear_spec.specs.OperationStrain.{FromGeneratorsStrains, with_positivity}
+use Rattle.lra_linear_spec.specs.Points.{IsEmptySet}
+use Rattle.lra_linear_spec.specs.Polyhedra.{Polyhedron}
+use Rattle.lra_linear_spec.specs.Strain.{Loss, Strains}
 use Rattle.lra_sys.specs.Listed.{Listed, constraints, generators, given_by, FitKinds}
-use Rattle.lra_linear.specs.Kinds.{is_equality}
-use Rattle.lra_linear.specs.declared.ConKind.{ConKind}
-use Rattle.lra_linear.specs.declared.GenKind.{GenKind}
-use Rattle.lra_linear.specs.declared.GenKind.TheVariants.{Point}
+use Rattle.lra_linear_spec.specs.Kinds.{is_equality}
+use Rattle.lra_linear_spec.specs.declared.ConKind.{ConKind}
+use Rattle.lra_linear_spec.specs.declared.GenKind.{GenKind}
+use Rattle.lra_linear_spec.specs.declared.GenKind.TheVariants.{Point}
 use Rattle.lra_sys.proofs.Generators.{fitting_are_generators}
 use Rattle.lra_cone.specs.Cones.{Shape, IsCone, whole_space}
 use Rattle.lra_cone.specs.Conversions.{IsConversion}
 use Rattle.lra_descriptions.specs.ShownLists.{ShowsConstraints, ShowsValid, dual_kind}
-use Rattle.lra_linear.specs.Vectors.{entry}
-use Rattle.lra_linear.proofs.Descriptions.{gen_generated}
-use Rattle.lra_linear.proofs.Membership.{contains_none}
+use Rattle.lra_linear_spec.specs.Vectors.{entry}
+use Rattle.lra_linear_spec.proofs.Descriptions.{gen_generated}
+use Rattle.lra_linear_spec.proofs.Membership.{contains_none}
 use Rattle.lra_pair.proofs.GeneratorLists.{nothing_generated}
 use Rattle.lra_cone.specs.Losses.{IfLost}
 use Rattle.lra_pair.proofs.ConstraintLists.{constrained, some_point}
@@ -31,7 +31,7 @@ use Rattle.lra_pair.specs.TriedRows.{IsOfTried}
 use Rattle.lra_pair.proofs.OwnRows.{given_length}
 use Rattle.lra_pair.proofs.PairLosses.{own_strain, from_generators_strain}
 
-pub taken : (n : ℕ) (given : Listed GenKind) (rows list : Listed ConKind) (start cone : Shape) (kept : List Given) (losses : List Loss) → length given.kinds ≡ length given.rows →
+pub taken : (n : ℕ) (given : Listed GenKind) (rows list : Listed ConKind) (start cone : Shape) (kept : List LinearRow) (losses : List Loss) → length given.kinds ≡ length given.rows →
     FitKinds given.rows given.kinds → Contains given.kinds Point →
     rows.rows ≡ given.rows → rows.kinds ≡ map dual_kind given.kinds → rows.dims ≡ n → start ≡ whole_space n → cone.dims ≡ start.dims → IsConversion start.taken (constraints rows) kept cone losses →
     IsCone cone → list.dims ≡ rows.dims →
@@ -41,7 +41,7 @@ taken n given rows list start cone kept losses many f m er ek ed es dims c k el 
     let all : constraints rows ≡ generators given = ap (λ (y : List (List ℤ)). given_by is_equality y rows.kinds) er ∙ ap (given_by is_equality given.rows) ek ∙ dual_given given.rows given.kinds in
     let first : start.taken ≡ [] = ap (λ (s : Shape). s.taken) es in
     let is_n : cone.dims ≡ n = dims ∙ ap (λ (s : Shape). s.dims) es in
-    let of_none = subst (λ (l : List Given). IsConversion l (constraints rows) kept cone losses) first c in
+    let of_none = subst (λ (l : List LinearRow). IsConversion l (constraints rows) kept cone losses) first c in
     let x = constrained n given rows list cone kept losses many f m er ek ed is_n of_none k shown valid in
     let whole : losses ≡ [] → cone.taken ≡ generators given = λ none. of_none.taken ∙ of_none.whole none ∙ all in
     record {
@@ -52,12 +52,12 @@ taken n given rows list start cone kept losses many f m er ek ed es dims c k el 
       whole = whole;
       columns = λ none. subst AreGenerators (sym (whole none)) (fitting_are_generators given f);
       kept = kept;
-      conversion = subst (λ (l : List Given). IsConversion [] l kept cone losses) all of_none;
+      conversion = subst (λ (l : List LinearRow). IsConversion [] l kept cone losses) all of_none;
       exact = λ none. subst (λ (m : ℕ). ShowsConstraints m cone.lines cone.rays list) ed (shown none);
-      valid = λ lost. subst (λ (l : List Given). ShowsValid n cone.lines cone.rays l list) all
+      valid = λ lost. subst (λ (l : List LinearRow). ShowsValid n cone.lines cone.rays l list) all
           (subst (λ (m : ℕ). ShowsValid m cone.lines cone.rays (constraints rows) list) ed (valid lost));
-      some = λ none. subst (λ (l : List Given). ¬ (IsEmptySet n (Gen l))) (sym (whole none))
-          (some_point n given many f m (λ t i. k.dual.system_widths t (subst (λ (l : List Given). Contains (system_of l) t) (sym (whole none)) i) ∙ ap suc is_n));
+      some = λ none. subst (λ (l : List LinearRow). ¬ (IsEmptySet n (Gen l))) (sym (whole none))
+          (some_point n given many f m (λ t i. k.dual.system_widths t (subst (λ (l : List LinearRow). Contains (system_of l) t) (sym (whole none)) i) ∙ ap suc is_n));
     }
 
 -- nothing is generated by no generator
@@ -65,17 +65,17 @@ gen_none : (n : ℕ) → IsEmptySet n (Gen [])
 gen_none n x point h = nothing_generated n [] x point (λ t m. absurd (contains_none t m)) (gen_generated [] (entry x) h)
 
 -- some row was taken in
-pub some_taken : (n : ℕ) (taken : List Given) → ¬ (IsEmptySet n (Gen taken)) → 0 < length taken
+pub some_taken : (n : ℕ) (taken : List LinearRow) → ¬ (IsEmptySet n (Gen taken)) → 0 < length taken
 some_taken n [] h = absurd (h (gen_none n))
 some_taken n (x ∷ taken) h = omega arith
 
 -- ---- what comes of it
-pub taken_strain : (n d : ℕ) (given : List Given) (list : Listed ConKind) (cone : Shape) (losses after : List Loss) → AreTaken n given list cone losses → losses ≡ [] → d ≡ n →
+pub taken_strain : (n d : ℕ) (given : List LinearRow) (list : Listed ConKind) (cone : Shape) (losses after : List Loss) → AreTaken n given list cone losses → losses ≡ [] → d ≡ n →
     IfLost (FromGeneratorsStrains d cone.taken) after → IfLost (FromGeneratorsStrains n given) after
 taken_strain n d given list cone losses after t none e h =
-    subst (λ (l : List Given). IfLost (FromGeneratorsStrains n l) after) (t.whole none) (subst (λ (m : ℕ). IfLost (FromGeneratorsStrains m cone.taken) after) e h)
+    subst (λ (l : List LinearRow). IfLost (FromGeneratorsStrains n l) after) (t.whole none) (subst (λ (m : ℕ). IfLost (FromGeneratorsStrains m cone.taken) after) e h)
 
-pub lost_strain : (n : ℕ) (given : List Given) (list : Listed ConKind) (cone : Shape) (losses after : List Loss) → AreTaken n given list cone losses → after ≡ losses →
+pub lost_strain : (n : ℕ) (given : List LinearRow) (list : Listed ConKind) (cone : Shape) (losses after : List Loss) → AreTaken n given list cone losses → after ≡ losses →
     IfLost (FromGeneratorsStrains n given) after
 lost_strain n given list cone losses after t e = from_generators_strain n given after (subst (IfLost (Strains (suc n) given)) (sym e) t.strain)
 
@@ -92,12 +92,12 @@ pub further_rows : (more : Listed GenKind) (rows : Listed ConKind) → rows.rows
 further_rows more rows er ek = ap (λ (y : List (List ℤ)). given_by is_equality y rows.kinds) er ∙ ap (given_by is_equality more.rows) ek ∙ dual_given more.rows more.kinds
 
 -- where nothing was lost, all are taken in
-pub further_taken : (more : Listed GenKind) (rows : Listed ConKind) (start cone : Shape) (kept : List Given) (losses : List Loss) → rows.rows ≡ more.rows → rows.kinds ≡ map dual_kind more.kinds →
+pub further_taken : (more : Listed GenKind) (rows : Listed ConKind) (start cone : Shape) (kept : List LinearRow) (losses : List Loss) → rows.rows ≡ more.rows → rows.kinds ≡ map dual_kind more.kinds →
     IsConversion start.taken (constraints rows) kept cone losses → losses ≡ [] → cone.taken ≡ start.taken ++ generators more
 further_taken more rows start cone kept losses er ek c none =
-    c.taken ∙ ap (λ (l : List Given). start.taken ++ l) (c.whole none ∙ further_rows more rows er ek)
+    c.taken ∙ ap (λ (l : List LinearRow). start.taken ++ l) (c.whole none ∙ further_rows more rows er ek)
 
-pub further_columns : (more : Listed GenKind) (first taken : List Given) → FitKinds more.rows more.kinds → AreGenerators first → taken ≡ first ++ generators more → AreGenerators taken
+pub further_columns : (more : Listed GenKind) (first taken : List LinearRow) → FitKinds more.rows more.kinds → AreGenerators first → taken ≡ first ++ generators more → AreGenerators taken
 further_columns more first taken f columns e = subst AreGenerators (sym e)
     (λ g k. elim (Contains-append_cases first (generators more) g k) [ inl a ↦ columns g a | inr b ↦ fitting_are_generators more f g b ])
 
@@ -106,9 +106,9 @@ given_take : {K : Type 0} (equal : K → Bool) (at : ℕ) (rows : List (List ℤ
 given_take equal zero rows kinds = refl
 given_take equal (suc at) [] kinds = refl
 given_take equal (suc at) (r ∷ rows) [] = refl
-given_take equal (suc at) (r ∷ rows) (k ∷ kinds) = ap (λ (l : List Given). (let g : Given = record { row = r; equal = equal k } in g) ∷ l) (given_take equal at rows kinds)
+given_take equal (suc at) (r ∷ rows) (k ∷ kinds) = ap (λ (l : List LinearRow). (let g : LinearRow = record { row = r; equal = equal k } in g) ∷ l) (given_take equal at rows kinds)
 
-pub take_short : (n most : ℕ) (xs : List Given) → length xs ≤ n → n ≤ most → take n xs ≡ take most xs
+pub take_short : (n most : ℕ) (xs : List LinearRow) → length xs ≤ n → n ≤ most → take n xs ≡ take most xs
 take_short n most xs h m = take_all n xs h ∙ sym (take_all most xs (omega (arith, h, m)))
 
 -- all of them, where they are fewer
@@ -131,12 +131,12 @@ pub first_listed : (at : ℕ) (list kept : Listed ConKind) → kept.rows ≡ tak
 first_listed at list kept er ek same = ap (λ (y : List (List ℤ)). given_by is_equality y kept.kinds) er ∙ ap (given_by is_equality (take at list.rows)) ek ∙
     given_take is_equality at list.rows list.kinds ∙ same
 
-pub of_first : (n d : ℕ) (list kept : List Given) (p : Polyhedron) (losses : List Loss) → d ≡ n → kept ≡ take most_kept list →
+pub of_first : (n d : ℕ) (list kept : List LinearRow) (p : Polyhedron) (losses : List Loss) → d ≡ n → kept ≡ take most_kept list →
     IsOfTried d (with_positivity d []) kept p losses → IsOfFirst n list p
 of_first n d list kept p losses e first t = record {
   losses = losses;
   tried = subst (λ (m : ℕ). IsOfTried m (with_positivity m []) (take most_kept list) p losses) e
-      (subst (λ (l : List Given). IsOfTried d (with_positivity d []) l p losses) first t);
+      (subst (λ (l : List LinearRow). IsOfTried d (with_positivity d []) l p losses) first t);
 }
 
 -- ---- what becomes of the generators
@@ -144,7 +144,7 @@ pub if_both : {X Y : Type 0} (r : Result X Y) (P Q R : X → Type 0) → ((x : X
 if_both (Ok x) P Q R f p q = f x p q
 if_both (Err y) P Q R f p q = tt
 
-pub list_lost : (n d : ℕ) (s : Shape) (list : List Given) (cause : Cause) (losses after told : List Loss) (p : Polyhedron) → d ≡ n → IsCone s → losses ≡ [] → IsOwnCause s cause →
+pub list_lost : (n d : ℕ) (s : Shape) (list : List LinearRow) (cause : Cause) (losses after told : List Loss) (p : Polyhedron) → d ≡ n → IsCone s → losses ≡ [] → IsOwnCause s cause →
     TellsOwnLoss s cause losses after → told ≡ after → IsOfFirst d list p → IsMadeOfPoints n s list p told
 list_lost n d s list cause losses after told p e k none x t et h = inr (
   record {
@@ -156,7 +156,7 @@ list_lost n d s list cause losses after told p e k none x t et h = inr (
   subst (λ (m : ℕ). IsOfFirst m list p) e h,
 )
 
-pub all_taken : (n d : ℕ) (given : List Given) (list : Listed ConKind) (cone : Shape) (left losses : List Loss) (p : Polyhedron) → AreTaken n given list cone left → left ≡ [] → d ≡ n →
+pub all_taken : (n d : ℕ) (given : List LinearRow) (list : Listed ConKind) (cone : Shape) (left losses : List Loss) (p : Polyhedron) → AreTaken n given list cone left → left ≡ [] → d ≡ n →
     IsMadeOfPoints d cone (constraints list) p losses → IsOfPoints n given p losses
 all_taken n d given list cone left losses p t none e h = record {
   cone = cone;
@@ -166,7 +166,7 @@ all_taken n d given list cone left losses p t none e h = record {
   made = inl (none, subst (λ (m : ℕ). IsMadeOfPoints m cone (constraints list) p losses) e h);
 }
 
-pub some_lost : (n : ℕ) (given : List Given) (list : Listed ConKind) (cone : Shape) (left losses : List Loss) (p : Polyhedron) → AreTaken n given list cone left → left ≢ [] → losses ≡ left →
+pub some_lost : (n : ℕ) (given : List LinearRow) (list : Listed ConKind) (cone : Shape) (left losses : List Loss) (p : Polyhedron) → AreTaken n given list cone left → left ≢ [] → losses ≡ left →
     IsOfFirst list.dims (constraints list) p → IsOfPoints n given p losses
 some_lost n given list cone left losses p t lost e h = record {
   cone = cone;

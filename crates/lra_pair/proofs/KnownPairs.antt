@@ -7,16 +7,16 @@ use Rattle.std.proofs.lemmas.List.Elements.{Contains-append_cases, Contains-appe
 use Rattle.std.proofs.lemmas.List.Sorted.{Contains-permutation, IsPermutation-sym}
 use Rattle.lra_bits.specs.Matrix.{Matrix}
 use Rattle.lra_bits.specs.Turned.{AreColumns}
-use Rattle.lra_linear.specs.Cones.{AreDual, all_rows, both_ways}
-use Rattle.lra_linear.specs.Descriptions.{system_of}
-use Rattle.lra_linear.specs.Polyhedra.{positivity}
-use Rattle.lra_linear.specs.Vectors.{entry, negated, product}
-use Rattle.lra_linear.specs.declared.ConKind.{ConKind}
-use Rattle.lra_linear.specs.declared.GenKind.{GenKind}
-use Rattle.lra_linear.proofs.Lines.{in_lines, in_lines_negated}
-use Rattle.lra_linear.proofs.Membership.{contains_none}
-use Rattle.lra_linear.proofs.Products.{negated_dot, product_comm}
-use Rattle.lra_linear.proofs.Signs.{between_opposites}
+use Rattle.lra_linear_spec.specs.Cones.{AreDual, all_rows, both_ways}
+use Rattle.lra_linear_spec.specs.Descriptions.{system_of}
+use Rattle.lra_linear_spec.specs.Polyhedra.{positivity}
+use Rattle.lra_linear_spec.specs.Vectors.{entry, negated, product}
+use Rattle.lra_linear_spec.specs.declared.ConKind.{ConKind}
+use Rattle.lra_linear_spec.specs.declared.GenKind.{GenKind}
+use Rattle.lra_linear_spec.proofs.Lines.{in_lines, in_lines_negated}
+use Rattle.lra_linear_spec.proofs.Membership.{contains_none}
+use Rattle.lra_linear_spec.proofs.Products.{negated_dot, product_comm}
+use Rattle.lra_linear_spec.proofs.Signs.{between_opposites}
 use Rattle.lra_sys.specs.Listed.{Listed, constraints, generators}
 use Rattle.lra_cone.specs.Cones.{Shape, IsCone}
 use Rattle.lra_descriptions.specs.ShownLists.{ShowsConstraints, ShowsGenerators, directions_of, points_of, without}

@@ -2,9 +2,9 @@
 use Rattle.std.proofs.Common.{◌≡◌, ◌∙◌, ◌+◌, ◌<◌, ◌++◌, ◌∷◌, ℕ, zero, suc, Bool, true, false, List, [], ap, arith, get_or, length, map, refl, subst, sym, ℤ}
 use Rattle.std.proofs.lemmas.List.{ext_get_or, get_or-map, length-append, length-map}
 use Rattle.lra_bits.specs.Matrix.{Matrix, unmarked}
-use Rattle.lra_linear.specs.Descriptions.{Given, given_as, rows_of}
-use Rattle.lra_linear.specs.Echelon.{IsEchelonOf}
-use Rattle.lra_linear.specs.Vectors.{product}
+use Rattle.lra_linear_spec.specs.Descriptions.{LinearRow, rows_as, rows_of}
+use Rattle.lra_linear_spec.specs.Echelon.{IsEchelonOf}
+use Rattle.lra_linear_spec.specs.Vectors.{product}
 use Rattle.lra_canon.specs.Echelons.{HaveWidth, SameEqualities}
 use Rattle.lra_canon.specs.Irredundant.{AreKept, IsSaturation, WithoutRedundant}
 use Rattle.lra_cone.specs.Cones.{Shape, IsCone}
@@ -49,8 +49,8 @@ own_made s tight loose form seen reduced kept matrix left n k parts f same width
 
 -- ---- the matrix of the rows that stay
 -- the generator at a place is the ray or line there
-generator_row : (b q : Bool) (rays lines : List (List ℤ)) (j : ℕ) (g : Given) → j < length rays + length lines →
-    (get_or (given_as b rays ++ given_as q lines) j g).row ≡ get_or (rays ++ lines) j []
+generator_row : (b q : Bool) (rays lines : List (List ℤ)) (j : ℕ) (g : LinearRow) → j < length rays + length lines →
+    (get_or (rows_as b rays ++ rows_as q lines) j g).row ≡ get_or (rays ++ lines) j []
 generator_row b q [] [] j g h = absurd (omega (arith, h))
 generator_row b q [] (l ∷ lines) zero g h = refl
 generator_row b q [] (l ∷ lines) (suc j) g h = generator_row b q [] lines j g (omega (arith, h))
@@ -68,7 +68,7 @@ row_told : (s : Shape) (form reduced : List (List ℤ)) (matrix : Matrix) → Is
     length reduced →
     get_or matrix.rows i [] ≡ tight_at (columns_of s) (get_or reduced i [])
 row_told s form reduced matrix x i h =
-    let nothing : Given = record { row = []; equal = true } in
+    let nothing : LinearRow = record { row = []; equal = true } in
     let many : length (columns_of s) ≡ length s.rays + length s.lines = length-append s.rays s.lines in
     tight_values_are (columns_of s) (get_or reduced i []) (get_or matrix.rows i []) (x.columns i h ∙ many_generators s ∙ sym many) (λ j l.
     let at : j < length s.rays + length s.lines = omega (arith, l, many) in

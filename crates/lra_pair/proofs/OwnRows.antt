@@ -7,13 +7,13 @@ use Rattle.std.proofs.lemmas.Bool.{eqb-true}
 use Rattle.std.proofs.lemmas.Bool.Decides.{Decides-int_eq}
 use Rattle.std.proofs.lemmas.List.{take_all, take_more, get_or_default}
 use Rattle.std.proofs.lemmas.List.Elements.{All-contains, All-from_get_or, Contains-get_or, Contains-append_cases}
-use Rattle.lra_linear.specs.Vectors.{product}
-use Rattle.lra_linear.specs.Descriptions.{Given, rows_of}
-use Rattle.lra_linear.specs.Echelon.{IsEchelonOf}
-use Rattle.lra_linear.specs.Reduction.{ReductionPasses}
-use Rattle.lra_linear.specs.Strain.{tight_rows, IsOwnForm}
-use Rattle.lra_linear.proofs.Descriptions.{system_has}
-use Rattle.lra_linear.proofs.Spans.{echelon_rows_at_most}
+use Rattle.lra_linear_spec.specs.Vectors.{product}
+use Rattle.lra_linear_spec.specs.Descriptions.{LinearRow, rows_of}
+use Rattle.lra_linear_spec.specs.Echelon.{IsEchelonOf}
+use Rattle.lra_linear_spec.specs.Reduction.{ReductionPasses}
+use Rattle.lra_linear_spec.specs.Strain.{tight_rows, IsOwnForm}
+use Rattle.lra_linear_spec.proofs.Descriptions.{system_has}
+use Rattle.lra_linear_spec.proofs.Spans.{echelon_rows_at_most}
 use Rattle.lra_bits.specs.TruthValues.{value_at}
 use Rattle.lra_canon.specs.Reduced.{IsReductionExcess}
 use Rattle.lra_canon.specs.Echelons.{HaveWidth, IsEchelonExcess}
@@ -26,7 +26,7 @@ use Rattle.lra_cone.proofs.TightRows.{rows_length, row_at}
 use Rattle.lra_pair.specs.OwnLists.{loose_rows, TellsTight, AllTellTight, AreReducedBy, AreParts, AnyReductionExcess, IsOwnExcess, tight_value}
 use Rattle.lra_pair.proofs.TightRows.{tight_in, loose_in, rows_from, reduced_append}
 use Rattle.lra_bits.specs.Matrix.{Matrix, unmarked}
-use Rattle.lra_linear.proofs.Membership.{contains_none, contains_cases, contains_head, contains_tail}
+use Rattle.lra_linear_spec.proofs.Membership.{contains_none, contains_cases, contains_head, contains_tail}
 use Rattle.lra_canon.specs.Reduced.{IsReducedBy}
 
 pub filled_end : (f : ℕ → Bool) (n k : ℕ) (bits : List Bool) → k ≡ n → IsFilled f n k bits → IsFilled f n n bits
@@ -40,7 +40,7 @@ value_of equal (r ∷ rows) [] place t n h = absurd (omega (arith, n))
 value_of equal (r ∷ rows) (k ∷ kinds) zero t n h = refl
 value_of equal (r ∷ rows) (k ∷ kinds) (suc place) t n h = value_of equal rows kinds place t (omega (arith, n)) (omega (arith, h))
 
-pub told_by : {K : Type 0} (equal : K → Bool) (taken : List Given) (rows : List (List ℤ)) (kinds : List K) (rays : List (List ℤ)) (count n place : ℕ) (r : List ℤ) (bits : List Bool)
+pub told_by : {K : Type 0} (equal : K → Bool) (taken : List LinearRow) (rows : List (List ℤ)) (kinds : List K) (rays : List (List ℤ)) (count n place : ℕ) (r : List ℤ) (bits : List Bool)
     (matrix : List (List Bool)) → given_by equal rows kinds ≡ taken → length rows ≡ length kinds → place < length rows → r ≡ get_or rows place [] →
     matrix ≡ saturation_rows taken rays → n ≡ length rays + count → IsFilled (tight_value matrix place) n n bits → TellsTight rays count r bits
 told_by equal taken rows kinds rays count n place r bits matrix et many h er em en filled = record {
@@ -66,7 +66,7 @@ told_by equal taken rows kinds rays count n place r bits matrix et many h er em 
     at j l =
         filled.1 j (omega (arith, l, en)) ∙ ap (λ (b : Bool). cond b (value_at (get_or matrix j []) place) true) (inside j (length matrix) (omega (arith, l, length_is))) ∙
         ap (λ (m : List (List Bool)). value_at (get_or m j []) place) em ∙ ap (λ (b : List Bool). value_at b place) (row_at taken rays j l) ∙
-        ap (λ (t : List Given). value_at (tight_values t (get_or rays j [])) place) (sym et) ∙
+        ap (λ (t : List LinearRow). value_at (tight_values t (get_or rays j [])) place) (sym et) ∙
         value_of equal rows kinds place (get_or rays j []) many h ∙ ap (λ (y : List ℤ). int_eq (product y (get_or rays j [])) (pos 0)) (sym er)
 
 pub rows_of_given : {K : Type 0} (equal : K → Bool) (rows : List (List ℤ)) (kinds : List K) → length rows ≡ length kinds → rows_of (given_by equal rows kinds) ≡ rows
@@ -182,7 +182,8 @@ told_row equal s listed rows kinds place n r copied bits m em et el nk h er ec e
     (ec ∙ er ∙ get_or_default listed place r [] h ∙ ap (λ (l : List (List ℤ)). get_or l place []) el) (ap (λ (x : Matrix). x.rows) em) en filled
 
 -- the rows as the code lists them
-pub rows_listed : {K : Type 0} (equal : K → Bool) (taken : List Given) (listed rows : List (List ℤ)) (kinds : List K) → given_by equal rows kinds ≡ taken → listed ≡ rows → length kinds ≡ length rows →
+pub rows_listed : {K : Type 0} (equal : K → Bool) (taken : List LinearRow) (listed rows : List (List ℤ)) (kinds : List K) → given_by equal rows kinds ≡ taken → listed ≡ rows →
+    length kinds ≡ length rows →
     listed ≡ rows_of taken
 rows_listed equal taken listed rows kinds et el nk = el ∙ sym (rows_of_given equal rows kinds (sym nk)) ∙ ap rows_of et
 
@@ -235,6 +236,7 @@ some_of {A = A} xs n b l e f h = let z : n ≡ 0 = sym l ∙ ap length h in let 
 pub no_rows : (xs own : List (List ℤ)) (b : Bool) → b ≡ (length xs == 0) → b ≡ true → xs ≡ own → own ≡ []
 no_rows xs own b e t s = sym s ∙ none_of xs (length xs) b refl e t
 
-pub some_rows : {K : Type 0} (equal : K → Bool) (listed rows : List (List ℤ)) (kinds : List K) (taken : List Given) → given_by equal rows kinds ≡ taken → listed ≡ rows → length kinds ≡ length rows →
+pub some_rows : {K : Type 0} (equal : K → Bool) (listed rows : List (List ℤ)) (kinds : List K) (taken : List LinearRow) → given_by equal rows kinds ≡ taken → listed ≡ rows →
+    length kinds ≡ length rows →
     0 < length taken → 0 < length listed
 some_rows equal listed rows kinds taken et el n h = let a = ap length et in let b = given_length equal rows kinds (sym n) in let d = ap length el in omega (arith, h, a, b, d)

@@ -6,18 +6,18 @@ use Rattle.std.specs.List.{Contains}
 use Rattle.std.proofs.lemmas.Int.{ints}
 use Rattle.std.proofs.lemmas.List.{length-append}
 use Rattle.std.proofs.lemmas.List.Elements.{Contains-append_cases, Contains-append_left, Contains-append_right, Contains-get_or, All-contains}
-use Rattle.lra_linear.specs.Vectors.{entry, dot, product, negated}
-use Rattle.lra_linear.specs.Cones.{Generated, Solves, both_ways, all_rows}
-use Rattle.lra_linear.specs.Descriptions.{Given, Gen, given_as, rows_of, system_of}
-use Rattle.lra_linear.specs.Strain.{is_tight_at, tight_rows}
-use Rattle.lra_linear.proofs.Descriptions.{FromGiven, system_from, system_has, system_has_negated, gen_generated, generated_gen}
-use Rattle.lra_linear.proofs.LinearMaps.{generated_nonneg, generated_through}
-use Rattle.lra_linear.proofs.Lines.{in_lines, signed_from}
-use Rattle.lra_linear.proofs.Products.{negated_dot, product_comm, dot_same, dot_scale, dot_plus}
-use Rattle.lra_linear.proofs.Membership.{contains_none, contains_cases, contains_head, contains_tail}
-use Rattle.lra_linear.proofs.OneSpelling.{given_from}
-use Rattle.lra_linear.proofs.Ring.{ring, v, ◌⊕◌, ◌⊗◌}
-use Rattle.lra_linear.proofs.Signs.{between_opposites, no_product}
+use Rattle.lra_linear_spec.specs.Vectors.{entry, dot, product, negated}
+use Rattle.lra_linear_spec.specs.Cones.{Generated, Solves, both_ways, all_rows}
+use Rattle.lra_linear_spec.specs.Descriptions.{LinearRow, Gen, rows_as, rows_of, system_of}
+use Rattle.lra_linear_spec.specs.Strain.{is_tight_at, tight_rows}
+use Rattle.lra_linear_spec.proofs.Descriptions.{FromGiven, system_from, system_has, system_has_negated, gen_generated, generated_gen}
+use Rattle.lra_linear_spec.proofs.LinearMaps.{generated_nonneg, generated_through}
+use Rattle.lra_linear_spec.proofs.Lines.{in_lines, signed_from}
+use Rattle.lra_linear_spec.proofs.Products.{negated_dot, product_comm, dot_same, dot_scale, dot_plus}
+use Rattle.lra_linear_spec.proofs.Membership.{contains_none, contains_cases, contains_head, contains_tail}
+use Rattle.lra_linear_spec.proofs.OneSpelling.{given_from}
+use Rattle.lra_linear_spec.proofs.Ring.{ring, v, ◌⊕◌, ◌⊗◌}
+use Rattle.lra_linear_spec.proofs.Signs.{between_opposites, no_product}
 use Rattle.lra_bits.specs.Matrix.{Matrix}
 use Rattle.lra_canon.specs.Echelons.{HaveWidth, SameEqualities}
 use Rattle.lra_canon.specs.Irredundant.{IsSaturation, IsIrredundant, Solutions}
@@ -30,11 +30,11 @@ use Rattle.lra_pair.specs.OwnLists.{loose_rows, TellsTight, AllTellTight, AreRed
 use Rattle.lra_pair.proofs.TightRows.{tight_said, tight_from, tight_in, loose_in, either_row, rows_has, rows_from, reduced_from, reduced_has, reduced_at}
 
 -- the generators of the cone
-abbrev pub cone_generators : Shape → List Given
-cone_generators s = given_as false s.rays ++ given_as true s.lines
+abbrev pub cone_generators : Shape → List LinearRow
+cone_generators s = rows_as false s.rays ++ rows_as true s.lines
 
 pub generators_system : (s : Shape) → system_of (cone_generators s) ≡ all_rows s.lines s.rays
-generators_system s = system_append (given_as false s.rays) (given_as true s.lines) ∙ ap (λ (x : List (List ℤ)). x ++ system_of (given_as true s.lines)) (system_rays s.rays) ∙
+generators_system s = system_append (rows_as false s.rays) (rows_as true s.lines) ∙ ap (λ (x : List (List ℤ)). x ++ system_of (rows_as true s.lines)) (system_rays s.rays) ∙
     ap (λ (x : List (List ℤ)). s.rays ++ x) (system_lines s.lines)
 
 -- what the code has made: the form of the tight rows, and the others reduced by it
@@ -87,7 +87,7 @@ to_solutions s form reduced made u l h =
     )
 
 -- an equality is tight
-equality_tight : (s : Shape) → IsCone s → (g : Given) → Contains s.taken g → g.equal ≡ true → is_tight_at s.rays g.row ≡ true
+equality_tight : (s : Shape) → IsCone s → (g : LinearRow) → Contains s.taken g → g.equal ≡ true → is_tight_at s.rays g.row ≡ true
 equality_tight s k g m e = tight_from s.rays g.row (λ t n.
     let here = Contains-append_left s.rays (both_ways s.lines) t n in
     between_opposites (product g.row t) (product (negated g.row) t) (negated_dot g.row (entry t)) (k.dual.meets t here g.row (system_has s.taken g m))
@@ -158,27 +158,27 @@ told_at rays lines (r ∷ rows) [] a i h = absurd a
 told_at rays lines (r ∷ rows) (b ∷ bits) a zero h = a.0
 told_at rays lines (r ∷ rows) (b ∷ bits) a (suc i) h = told_at rays lines rows bits a.1 i (omega (arith, h))
 
-given_length : (b : Bool) (rows : List (List ℤ)) → length (given_as b rows) ≡ length rows
+given_length : (b : Bool) (rows : List (List ℤ)) → length (rows_as b rows) ≡ length rows
 given_length b [] = refl
 given_length b (r ∷ rows) = ap suc (given_length b rows)
 
 pub many_generators : (s : Shape) → length (cone_generators s) ≡ length s.rays + length s.lines
-many_generators s = length-append (given_as false s.rays) (given_as true s.lines) ∙ ap (λ (n : ℕ). n + length (given_as true s.lines)) (given_length false s.rays) ∙
+many_generators s = length-append (rows_as false s.rays) (rows_as true s.lines) ∙ ap (λ (n : ℕ). n + length (rows_as true s.lines)) (given_length false s.rays) ∙
     ap (λ (n : ℕ). length s.rays + n) (given_length true s.lines)
 
 -- the generator at a place is a ray or a line
-generator_at : (rays lines : List (List ℤ)) (j : ℕ) (g : Given) → j < length rays + length lines →
-    ((j < length rays) × ((get_or (given_as false rays ++ given_as true lines) j g).row ≡ get_or rays j [])) ⊎
-    ((length rays ≤ j) × Contains lines (get_or (given_as false rays ++ given_as true lines) j g).row)
+generator_at : (rays lines : List (List ℤ)) (j : ℕ) (g : LinearRow) → j < length rays + length lines →
+    ((j < length rays) × ((get_or (rows_as false rays ++ rows_as true lines) j g).row ≡ get_or rays j [])) ⊎
+    ((length rays ≤ j) × Contains lines (get_or (rows_as false rays ++ rows_as true lines) j g).row)
 generator_at [] [] j g h = absurd (omega (arith, h))
 generator_at [] (l ∷ lines) zero g h = inr (omega arith, contains_head l lines)
 generator_at [] (l ∷ lines) (suc j) g h = elim (generator_at [] lines j g (omega (arith, h)))
-    [ inl x ↦ absurd (omega (arith, x.0)) | inr x ↦ inr (omega arith, contains_tail l (get_or (given_as true lines) j g).row lines x.1) ]
+    [ inl x ↦ absurd (omega (arith, x.0)) | inr x ↦ inr (omega arith, contains_tail l (get_or (rows_as true lines) j g).row lines x.1) ]
 generator_at (r ∷ rays) lines zero g h = inl (omega arith, refl)
 generator_at (r ∷ rays) lines (suc j) g h = elim (generator_at rays lines j g (omega (arith, h))) [ inl x ↦ inl (omega (arith, x.0), x.1) | inr x ↦ inr (omega (arith, x.0), x.1) ]
 
-generator_in : (s : Shape) (g : Given) → Contains (cone_generators s) g → Contains (all_rows s.lines s.rays) g.row
-generator_in s g m = elim (Contains-append_cases (given_as false s.rays) (given_as true s.lines) g m) [
+generator_in : (s : Shape) (g : LinearRow) → Contains (cone_generators s) g → Contains (all_rows s.lines s.rays) g.row
+generator_in s g m = elim (Contains-append_cases (rows_as false s.rays) (rows_as true s.lines) g m) [
   | inl i ↦ Contains-append_left s.rays (both_ways s.lines) g.row (given_from false s.rays g i).1
   | inr i ↦ Contains-append_right s.rays (both_ways s.lines) g.row (in_lines s.lines g.row (given_from true s.lines g i).1)
 ]
@@ -234,21 +234,21 @@ is_saturation s form reduced matrix made widths told = record {
     never true e f = cc
     never false e f = cc
 
-    given_has : (rows : List (List ℤ)) (r : List ℤ) → Contains rows r → Contains (given_as false rows) (record { row = r; equal = false })
+    given_has : (rows : List (List ℤ)) (r : List ℤ) → Contains rows r → Contains (rows_as false rows) (record { row = r; equal = false })
     given_has [] r k = absurd (contains_none r k)
     given_has (x ∷ rows) r k = elim (contains_cases x r rows k) [
-      | inl e ↦ subst (λ (y : List ℤ). Contains (given_as false (x ∷ rows)) (record { row = y; equal = false })) e
-          (contains_head (let g : Given = record { row = x; equal = false } in g) (given_as false rows))
-      | inr m ↦ contains_tail (let g : Given = record { row = x; equal = false } in g) (let g : Given = record { row = r; equal = false } in g) (given_as false rows) (given_has rows r m)
+      | inl e ↦ subst (λ (y : List ℤ). Contains (rows_as false (x ∷ rows)) (record { row = y; equal = false })) e
+          (contains_head (let g : LinearRow = record { row = x; equal = false } in g) (rows_as false rows))
+      | inr m ↦ contains_tail (let g : LinearRow = record { row = x; equal = false } in g) (let g : LinearRow = record { row = r; equal = false } in g) (rows_as false rows) (given_has rows r m)
     ]
 
-    not_tight : (r : List ℤ) → Contains reduced r → ¬ ((g : Given) → Contains (cone_generators s) g → product r g.row ≡ pos 0)
+    not_tight : (r : List ℤ) → Contains reduced r → ¬ ((g : LinearRow) → Contains (cone_generators s) g → product r g.row ≡ pos 0)
     not_tight r m h =
         let i = reduced_from form loose reduced made.are_reduced r m in
         never (is_tight_at s.rays i.0)
         (tight_from s.rays i.0 (λ t n.
         (reduced_product form i.0 r t i.2 (form_everywhere s form reduced made t (Contains-append_left s.rays (both_ways s.lines) t n))).0
-        (h (record { row = t; equal = false }) (Contains-append_left (given_as false s.rays) (given_as true s.lines) (record { row = t; equal = false }) (given_has s.rays t n)))))
+        (h (record { row = t; equal = false }) (Contains-append_left (rows_as false s.rays) (rows_as true s.lines) (record { row = t; equal = false }) (given_has s.rays t n)))))
         (loose_in s.rays (rows_of s.taken) i.0 i.1).1
 
     dot_zero_row : (r : List ℤ) (u : ℕ → ℤ) → ((j : ℕ) → entry r j ≡ pos 0) → dot r u ≡ pos 0

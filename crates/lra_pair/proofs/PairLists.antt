@@ -3,31 +3,31 @@ use Rattle.std.proofs.Common.{◌≡◌, ◌≢◌, ◌≤◌, ℕ, suc, Bool, t
 use Rattle.std.specs.List.{Contains, All}
 use Rattle.std.proofs.lemmas.Int.{ints}
 use Rattle.std.proofs.lemmas.List.Elements.{Contains-append_left, Contains-append_right}
-use Rattle.lra_linear.specs.Vectors.{entry, dot, product, negated}
-use Rattle.lra_linear.specs.Canonical.{IsCanonical, IsCanonicalOf}
-use Rattle.lra_linear.specs.LowestTerms.{IsPrimitive}
-use Rattle.lra_linear.specs.ConeStrain.{row_limit}
-use Rattle.lra_linear.specs.Formed.{KeepsLimit}
-use Rattle.lra_linear.specs.Cones.{AreDual, Generated, both_ways, all_rows}
-use Rattle.lra_linear.specs.Descriptions.{Given, AreGenerators, Con, Gen, inequality, given_as, system_of}
-use Rattle.lra_linear.specs.Points.{PointSet, IsPoint, SameSet, IsEmptySet}
-use Rattle.lra_linear.specs.Polyhedra.{Polyhedron, HasPoint, IsPolyhedron, IsPolyhedronOf, IsWithoutPoint, positivity, falsity}
-use Rattle.lra_linear.proofs.Combinations.{generated_row}
-use Rattle.lra_linear.proofs.Descriptions.{con_none, dual_flipped, system_from, gen_generated}
-use Rattle.lra_linear.proofs.LinearMaps.{separated, generated_nonneg}
-use Rattle.lra_linear.proofs.LowestTerms.{primitive_at}
-use Rattle.lra_linear.proofs.Membership.{contains_head, contains_none, each_one, split_one}
-use Rattle.lra_linear.proofs.OneSpelling.{dual_same_cone, falsity_never, positivity_product}
-use Rattle.lra_linear.proofs.Polyhedra.{con_gen}
-use Rattle.lra_linear.proofs.Products.{dot_minus, entry_negated, negated_dot}
+use Rattle.lra_linear_spec.specs.Vectors.{entry, dot, product, negated}
+use Rattle.lra_linear_spec.specs.Canonical.{IsCanonical, IsCanonicalOf}
+use Rattle.lra_linear_spec.specs.LowestTerms.{IsPrimitive}
+use Rattle.lra_linear_spec.specs.ConeStrain.{row_limit}
+use Rattle.lra_linear_spec.specs.Representable.{KeepsLimit}
+use Rattle.lra_linear_spec.specs.Cones.{AreDual, Generated, both_ways, all_rows}
+use Rattle.lra_linear_spec.specs.Descriptions.{LinearRow, AreGenerators, Con, Gen, inequality, rows_as, system_of}
+use Rattle.lra_linear_spec.specs.Points.{PointSet, IsPoint, SameSet, IsEmptySet}
+use Rattle.lra_linear_spec.specs.Polyhedra.{Polyhedron, HasPoint, IsPolyhedron, IsPolyhedronOf, IsWithoutPoint, positivity, falsity}
+use Rattle.lra_linear_spec.proofs.Combinations.{generated_row}
+use Rattle.lra_linear_spec.proofs.Descriptions.{con_none, dual_flipped, system_from, gen_generated}
+use Rattle.lra_linear_spec.proofs.LinearMaps.{separated, generated_nonneg}
+use Rattle.lra_linear_spec.proofs.LowestTerms.{primitive_at}
+use Rattle.lra_linear_spec.proofs.Membership.{contains_head, contains_none, each_one, split_one}
+use Rattle.lra_linear_spec.proofs.OneSpelling.{dual_same_cone, falsity_never, positivity_product}
+use Rattle.lra_linear_spec.proofs.Polyhedra.{con_gen}
+use Rattle.lra_linear_spec.proofs.Products.{dot_minus, entry_negated, negated_dot}
 use Rattle.lra_sys.specs.Listed.{Listed, constraints, generators, given_by, FitKinds}
-use Rattle.lra_linear.specs.Kinds.{is_equality, is_line}
-use Rattle.lra_linear.specs.declared.ConKind.{ConKind}
-use Rattle.lra_linear.specs.declared.ConKind.TheVariants.{Ge}
-use Rattle.lra_linear.specs.OperationStrain.{unit_row}
-use Rattle.lra_linear.proofs.Lines.{in_lines, zeros_length}
+use Rattle.lra_linear_spec.specs.Kinds.{is_equality, is_line}
+use Rattle.lra_linear_spec.specs.declared.ConKind.{ConKind}
+use Rattle.lra_linear_spec.specs.declared.ConKind.TheVariants.{Ge}
+use Rattle.lra_linear_spec.specs.OperationStrain.{unit_row}
+use Rattle.lra_linear_spec.proofs.Lines.{in_lines, zeros_length}
 use Rattle.lra_pair.proofs.OwnRows.{all_width}
-use Rattle.lra_linear.specs.declared.GenKind.{GenKind}
+use Rattle.lra_linear_spec.specs.declared.GenKind.{GenKind}
 use Rattle.lra_cone.specs.Cones.{Shape, IsCone}
 use Rattle.lra_descriptions.specs.ShownLists.{HasGenerators, AreGeneratorsOf, HasConstraints, ListsGenerators, ShowsGenerators, ShowsConstraints}
 use Rattle.lra_pair.proofs.ConstraintLists.{listed_facets, listed_hold, nothing_is, same_constraints}
@@ -86,35 +86,35 @@ own_dual w system rows lines rays d o =
     (λ t m. (o.same (entry t)).1 (generated_row (all_rows lines rays) t m))
 
 -- the points of a pair are those of the constraints that it was made from
-pub same_set : (n : ℕ) (rows : List Given) (p : Polyhedron) → p.dims ≡ n → IsPolyhedron p → SameSet n (Con rows) (Gen p.generators) → IsPolyhedronOf n (Con rows) p
+pub same_set : (n : ℕ) (rows : List LinearRow) (p : Polyhedron) → p.dims ≡ n → IsPolyhedron p → SameSet n (Con rows) (Gen p.generators) → IsPolyhedronOf n (Con rows) p
 same_set n rows p d k same =
     let shown : SameSet n (Con p.rows) (Gen p.generators) = subst (λ (m : ℕ). SameSet m (Con p.rows) (Gen p.generators)) d (con_gen p k) in
     record { dimensions = d; canonical = k; points = ((λ x i h. shown.1 x i (same.0 x i h)), (λ x i h. same.1 x i (shown.0 x i h))) }
 
 -- ---- of constraints
 -- with some generator
-pub pair_of_rows : (cone : Shape) (n : ℕ) (kept : List Given) (eqs facets : List (List ℤ)) (rows : Listed ConKind) (list : Listed GenKind) → IsCone cone → cone.dims ≡ n →
+pub pair_of_rows : (cone : Shape) (n : ℕ) (kept : List LinearRow) (eqs facets : List (List ℤ)) (rows : Listed ConKind) (list : Listed GenKind) → IsCone cone → cone.dims ≡ n →
     cone.taken ≡ inequality (positivity n) ∷ kept → IsOwnList cone eqs facets → ShowsConstraints n eqs facets rows →
     HasGenerators n (system_of (inequality (positivity n) ∷ kept)) (generators list) → IsPolyhedron (record { dims = n; rows = constraints rows; generators = generators list })
 pair_of_rows cone n kept eqs facets rows list k d t own shown g =
     let system = system_of (inequality (positivity n) ∷ kept) in
     let o : IsCanonicalOf (suc n) system eqs facets = subst (λ (m : ℕ). IsCanonicalOf (suc m) system eqs facets) d
-    (subst (λ (l : List Given). IsCanonicalOf (suc cone.dims) (system_of l) eqs facets) t own) in
+    (subst (λ (l : List LinearRow). IsCanonicalOf (suc cone.dims) (system_of l) eqs facets) t own) in
     let x = all_rows g.lines (g.points ++ g.rays) in
     inr (has_point (record { dims = n; rows = constraints rows; generators = generators list }) system g
     (listed_hold n x eqs facets rows (own_dual (suc n) system x eqs facets g.dual o) o.canonical shown))
 
 -- a list with a point isn't empty
-given_some : (points : List (List ℤ)) (rays lines : List Given) → points ≢ [] → given_as false points ++ rays ++ lines ≡ [] → ⊥
+given_some : (points : List (List ℤ)) (rays lines : List LinearRow) → points ≢ [] → rows_as false points ++ rays ++ lines ≡ [] → ⊥
 given_some [] rays lines n e = n refl
 given_some (x ∷ points) rays lines n e = cc
 
 -- where no generator is shown there is no point
-pub none_shown : (cone : Shape) (n : ℕ) (kept : List Given) (list : Listed GenKind) → IsCone cone → cone.dims ≡ n → cone.taken ≡ inequality (positivity n) ∷ kept →
+pub none_shown : (cone : Shape) (n : ℕ) (kept : List LinearRow) (list : Listed GenKind) → IsCone cone → cone.dims ≡ n → cone.taken ≡ inequality (positivity n) ∷ kept →
     ShowsGenerators cone.lines cone.rays list → list.rows ≡ [] → IsEmptySet n (Con kept)
 none_shown cone n kept list k d t shown e = elim (generators_shown cone n kept list k d t shown).0 [
   | inl x ↦ x.1
-  | inr g ↦ absurd (given_some g.points (given_as false g.rays) (given_as true g.lines) g.some_point (sym g.are ∙ ap (λ (x : List (List ℤ)). given_by is_line x list.kinds) e))
+  | inr g ↦ absurd (given_some g.points (rows_as false g.rays) (rows_as true g.lines) g.some_point (sym g.are ∙ ap (λ (x : List (List ℤ)). given_by is_line x list.kinds) e))
 ]
 
 -- the empty lists are those of each set without a point
@@ -127,38 +127,39 @@ empty_pair n P p d er eg none =
       points = (
         (λ x i h. absurd (none x i h)),
         (λ x i h. absurd
-            (falsity_never n x i (h (inequality (falsity n)) (subst (λ (l : List Given). Contains l (inequality (falsity n))) (sym er) (contains_head (inequality (falsity n)) []))))),
+            (falsity_never n x i (h (inequality (falsity n)) (subst (λ (l : List LinearRow). Contains l (inequality (falsity n))) (sym er) (contains_head (inequality (falsity n)) []))))),
       );
     }
 
-pub some_shown : (cone : Shape) (n : ℕ) (kept : List Given) (list : Listed GenKind) → IsCone cone → cone.dims ≡ n → cone.taken ≡ inequality (positivity n) ∷ kept →
+pub some_shown : (cone : Shape) (n : ℕ) (kept : List LinearRow) (list : Listed GenKind) → IsCone cone → cone.dims ≡ n → cone.taken ≡ inequality (positivity n) ∷ kept →
     ShowsGenerators cone.lines cone.rays list → list.rows ≢ [] → HasGenerators n (system_of (inequality (positivity n) ∷ kept)) (generators list)
 some_shown cone n kept list k d t shown some = elim (generators_shown cone n kept list k d t shown).0 [
   | inl x ↦ elim shown [
     | inl y ↦ absurd (some y.0)
-    | inr h ↦ absurd (given_some h.points (given_as false h.directions) (given_as true cone.lines) h.some_point (sym (listed_generators cone.lines cone.rays list h) ∙ x.0))
+    | inr h ↦ absurd (given_some h.points (rows_as false h.directions) (rows_as true cone.lines) h.some_point (sym (listed_generators cone.lines cone.rays list h) ∙ x.0))
   ]
   | inr g ↦ g
 ]
 
 -- as many points and rays as the cone has rays
-counted_lists : (cone : Shape) (n : ℕ) (kept : List Given) (list : Listed GenKind) → IsCone cone → cone.dims ≡ n → cone.taken ≡ inequality (positivity n) ∷ kept →
+counted_lists : (cone : Shape) (n : ℕ) (kept : List LinearRow) (list : Listed GenKind) → IsCone cone → cone.dims ≡ n → cone.taken ≡ inequality (positivity n) ∷ kept →
     ListsGenerators cone.lines cone.rays list →
     (g : HasGenerators n (system_of (inequality (positivity n) ∷ kept)) (generators list)) × (length (g.points ++ g.rays) ≡ length cone.rays)
 counted_lists cone n kept list k d t h =
     let e : cone.taken ≡ inequality (positivity cone.dims) ∷ kept = t ∙ ap (λ (m : ℕ). inequality (positivity m) ∷ kept) (sym d) in
     let x = listed_counted cone.dims (system_of cone.taken) cone.lines cone.rays list k.dual k.canonical (at_least_zero cone kept k e) h in
     subst (λ (m : ℕ). (g : HasGenerators m (system_of (inequality (positivity m) ∷ kept)) (generators list)) × (length (g.points ++ g.rays) ≡ length cone.rays)) d
-    (subst (λ (l : List Given). (g : HasGenerators cone.dims (system_of l) (generators list)) × (length (g.points ++ g.rays) ≡ length cone.rays)) e (x.0, x.2))
+    (subst (λ (l : List LinearRow). (g : HasGenerators cone.dims (system_of l) (generators list)) × (length (g.points ++ g.rays) ≡ length cone.rays)) e
+    (x.0, x.2))
 
-pub rows_limit : (cone : Shape) (n : ℕ) (kept : List Given) (eqs facets : List (List ℤ)) (rows : Listed ConKind) (list : Listed GenKind) → IsCone cone → cone.dims ≡ n →
+pub rows_limit : (cone : Shape) (n : ℕ) (kept : List LinearRow) (eqs facets : List (List ℤ)) (rows : Listed ConKind) (list : Listed GenKind) → IsCone cone → cone.dims ≡ n →
     cone.taken ≡ inequality (positivity n) ∷ kept → IsOwnList cone eqs facets → ShowsConstraints n eqs facets rows → ShowsGenerators cone.lines cone.rays list → list.rows ≢ [] →
     length facets ≤ row_limit → KeepsLimit (record { dims = n; rows = constraints rows; generators = generators list })
 rows_limit cone n kept eqs facets rows list k d t own shown (inl y) some few = absurd (some y.0)
 rows_limit cone n kept eqs facets rows list k d t own shown (inr h) some few =
     let system = system_of (inequality (positivity n) ∷ kept) in
     let o : IsCanonicalOf (suc n) system eqs facets = subst (λ (m : ℕ). IsCanonicalOf (suc m) system eqs facets) d
-    (subst (λ (l : List Given). IsCanonicalOf (suc cone.dims) (system_of l) eqs facets) t own) in
+    (subst (λ (l : List LinearRow). IsCanonicalOf (suc cone.dims) (system_of l) eqs facets) t own) in
     let g = counted_lists cone n kept list k d t h in
     let x = all_rows g.0.lines (g.0.points ++ g.0.rays) in
     let c = listed_facets n x eqs facets rows (own_dual (suc n) system x eqs facets g.0.dual o) o.canonical shown in
@@ -220,14 +221,14 @@ pub universe_limit : (cone : Shape) (n : ℕ) (list : Listed GenKind) (p : Polyh
 universe_limit cone n list p k d t (inl y) dp er eg =
     absurd (none_shown cone n [] list k d t (inl y) y.0 (positivity n) (origin n) (con_none (positivity n)))
 universe_limit cone n list p k d t (inr y) dp er eg =
-    let g = subst (λ (l : List Given). (g : HasGenerators n (positivity n ∷ []) l) × (length (g.points ++ g.rays) ≡ length cone.rays)) (sym eg)
+    let g = subst (λ (l : List LinearRow). (g : HasGenerators n (positivity n ∷ []) l) × (length (g.points ++ g.rays) ≡ length cone.rays)) (sym eg)
     (counted_lists cone n [] list k d t y) in
     subst (λ (m : ℕ). ((g : HasGenerators m (positivity m ∷ []) p.generators) × (length (g.points ++ g.rays) ≡ length cone.rays)) → KeepsLimit p) dp
     (λ g. let c = nothing_else p er g.0 in
     few_lists p (positivity p.dims ∷ []) g.0 c.0 1 (length cone.rays) c.1 g.1 (omega arith) k.few) g
 
 -- ---- of constraints
-pub rows_pair : (cone : Shape) (n : ℕ) (kept : List Given) (eqs facets : List (List ℤ)) (rows : Listed ConKind) (list : Listed GenKind) → IsCone cone → cone.dims ≡ n →
+pub rows_pair : (cone : Shape) (n : ℕ) (kept : List LinearRow) (eqs facets : List (List ℤ)) (rows : Listed ConKind) (list : Listed GenKind) → IsCone cone → cone.dims ≡ n →
     cone.taken ≡ inequality (positivity n) ∷ kept → IsOwnList cone eqs facets → ShowsConstraints n eqs facets rows →
     ShowsGenerators cone.lines cone.rays list → list.rows ≢ [] → IsPolyhedronOf n (Con kept) (record { dims = n; rows = constraints rows; generators = generators list })
 rows_pair cone n kept eqs facets rows list k d t own shown listed some =
@@ -237,7 +238,7 @@ rows_pair cone n kept eqs facets rows list k d t own shown listed some =
 
 -- ---- of generators
 -- column 0 of what generators generate isn't below 0
-given_columns : (n : ℕ) (taken : List Given) → AreGenerators taken → (t : List ℤ) → Contains (system_of taken) t → pos 0 ≤ℤ entry t 0
+given_columns : (n : ℕ) (taken : List LinearRow) → AreGenerators taken → (t : List ℤ) → Contains (system_of taken) t → pos 0 ≤ℤ entry t 0
 given_columns n taken f t m =
     let x = system_from taken t m in
     elim x.sign [
@@ -261,7 +262,8 @@ given_columns n taken f t m =
     never true e f = cc
     never false e f = cc
 
-own_columns : (n : ℕ) (taken : List Given) (lines rays : List (List ℤ)) → AreGenerators taken → IsCanonicalOf (suc n) (system_of taken) lines rays → (t : List ℤ) → Contains (all_rows lines rays) t →
+own_columns : (n : ℕ) (taken : List LinearRow) (lines rays : List (List ℤ)) → AreGenerators taken → IsCanonicalOf (suc n) (system_of taken) lines rays → (t : List ℤ) →
+    Contains (all_rows lines rays) t →
     pos 0 ≤ℤ entry t 0
 own_columns n taken lines rays f o t m =
     subst (λ z. pos 0 ≤ℤ z) (positivity_product n t)
@@ -356,7 +358,7 @@ pub rows_made : (cone : Shape) (n : ℕ) (lines rays seen_eqs seen_facets eqs fa
 rows_made cone n lines rays seen_eqs seen_facets eqs facets rows list k d t own el er shown ee ef listed some dr dl few =
     let s = seen_lists (λ x y. ShowsGenerators x y list) cone.lines cone.rays lines rays el er shown in
     let c = seen_lists (λ x y. ShowsConstraints n x y rows) eqs facets seen_eqs seen_facets ee ef listed in
-    subst (λ (l : List Given). IsMade n (Con l) rows list) (sym (ap (drop 1) t.1))
+    subst (λ (l : List LinearRow). IsMade n (Con l) rows list) (sym (ap (drop 1) t.1))
     (with_dims n (Con t.0) rows list dr dl (rows_pair cone n t.0 eqs facets rows list k d t.1 own c s some) (generators_shown cone n t.0 list k d t.1 s).1
     (rows_limit cone n t.0 eqs facets rows list k d t.1 own c s some few))
 
@@ -364,7 +366,7 @@ pub none_made : (cone : Shape) (n : ℕ) (lines rays : List (List ℤ)) (list : 
     rays ≡ cone.rays → ShowsGenerators lines rays list → list.rows ≡ [] → p.dims ≡ n → p.rows ≡ inequality (falsity n) ∷ [] → p.generators ≡ [] → IsPolyhedronOf n (Con (drop 1 cone.taken)) p
 none_made cone n lines rays list p k d t el er shown none dp rp gp =
     let s = seen_lists (λ x y. ShowsGenerators x y list) cone.lines cone.rays lines rays el er shown in
-    subst (λ (l : List Given). IsPolyhedronOf n (Con l) p) (sym (ap (drop 1) t.1)) (empty_pair n (Con t.0) p dp rp gp (none_shown cone n t.0 list k d t.1 s none))
+    subst (λ (l : List LinearRow). IsPolyhedronOf n (Con l) p) (sym (ap (drop 1) t.1)) (empty_pair n (Con t.0) p dp rp gp (none_shown cone n t.0 list k d t.1 s none))
 
 pub generators_made : (cone : Shape) (n : ℕ) (seen_eqs seen_facets seen_lines seen_rays lines rays : List (List ℤ)) (rows : Listed ConKind) (list : Listed GenKind) → IsCone cone → cone.dims ≡ n →
     AreGenerators cone.taken → ¬ (IsEmptySet n (Gen cone.taken)) → IsOwnList cone lines rays → seen_eqs ≡ cone.lines → seen_facets ≡ cone.rays → ShowsConstraints n seen_eqs seen_facets rows →

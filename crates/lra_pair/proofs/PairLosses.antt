@@ -4,20 +4,20 @@ use Rattle.std.specs.Option.{IfNone}
 use Rattle.std.specs.List.{Contains}
 use Rattle.std.proofs.lemmas.List.{append-nil, get_or_default}
 use Rattle.std.proofs.lemmas.List.Elements.{Contains-append_cases, Contains-append_left, Contains-append_right}
-use Rattle.lra_linear.specs.declared.Cause.{Cause}
-use Rattle.lra_linear.specs.declared.Cause.TheVariants.{Excess, TooMany}
-use Rattle.lra_linear.specs.Canonical.{IsCanonicalOf}
-use Rattle.lra_linear.specs.Descriptions.{Given, Con, inequality, system_of}
-use Rattle.lra_linear.specs.Cones.{with_row, AreDual, all_rows}
-use Rattle.lra_linear.specs.Vectors.{negated}
-use Rattle.lra_linear.proofs.Combinations.{generated_row}
-use Rattle.lra_linear.proofs.Descriptions.{con_none, system_has, system_has_negated}
-use Rattle.lra_linear.proofs.LinearMaps.{generated_through}
-use Rattle.lra_linear.specs.OperationStrain.{with_positivity, FromRowsStrains, FromGeneratorsStrains}
-use Rattle.lra_linear.specs.Points.{PointSet, IsWithin}
-use Rattle.lra_linear.specs.Polyhedra.{Polyhedron, IsPolyhedronOf, positivity}
-use Rattle.lra_linear.specs.Strain.{Loss, Strains, IsStrained, OwnReductionPasses, OwnTooMany}
-use Rattle.lra_linear.proofs.Membership.{contains_head, contains_tail, contains_none, contains_cases}
+use Rattle.lra_linear_spec.specs.declared.Cause.{Cause}
+use Rattle.lra_linear_spec.specs.declared.Cause.TheVariants.{Excess, TooMany}
+use Rattle.lra_linear_spec.specs.Canonical.{IsCanonicalOf}
+use Rattle.lra_linear_spec.specs.Descriptions.{LinearRow, Con, inequality, system_of}
+use Rattle.lra_linear_spec.specs.Cones.{with_row, AreDual, all_rows}
+use Rattle.lra_linear_spec.specs.Vectors.{negated}
+use Rattle.lra_linear_spec.proofs.Combinations.{generated_row}
+use Rattle.lra_linear_spec.proofs.Descriptions.{con_none, system_has, system_has_negated}
+use Rattle.lra_linear_spec.proofs.LinearMaps.{generated_through}
+use Rattle.lra_linear_spec.specs.OperationStrain.{with_positivity, FromRowsStrains, FromGeneratorsStrains}
+use Rattle.lra_linear_spec.specs.Points.{PointSet, IsWithin}
+use Rattle.lra_linear_spec.specs.Polyhedra.{Polyhedron, IsPolyhedronOf, positivity}
+use Rattle.lra_linear_spec.specs.Strain.{Loss, Strains, IsStrained, OwnReductionPasses, OwnTooMany}
+use Rattle.lra_linear_spec.proofs.Membership.{contains_head, contains_tail, contains_none, contains_cases}
 use Rattle.lra_sys.specs.Listed.{given_by}
 use Rattle.lra_cone.specs.Cones.{Shape, IsCone}
 use Rattle.lra_cone.specs.Conversions.{IsConversion}
@@ -28,7 +28,7 @@ use Rattle.lra_pair.specs.OwnLists.{IsOwnLoss, IsOwnCause, IsPositive, TellsOwnL
 use Rattle.lra_pair.specs.TriedRows.{IsMadeOf, IsOfTried, StrainsWhenTried}
 
 -- ---- a row of a list once more
-row_again : (list : List Given) (g : Given) → Contains list g → (t : List ℤ) → Contains (with_row g.equal g.row (system_of list)) t → Contains (system_of list) t
+row_again : (list : List LinearRow) (g : LinearRow) → Contains list g → (t : List ℤ) → Contains (with_row g.equal g.row (system_of list)) t → Contains (system_of list) t
 row_again list g m t k = by_kind g.equal refl k
   where
     by_kind : (b : Bool) → g.equal ≡ b → Contains (with_row b g.row (system_of list)) t → Contains (system_of list) t
@@ -39,7 +39,7 @@ row_again list g m t k = by_kind g.equal refl k
     by_kind false e k = elim (contains_cases g.row t (system_of list) k) [ inl f ↦ subst (Contains (system_of list)) f (system_has list g m) | inr o ↦ o ]
 
 -- it changes nothing of what the list generates
-canonical_again : (w : ℕ) (list : List Given) (g : Given) (lines rays : List (List ℤ)) → Contains list g → IsCanonicalOf w (system_of list) lines rays →
+canonical_again : (w : ℕ) (list : List LinearRow) (g : LinearRow) (lines rays : List (List ℤ)) → Contains list g → IsCanonicalOf w (system_of list) lines rays →
     IsCanonicalOf w (with_row g.equal g.row (system_of list)) lines rays
 canonical_again w list g lines rays m c =
     let system : List (List ℤ) = system_of list in
@@ -53,39 +53,39 @@ canonical_again w list g lines rays m c =
       );
     }
 
-many_again : (w : ℕ) (list : List Given) (g : Given) (count : ℕ) → Contains list g → OwnTooMany w (system_of list) count → OwnTooMany w (with_row g.equal g.row (system_of list)) count
+many_again : (w : ℕ) (list : List LinearRow) (g : LinearRow) (count : ℕ) → Contains list g → OwnTooMany w (system_of list) count → OwnTooMany w (with_row g.equal g.row (system_of list)) count
 many_again w list g count m x = record { lines = x.lines; rays = x.rays; canonical = canonical_again w list g x.lines x.rays m x.canonical; are = x.are; long = x.long }
 
 -- ---- the own list
 own_strained : (s : Shape) (cause : Cause) (loss : Loss) → IsOwnLoss s cause loss → IsOwnCause s cause → IsStrained (suc s.dims) loss.chosen loss.further s.lines s.rays cause
-own_strained s (Excess e) loss l x = inr (inr (inl (subst (λ (g : List Given). OwnReductionPasses (suc s.dims) g s.rays e) (sym l.chosen) x)))
+own_strained s (Excess e) loss l x = inr (inr (inl (subst (λ (g : List LinearRow). OwnReductionPasses (suc s.dims) g s.rays e) (sym l.chosen) x)))
 own_strained s (TooMany count) loss l x =
     let w = suc s.dims in
     let c = loss.further in
-    inr (subst (λ (g : List Given). OwnTooMany w (with_row c.equal c.row (system_of g)) count) (sym l.chosen) (many_again w s.taken c count l.further x))
+    inr (subst (λ (g : List LinearRow). OwnTooMany w (with_row c.equal c.row (system_of g)) count) (sym l.chosen) (many_again w s.taken c count l.further x))
 
 -- where no row was left out before, the own list's strain is the list's
-pub own_strain : (s : Shape) (all : List Given) (cause : Cause) (loss : Loss) → IsCone s → s.taken ≡ all → IsOwnLoss s cause loss → IsOwnCause s cause → Strains (suc s.dims) all loss
+pub own_strain : (s : Shape) (all : List LinearRow) (cause : Cause) (loss : Loss) → IsCone s → s.taken ≡ all → IsOwnLoss s cause loss → IsOwnCause s cause → Strains (suc s.dims) all loss
 own_strain s all cause loss k t l x = record {
   rest = [];
   begins = sym t ∙ sym l.chosen ∙ sym (append-nil loss.chosen);
-  next = inr (subst (λ (g : List Given). Contains g loss.further) (sym l.chosen) l.further);
+  next = inr (subst (λ (g : List LinearRow). Contains g loss.further) (sym l.chosen) l.further);
   lines = s.lines;
   rays = s.rays;
-  dual = subst (λ (g : List Given). AreDual (suc s.dims) (system_of g) (all_rows s.lines s.rays)) (sym l.chosen) k.dual;
+  dual = subst (λ (g : List LinearRow). AreDual (suc s.dims) (system_of g) (all_rows s.lines s.rays)) (sym l.chosen) k.dual;
   canonical = k.canonical;
   strained = subst (IsStrained (suc s.dims) loss.chosen loss.further s.lines s.rays) (sym l.cause) (own_strained s cause loss l x);
 }
 
-pub own_lost : (first all kept : List Given) (s : Shape) (cause : Cause) (losses after : List Loss) (loss : Loss) → IsCone s → IsConversion first all kept s losses → after ≡ losses ++ loss ∷ [] →
+pub own_lost : (first all kept : List LinearRow) (s : Shape) (cause : Cause) (losses after : List Loss) (loss : Loss) → IsCone s → IsConversion first all kept s losses → after ≡ losses ++ loss ∷ [] →
     IsOwnLoss s cause loss → IsOwnCause s cause → IfLost (Strains (suc s.dims) (first ++ all)) after
 own_lost first all kept s cause losses after loss k c ea l x = subst (IfLost (Strains (suc s.dims) (first ++ all))) (sym ea) (by_losses losses c)
   where
     by_losses : (losses : List Loss) → IsConversion first all kept s losses → IfLost (Strains (suc s.dims) (first ++ all)) (losses ++ loss ∷ [])
-    by_losses [] c = own_strain s (first ++ all) cause loss k (c.taken ∙ ap (λ (g : List Given). first ++ g) (c.whole refl)) l x
+    by_losses [] c = own_strain s (first ++ all) cause loss k (c.taken ∙ ap (λ (g : List LinearRow). first ++ g) (c.whole refl)) l x
     by_losses (y ∷ later) c = c.strain
 
-pub from_strain : (n : ℕ) (rows : List Given) (losses : List Loss) → IfLost (Strains (suc n) (with_positivity n rows)) losses → IfLost (FromRowsStrains n rows) losses
+pub from_strain : (n : ℕ) (rows : List LinearRow) (losses : List Loss) → IfLost (Strains (suc n) (with_positivity n rows)) losses → IfLost (FromRowsStrains n rows) losses
 from_strain n rows [] s = tt
 from_strain n rows (loss ∷ later) s = inl s
 
@@ -94,10 +94,10 @@ given_at : {K : Type 0} (equal : K → Bool) (rows : List (List ℤ)) (kinds : L
     Contains (given_by equal rows kinds) (record { row = get_or rows i []; equal = equal (get_or kinds i d) })
 given_at equal [] kinds i d n h = absurd (omega (arith, h))
 given_at equal (r ∷ rows) [] i d n h = absurd (omega (arith, n))
-given_at equal (r ∷ rows) (k ∷ kinds) zero d n h = contains_head (let g : Given = record { row = r; equal = equal k } in g) (given_by equal rows kinds)
+given_at equal (r ∷ rows) (k ∷ kinds) zero d n h = contains_head (let g : LinearRow = record { row = r; equal = equal k } in g) (given_by equal rows kinds)
 given_at equal (r ∷ rows) (k ∷ kinds) (suc i) d n h = contains_tail
-    (let g : Given = record { row = r; equal = equal k } in g)
-    (let g : Given = record { row = get_or rows i []; equal = equal (get_or kinds i d) } in g)
+    (let g : LinearRow = record { row = r; equal = equal k } in g)
+    (let g : LinearRow = record { row = get_or rows i []; equal = equal (get_or kinds i d) } in g)
     (given_by equal rows kinds) (given_at equal rows kinds i d (omega (arith, n)) (omega (arith, h)))
 
 pub own_loss_is : {K : Type 0} (equal : K → Bool) (s : Shape) (cause : Cause) (loss : Loss) (listed rows : List (List ℤ)) (seen kinds : List K) (i : ℕ) (r : List ℤ) (d : K) →
@@ -109,53 +109,53 @@ own_loss_is {K = K} equal s cause loss listed rows seen kinds i r d et el ek n h
     let inside : i < length rows = subst (λ (l : List (List ℤ)). i < length l) el h in
     record {
       chosen = ap (λ (l : Loss). l.chosen) eq ∙ et;
-      further = subst (λ (g : Given). Contains s.taken g) (sym (ap (λ (l : Loss). l.further) eq ∙ ap (λ (y : List ℤ). record { row = y; equal = equal (get_or seen i d) }) here))
-          (subst (λ (l : List Given). Contains l (record { row = get_or rows i []; equal = equal (get_or seen i d) })) et
+      further = subst (λ (g : LinearRow). Contains s.taken g) (sym (ap (λ (l : Loss). l.further) eq ∙ ap (λ (y : List ℤ). record { row = y; equal = equal (get_or seen i d) }) here))
+          (subst (λ (l : List LinearRow). Contains l (record { row = get_or rows i []; equal = equal (get_or seen i d) })) et
           (subst (λ (q : List K). Contains (given_by equal rows kinds) (record { row = get_or rows i []; equal = equal (get_or q i d) })) (sym ek) (given_at equal rows kinds i d many inside)));
       cause = ap (λ (l : Loss). l.cause) eq;
     }
 
 -- ---- generators
-pub from_generators_strain : (n : ℕ) (given : List Given) (losses : List Loss) → IfLost (Strains (suc n) given) losses → IfLost (FromGeneratorsStrains n given) losses
+pub from_generators_strain : (n : ℕ) (given : List LinearRow) (losses : List Loss) → IfLost (Strains (suc n) given) losses → IfLost (FromGeneratorsStrains n given) losses
 from_generators_strain n given [] s = tt
 from_generators_strain n given (loss ∷ later) s = inl s
 
 -- ---- sets of points
-pub first_within : (n : ℕ) (kept rows : List Given) (P : PointSet) → ((g : Given) → Contains kept g → Contains rows g) →
+pub first_within : (n : ℕ) (kept rows : List LinearRow) (P : PointSet) → ((g : LinearRow) → Contains kept g → Contains rows g) →
     IsWithin n (Con kept) P → IsWithin n (Con rows) P
 first_within n kept rows P among h x point con = h x point (λ g m. con g (among g m))
 
 -- ---- as the code tells it, of constraints
-pub taken_behind : (n : ℕ) (first rows kept : List Given) (s : Shape) (losses : List Loss) → IsPositive n first →
+pub taken_behind : (n : ℕ) (first rows kept : List LinearRow) (s : Shape) (losses : List Loss) → IsPositive n first →
     IsConversion first rows kept s losses → drop 1 s.taken ≡ drop 1 first ++ kept
 taken_behind n first rows kept s losses positive c =
-    ap (drop 1) (c.taken ∙ ap (λ (l : List Given). l ++ kept) positive.1) ∙ ap (λ (l : List Given). drop 1 l ++ kept) (sym positive.1)
+    ap (drop 1) (c.taken ∙ ap (λ (l : List LinearRow). l ++ kept) positive.1) ∙ ap (λ (l : List LinearRow). drop 1 l ++ kept) (sym positive.1)
 
 -- rows among others, behind the same
-pub still_among : (front kept rows : List Given) → ((g : Given) → Contains kept g → Contains rows g) → (g : Given) → Contains (front ++ kept) g →
+pub still_among : (front kept rows : List LinearRow) → ((g : LinearRow) → Contains kept g → Contains rows g) → (g : LinearRow) → Contains (front ++ kept) g →
     Contains (front ++ rows) g
 still_among front kept rows among g m = elim (Contains-append_cases front kept g m) [
   | inl f ↦ Contains-append_left front rows g f
   | inr k ↦ Contains-append_right front rows g (among g k)
 ]
 
-pub universe_within : (n d : ℕ) (rows : List Given) (p : Polyhedron) → d ≡ n → IsPolyhedronOf d (Con []) p → IsWithin n (Con rows) (Con p.rows)
+pub universe_within : (n d : ℕ) (rows : List LinearRow) (p : Polyhedron) → d ≡ n → IsPolyhedronOf d (Con []) p → IsWithin n (Con rows) (Con p.rows)
 universe_within n d rows p e h = subst (λ (m : ℕ). IsWithin m (Con rows) (Con p.rows)) e (λ x point con. h.points.0 x point (con_none x))
 
 -- behind the positivity row alone, the list itself
-pub none_behind : (n d : ℕ) (taken rows : List Given) → d ≡ n → taken ≡ inequality (positivity d) ∷ [] → drop 1 taken ++ rows ≡ rows
-none_behind n d taken rows e first = ap (λ (l : List Given). drop 1 l ++ rows) first
+pub none_behind : (n d : ℕ) (taken rows : List LinearRow) → d ≡ n → taken ≡ inequality (positivity d) ∷ [] → drop 1 taken ++ rows ≡ rows
+none_behind n d taken rows e first = ap (λ (l : List LinearRow). drop 1 l ++ rows) first
 
-pub positive_alone : (n d : ℕ) (taken : List Given) → d ≡ n → taken ≡ inequality (positivity d) ∷ [] → IsPositive n taken
+pub positive_alone : (n d : ℕ) (taken : List LinearRow) → d ≡ n → taken ≡ inequality (positivity d) ∷ [] → IsPositive n taken
 positive_alone n d taken e first = ([], first ∙ ap (λ (m : ℕ). inequality (positivity m) ∷ []) e)
 
 -- nothing more was lost
-pub same_strain : (d : ℕ) (s : Shape) (losses : List Loss) → s.dims ≡ d → (first all kept : List Given) → IsConversion first all kept s losses → IfLost (Strains (suc d) (first ++ all)) losses
+pub same_strain : (d : ℕ) (s : Shape) (losses : List Loss) → s.dims ≡ d → (first all kept : List LinearRow) → IsConversion first all kept s losses → IfLost (Strains (suc d) (first ++ all)) losses
 same_strain d s losses e first all kept c = subst (λ (m : ℕ). IfLost (Strains (suc m) (first ++ all)) losses) e c.strain
 
 -- the own list strains
 pub later_strain : (d : ℕ) (s : Shape) (cause : Cause) (losses after : List Loss) → s.dims ≡ d → IsCone s → TellsOwnLoss s cause losses after →
-    IsOwnCause s cause → (first all kept : List Given) → IsConversion first all kept s losses → IfLost (Strains (suc d) (first ++ all)) after
+    IsOwnCause s cause → (first all kept : List LinearRow) → IsConversion first all kept s losses → IfLost (Strains (suc d) (first ++ all)) after
 later_strain d s cause losses after e k t h first all kept c =
     subst (λ (m : ℕ). IfLost (Strains (suc m) (first ++ all)) after) e (own_lost first all kept s cause losses after t.loss k c t.told t.own h)
 
@@ -168,14 +168,15 @@ some_loss s cause losses after told t f g = not_none losses (sym t.told ∙ sym 
     not_none (x ∷ losses) e = let z : x ∷ (losses ++ t.loss ∷ []) ≡ [] = e in cc
 
 -- ---- what is left of the rows
-pub all_of : (n : ℕ) (rows : List Given) (p : Polyhedron) → IsPolyhedronOf n (Con rows) p → IsOfSome n rows p
+pub all_of : (n : ℕ) (rows : List LinearRow) (p : Polyhedron) → IsPolyhedronOf n (Con rows) p → IsOfSome n rows p
 all_of n rows p h = record { rows = rows; among = λ g m. m; made = h }
 
-pub none_of : (n : ℕ) (rows : List Given) (p : Polyhedron) → IsPolyhedronOf n (Con []) p → IsOfSome n rows p
+pub none_of : (n : ℕ) (rows : List LinearRow) (p : Polyhedron) → IsPolyhedronOf n (Con []) p → IsOfSome n rows p
 none_of n rows p h = record { rows = []; among = λ g m. absurd (contains_none g m); made = h }
 
 -- ---- rows that were tried
-pub of_tried : (n d : ℕ) (rows kept : List Given) (s start : Shape) (losses after : List Loss) (p : Polyhedron) → d ≡ n → s.dims ≡ start.dims → start.dims ≡ n →
+pub of_tried : (n d : ℕ) (rows kept : List LinearRow) (s start : Shape) (losses after : List Loss) (p : Polyhedron) → d ≡ n → s.dims ≡ start.dims →
+    start.dims ≡ n →
     IsConversion start.taken rows kept s losses → IsMadeOf d s losses p after → IsOfTried n start.taken rows p after
 of_tried n d rows kept s start losses after p e same dims c h = record {
   cone = s;
@@ -186,28 +187,28 @@ of_tried n d rows kept s start losses after p e same dims c h = record {
   made = subst (λ (m : ℕ). IsMadeOf m s losses p after) e h;
 }
 
-pub behind_positivity : (n d : ℕ) (taken : List Given) → d ≡ n → taken ≡ inequality (positivity d) ∷ [] → taken ≡ with_positivity n []
+pub behind_positivity : (n d : ℕ) (taken : List LinearRow) → d ≡ n → taken ≡ inequality (positivity d) ∷ [] → taken ≡ with_positivity n []
 behind_positivity n d taken e first = first ∙ ap (λ (m : ℕ). inequality (positivity m) ∷ []) e
 
-pub one_left_out : (n : ℕ) (first all kept rows : List Given) (s : Shape) (losses : List Loss) → s.dims ≡ n → rows ≡ all → IsConversion first rows kept s losses → losses ≢ [] →
+pub one_left_out : (n : ℕ) (first all kept rows : List LinearRow) (s : Shape) (losses : List Loss) → s.dims ≡ n → rows ≡ all → IsConversion first rows kept s losses → losses ≢ [] →
     StrainsWhenTried n first all
 one_left_out n first all kept rows s losses d e c some = record {
   cone = s;
   dims = d;
   kept = kept;
   left = losses;
-  conversion = subst (λ (l : List Given). IsConversion first l kept s losses) e c;
+  conversion = subst (λ (l : List LinearRow). IsConversion first l kept s losses) e c;
   strains = inl some;
 }
 
-pub list_strains : (n : ℕ) (first all kept rows : List Given) (s : Shape) (losses : List Loss) → s.dims ≡ n → rows ≡ all → IsConversion first rows kept s losses → losses ≡ [] →
+pub list_strains : (n : ℕ) (first all kept rows : List LinearRow) (s : Shape) (losses : List Loss) → s.dims ≡ n → rows ≡ all → IsConversion first rows kept s losses → losses ≡ [] →
     (cause : Cause) × IsOwnCause s cause → StrainsWhenTried n first all
 list_strains n first all kept rows s losses d e c none h = record {
   cone = s;
   dims = d;
   kept = kept;
   left = losses;
-  conversion = subst (λ (l : List Given). IsConversion first l kept s losses) e c;
+  conversion = subst (λ (l : List LinearRow). IsConversion first l kept s losses) e c;
   strains = inr (none, h);
 }
 

@@ -6,11 +6,11 @@ use Rattle.std.specs.Ordering.{is_eq}
 use Rattle.std.proofs.lemmas.List.{length-append}
 use Rattle.std.proofs.lemmas.List.Elements.{Contains-append_cases, Contains-append_left, Contains-append_right}
 use Rattle.std.proofs.lemmas.List.Sorted.{Contains-permutation, IsPermutation-sym, length_permutation}
-use Rattle.lra_linear.specs.Vectors.{entry}
-use Rattle.lra_linear.specs.Canonical.{IsCanonical}
-use Rattle.lra_linear.specs.RowOrder.{row_cmp}
-use Rattle.lra_linear.proofs.CanonicalForms.{no_repeat}
-use Rattle.lra_linear.proofs.Membership.{NoRepeat, Split, at_most, contains_cases, contains_head, contains_tail, contains_split}
+use Rattle.lra_linear_spec.specs.Vectors.{entry}
+use Rattle.lra_linear_spec.specs.Canonical.{IsCanonical}
+use Rattle.lra_linear_spec.specs.RowOrder.{row_cmp}
+use Rattle.lra_linear_spec.proofs.CanonicalForms.{no_repeat}
+use Rattle.lra_linear_spec.proofs.Membership.{NoRepeat, Split, at_most, contains_cases, contains_head, contains_tail, contains_split}
 use Rattle.lra_descriptions.specs.ShownLists.{points_of, directions_of, without}
 use Rattle.lra_descriptions.proofs.Parted.{points_from, directions_from, parted, parted_length, without_from}
 use Rattle.lra_cone.proofs.RayCase.{other_place, beside_place}

@@ -6,10 +6,10 @@ use Rattle.std.proofs.lemmas.Bool.Decides.{Decides-int_eq}
 use Rattle.std.proofs.lemmas.Bool.{cases_lt}
 use Rattle.std.proofs.lemmas.List.{append-nil, get_or_default}
 use Rattle.std.proofs.lemmas.List.Elements.{Contains-get_or}
-use Rattle.lra_linear.specs.Vectors.{product}
-use Rattle.lra_linear.specs.Descriptions.{Given, rows_of}
-use Rattle.lra_linear.specs.Strain.{is_tight_at, tight_rows}
-use Rattle.lra_linear.proofs.Membership.{contains_none, contains_cases, contains_head, contains_tail}
+use Rattle.lra_linear_spec.specs.Vectors.{product}
+use Rattle.lra_linear_spec.specs.Descriptions.{LinearRow, rows_of}
+use Rattle.lra_linear_spec.specs.Strain.{is_tight_at, tight_rows}
+use Rattle.lra_linear_spec.proofs.Membership.{contains_none, contains_cases, contains_head, contains_tail}
 use Rattle.lra_canon.specs.Reduced.{IsReducedBy}
 use Rattle.lra_bits.specs.TruthValues.{value_at}
 use Rattle.lra_pair.specs.OwnLists.{loose_rows, TellsTight, AllTellTight, AreReducedBy, AreParts}
@@ -86,14 +86,14 @@ either_row rays (x ∷ rows) r k = go (is_tight_at rays x) (λ m. either_row ray
     ]
 
 -- ---- the rows of a list
-pub rows_has : (list : List Given) (g : Given) → Contains list g → Contains (rows_of list) g.row
+pub rows_has : (list : List LinearRow) (g : LinearRow) → Contains list g → Contains (rows_of list) g.row
 rows_has [] g k = absurd (contains_none g k)
 rows_has (x ∷ list) g k = elim (contains_cases x g list k) [
-  | inl e ↦ subst (λ (y : Given). Contains (rows_of (x ∷ list)) y.row) e (contains_head x.row (rows_of list))
+  | inl e ↦ subst (λ (y : LinearRow). Contains (rows_of (x ∷ list)) y.row) e (contains_head x.row (rows_of list))
   | inr m ↦ contains_tail x.row g.row (rows_of list) (rows_has list g m)
 ]
 
-pub rows_from : (list : List Given) (r : List ℤ) → Contains (rows_of list) r → (g : Given) × Contains list g × (g.row ≡ r)
+pub rows_from : (list : List LinearRow) (r : List ℤ) → Contains (rows_of list) r → (g : LinearRow) × Contains list g × (g.row ≡ r)
 rows_from [] r k = absurd (contains_none r k)
 rows_from (x ∷ list) r k = elim (contains_cases x.row r (rows_of list) k) [
   | inl e ↦ (x, contains_head x list, e)

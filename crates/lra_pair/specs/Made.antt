@@ -1,10 +1,10 @@
 -- What is made of lists, and what was lost.
 use Rattle.std.specs.Prelude.{◌≡◌, ℕ, List, []}
-use Rattle.lra_linear.specs.Descriptions.{Con, Gen, Given}
-use Rattle.lra_linear.specs.OperationStrain.{FromGeneratorsStrains, FromRowsStrains}
-use Rattle.lra_linear.specs.Points.{IsWithin, PointSet}
-use Rattle.lra_linear.specs.Polyhedra.{IsPolyhedron, IsPolyhedronOf, Polyhedron}
-use Rattle.lra_linear.specs.Strain.{Loss}
+use Rattle.lra_linear_spec.specs.Descriptions.{Con, Gen, LinearRow}
+use Rattle.lra_linear_spec.specs.OperationStrain.{FromGeneratorsStrains, FromRowsStrains}
+use Rattle.lra_linear_spec.specs.Points.{IsWithin, PointSet}
+use Rattle.lra_linear_spec.specs.Polyhedra.{IsPolyhedron, IsPolyhedronOf, Polyhedron}
+use Rattle.lra_linear_spec.specs.Strain.{Loss}
 use Rattle.lra_cone.specs.Losses.{IfLost}
 
 -- P is made for the set of n dimensions. Whatever was lost, it has all points of the set; without a loss it has no
@@ -18,8 +18,8 @@ pub record IsMadeFor (n : ℕ) (S : PointSet) (strains : Loss → Type 0) (p : P
   pub flagged : IfLost strains losses
 
 -- for the points at which these constraints hold; for those that the generators give
-abbrev pub IsMadeOfRows : ℕ → List Given → Polyhedron → List Loss → Type 0
+abbrev pub IsMadeOfRows : ℕ → List LinearRow → Polyhedron → List Loss → Type 0
 IsMadeOfRows n rows = IsMadeFor n (Con rows) (FromRowsStrains n rows)
 
-abbrev pub IsMadeOfGenerators : ℕ → List Given → Polyhedron → List Loss → Type 0
+abbrev pub IsMadeOfGenerators : ℕ → List LinearRow → Polyhedron → List Loss → Type 0
 IsMadeOfGenerators n list = IsMadeFor n (Gen list) (FromGeneratorsStrains n list)

@@ -4,17 +4,17 @@
 use Rattle.std.specs.Prelude.{◌≡◌, ◌↔◌, ℕ, suc, ◌+◌, ◌<◌, ◌≤◌, ℤ, pos, Bool, true, cond}
 use Rattle.std.specs.Prelude.{List, [], ◌∷◌, ◌++◌, length, slice_index_or, nat_lt}
 use Rattle.std.specs.List.{Contains}
-use Rattle.lra_linear.specs.Vectors.{product}
-use Rattle.lra_linear.specs.Canonical.{IsCanonicalOf}
-use Rattle.lra_linear.specs.Descriptions.{Given, inequality, system_of}
-use Rattle.lra_linear.specs.Polyhedra.{positivity}
-use Rattle.lra_linear.specs.declared.Cause.{Cause}
-use Rattle.lra_linear.specs.declared.Cause.TheVariants as of_cause
-use Rattle.lra_linear.specs.Strain.{Loss, is_tight_at, tight_rows, OwnReductionPasses, OwnTooMany}
+use Rattle.lra_linear_spec.specs.Vectors.{product}
+use Rattle.lra_linear_spec.specs.Canonical.{IsCanonicalOf}
+use Rattle.lra_linear_spec.specs.Descriptions.{LinearRow, inequality, system_of}
+use Rattle.lra_linear_spec.specs.Polyhedra.{positivity}
+use Rattle.lra_linear_spec.specs.declared.Cause.{Cause}
+use Rattle.lra_linear_spec.specs.declared.Cause.TheVariants as of_cause
+use Rattle.lra_linear_spec.specs.Strain.{Loss, is_tight_at, tight_rows, OwnReductionPasses, OwnTooMany}
 use Rattle.lra_bits.specs.Matrix.{Matrix}
 use Rattle.lra_bits.specs.TruthValues.{value_at}
 use Rattle.lra_descriptions.specs.Tightness.{tight_matrix}
-use Rattle.lra_linear.specs.Reduction.{ReductionPasses}
+use Rattle.lra_linear_spec.specs.Reduction.{ReductionPasses}
 use Rattle.lra_canon.specs.Reduced.{IsReducedBy}
 use Rattle.lra_row.specs.declared.error.RowError.{RowError}
 use Rattle.lra_row.specs.declared.error.RowError.TheVariants.{Excess, Memory}
@@ -76,8 +76,8 @@ AnyReductionExcess form rows (Excess e) = (r : List ℤ) × Contains rows r × R
 AnyReductionExcess form rows Memory = Unit {0}
 
 -- the positivity row stands first
-abbrev pub IsPositive : ℕ → List Given → Type 0
-IsPositive n taken = (kept : List Given) × (taken ≡ inequality (positivity n) ∷ kept)
+abbrev pub IsPositive : ℕ → List LinearRow → Type 0
+IsPositive n taken = (kept : List LinearRow) × (taken ≡ inequality (positivity n) ∷ kept)
 
 -- the loss of the own list of the rows taken in, one of which is named
 pub record IsOwnLoss (s : Shape) (reason : Cause) (loss : Loss) : Type 0 where

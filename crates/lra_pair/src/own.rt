@@ -4,8 +4,8 @@ ghost use Rattle.std.specs.Prelude.{◌≡◌, ◌++◌, ◌∷◌, [], ℕ, Lis
 ghost use Rattle.std.specs.Prelude.{IfOk, IfErr, OnOk, slice_index_or};
 ghost use Rattle.lra_cone.specs.Cones.{IsCone};
 ghost use Rattle.lra_steps.specs.Steps.{IsFilled};
-ghost use Rattle.lra_linear.specs.ConeStrain.{row_limit};
-ghost use Rattle.lra_linear.specs.Descriptions.{rows_of};
+ghost use Rattle.lra_linear_spec.specs.ConeStrain.{row_limit};
+ghost use Rattle.lra_linear_spec.specs.Descriptions.{rows_of};
 ghost use Rattle.lra_canon.specs.Reduced.{IsForm};
 ghost use Rattle.lra_canon.specs.Echelons.{HaveWidth};
 ghost use Rattle.lra_pair.specs.OwnLists.{TellsTight, AreParts, AreReducedBy, AnyReductionExcess};
@@ -16,7 +16,7 @@ ghost use Rattle.lra_sys.specs.Dimensions.{too_many_dimensions};
 use lra_bits::{BitRow, SatMatrix};
 use lra_canon::{drop_redundant, echelon, reduce};
 use lra_cone::{Cone, RAY_LIMIT};
-use lra_linear::Cause;
+use lra_linear_spec::Cause;
 use lra_row::{Row, RowError};
 use std::alloc::{AllocError, Global};
 

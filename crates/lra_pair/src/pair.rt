@@ -3,17 +3,17 @@
 ghost use Rattle.std.specs.Prelude.{◌≡◌, ◌∷◌, ◌++◌, ◌<◌, ◌≤◌, [], length, drop, IfOk, IfSome, IfNone};
 ghost use Rattle.std.specs.Prelude.{◌≢◌, take, OnOk};
 ghost use Rattle.std.specs.List.{Contains};
-ghost use Rattle.lra_linear.specs.Descriptions.{AreGenerators, Con, Gen, inequality};
-ghost use Rattle.lra_linear.specs.ConeStrain.{row_limit};
-ghost use Rattle.lra_linear.specs.Formed.{KeepsLimit};
-ghost use Rattle.lra_linear.specs.OperationStrain.{with_positivity};
-ghost use Rattle.lra_linear.specs.Points.{IsEmptySet};
-ghost use Rattle.lra_linear.specs.Polyhedra.{IsPolyhedron, IsPolyhedronOf, falsity};
+ghost use Rattle.lra_linear_spec.specs.Descriptions.{AreGenerators, Con, Gen, inequality};
+ghost use Rattle.lra_linear_spec.specs.ConeStrain.{row_limit};
+ghost use Rattle.lra_linear_spec.specs.Representable.{KeepsLimit};
+ghost use Rattle.lra_linear_spec.specs.OperationStrain.{with_positivity};
+ghost use Rattle.lra_linear_spec.specs.Points.{IsEmptySet};
+ghost use Rattle.lra_linear_spec.specs.Polyhedra.{IsPolyhedron, IsPolyhedronOf, falsity};
 ghost use Rattle.lra_sys.specs.Dimensions.{too_many_dimensions};
 ghost use Rattle.lra_sys.specs.Listed.{constraints, generators, FitKinds};
 ghost use Rattle.lra_cone.specs.Cones.{IsCone};
-ghost use Rattle.lra_linear.specs.declared.Cause as told;
-ghost use Rattle.lra_linear.specs.declared.GenKind.TheVariants.{Point};
+ghost use Rattle.lra_linear_spec.specs.declared.Cause as told;
+ghost use Rattle.lra_linear_spec.specs.declared.GenKind.TheVariants.{Point};
 ghost use Rattle.lra_pair.specs.KeptRows.{IsOfSome};
 ghost use Rattle.lra_pair.specs.Made.{IsMadeOfGenerators, IsMadeOfRows};
 ghost use Rattle.lra_descriptions.specs.ShownLists.{ShowsConstraints, ShowsGenerators};
@@ -31,7 +31,7 @@ use lra_descriptions::{
     KnownConstraints, KnownGenerators, dual_rows, generator_list, has_point, known_constraints,
     known_generators, nothing,
 };
-use lra_linear::Cause;
+use lra_linear_spec::Cause;
 use lra_sys::{ConSys, GenSys, TOO_MANY_DIMENSIONS, unit};
 use std::alloc::{AllocError, Global};
 use std::marker::Model;
@@ -56,8 +56,8 @@ impl Drop for Pair {
 
 impl Model for Pair {
     ghost use Rattle.std.specs.Prelude.{◌≡◌};
-    ghost use Rattle.lra_linear.specs.Formed.{KeepsLimit};
-    ghost use Rattle.lra_linear.specs.Polyhedra.{Polyhedron, IsPolyhedron};
+    ghost use Rattle.lra_linear_spec.specs.Representable.{KeepsLimit};
+    ghost use Rattle.lra_linear_spec.specs.Polyhedra.{Polyhedron, IsPolyhedron};
     ghost use Rattle.lra_sys.specs.Listed.{constraints, generators, FitKinds};
     ghost use Rattle.lra_descriptions.specs.Tightness.{saturation_of};
 

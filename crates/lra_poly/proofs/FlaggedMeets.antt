@@ -2,11 +2,11 @@
 use Rattle.std.proofs.Common.{◌≡◌, ◌∙◌, ℕ, suc, List, [], ◌∷◌, ◌++◌, ap, refl, subst, sym, inl, inr}
 use Rattle.std.specs.List.{Contains}
 use Rattle.std.proofs.lemmas.List.{append-nil, append_assoc}
-use Rattle.lra_linear.specs.Descriptions.{Given}
-use Rattle.lra_linear.specs.OperationStrain.{with_positivity}
-use Rattle.lra_linear.specs.Polyhedra.{Polyhedron}
-use Rattle.lra_linear.specs.Strain.{Loss, Strains}
-use Rattle.lra_linear.proofs.Membership.{contains_cases, contains_head, contains_none, contains_tail}
+use Rattle.lra_linear_spec.specs.Descriptions.{LinearRow}
+use Rattle.lra_linear_spec.specs.OperationStrain.{with_positivity}
+use Rattle.lra_linear_spec.specs.Polyhedra.{Polyhedron}
+use Rattle.lra_linear_spec.specs.Strain.{Loss, Strains}
+use Rattle.lra_linear_spec.proofs.Membership.{contains_cases, contains_head, contains_none, contains_tail}
 use Rattle.lra_cone.specs.Cones.{Shape}
 use Rattle.lra_cone.specs.Conversions.{AreTried, IsConversion}
 use Rattle.lra_duality.specs.Onward.{MayGoOn}
@@ -24,7 +24,7 @@ nothing_told : {A : Type 0} {x : A} {xs : List A} → [] ≡ x ∷ xs → ⊥
 nothing_told e = cc
 
 -- the first that was left out
-first_left : (n : ℕ) (taken all kept : List Given) (left later : List Loss) (loss : Loss) → AreTried (suc n) taken all kept left → left ≡ loss ∷ later →
+first_left : (n : ℕ) (taken all kept : List LinearRow) (left later : List Loss) (loss : Loss) → AreTried (suc n) taken all kept left → left ≡ loss ∷ later →
     StrainsBehind n taken all loss
 first_left n taken [] kept left later loss t e = absurd (nothing_told (sym t.1 ∙ e))
 first_left n taken (g ∷ all) kept left later loss (inl t) e =
@@ -47,11 +47,11 @@ first_left n taken (g ∷ all) kept left later loss (inr t) e =
       before = [];
       chosen = chosen ∙ sym (append-nil taken);
       among = λ x has. absurd (contains_none x has);
-      strains = inl (subst (λ (l : List Given). Strains (suc n) (l ++ loss.further ∷ []) loss) (sym chosen)
-          (subst (λ (f : Given). Strains (suc n) (taken ++ f ∷ []) loss) (sym further) strains));
+      strains = inl (subst (λ (l : List LinearRow). Strains (suc n) (l ++ loss.further ∷ []) loss) (sym chosen)
+          (subst (λ (f : LinearRow). Strains (suc n) (taken ++ f ∷ []) loss) (sym further) strains));
     }
 
-own_strains : (n : ℕ) (first all kept : List Given) (s : Shape) (left losses later : List Loss) (loss : Loss) → IsConversion first all kept s left → s.dims ≡ n →
+own_strains : (n : ℕ) (first all kept : List LinearRow) (s : Shape) (left losses later : List Loss) (loss : Loss) → IsConversion first all kept s left → s.dims ≡ n →
     AreTried (suc n) first all kept left → OwnListStrains s left losses → losses ≡ loss ∷ later → StrainsBehind n first all loss
 own_strains n first all kept s [] losses later loss c d t o e =
     let told : Loss = o.told.loss in
@@ -62,12 +62,12 @@ own_strains n first all kept s [] losses later loss c d t o e =
       chosen = subst (λ (l : Loss). l.chosen ≡ first ++ kept) is (o.told.own.chosen ∙ c.taken);
       among = c.among;
       strains = inr (subst (λ (l : Loss). Strains (suc n) l.chosen l) is (subst (λ (m : ℕ). Strains (suc m) told.chosen told) d
-          (subst (λ (g : List Given). Strains (suc s.dims) g told) (sym o.told.own.chosen) strains)));
+          (subst (λ (g : List LinearRow). Strains (suc s.dims) g told) (sym o.told.own.chosen) strains)));
     }
 own_strains n first all kept s (x ∷ left) losses later loss c d t o e =
     let is : x ≡ loss = same_head (sym o.told.told ∙ e) in first_left n first all kept (x ∷ left) left loss t (ap (λ (l : Loss). l ∷ left) is)
 
-tried_strains : (n : ℕ) (first all : List Given) (made : Polyhedron) (losses later : List Loss) (loss : Loss) → IsOfTried n first all made losses → losses ≡ loss ∷ later →
+tried_strains : (n : ℕ) (first all : List LinearRow) (made : Polyhedron) (losses later : List Loss) (loss : Loss) → IsOfTried n first all made losses → losses ≡ loss ∷ later →
     StrainsBehind n first all loss
 tried_strains n first all made losses later loss t e =
     let tried : AreTried (suc n) first all t.kept t.left = subst (λ (d : ℕ). AreTried (suc d) first all t.kept t.left) t.dims t.conversion.tried in
@@ -82,14 +82,14 @@ same_loss e = cc
 never_exact : {x : Loss} → Flagged x ≡ Exact → ⊥
 never_exact e = cc
 
-told_strains : (n : ℕ) (first all : List Given) (made : Polyhedron) (loss : Loss) → IsTried n first all made (Flagged loss) → StrainsBehind n first all loss
+told_strains : (n : ℕ) (first all : List LinearRow) (made : Polyhedron) (loss : Loss) → IsTried n first all made (Flagged loss) → StrainsBehind n first all loss
 told_strains n first all made loss t = by_losses t.losses t.told t.of
   where
     by_losses : (losses : List Loss) → Flagged loss ≡ first_loss losses → IsOfTried n first all made losses → StrainsBehind n first all loss
     by_losses [] e of = absurd (never_exact e)
     by_losses (x ∷ later) e of = tried_strains n first all made (x ∷ later) later loss of (ap (λ (l : Loss). l ∷ later) (same_loss (sym e)))
 
-pub flagged_onward : (p q : Polyhedron) (more : List Given) (loss : Loss) → MayGoOn p.dims p.generators → IsNarrowed p more q (Flagged loss) →
+pub flagged_onward : (p q : Polyhedron) (more : List LinearRow) (loss : Loss) → MayGoOn p.dims p.generators → IsNarrowed p more q (Flagged loss) →
     StrainsBehind p.dims (with_positivity p.dims p.rows) more loss
 flagged_onward p q more loss may (inl same) = absurd (never_exact same.2)
 flagged_onward p q more loss may (inr n) = elim n.is_met [

@@ -2,24 +2,24 @@
 use Rattle.std.proofs.Common.{◌≡◌, ◌∙◌, ℕ, ℤ, Bool, List, [], ◌∷◌, ap, inl, inr, refl, subst, sym}
 use Rattle.std.specs.List.{All, Contains}
 use Rattle.std.proofs.lemmas.List.Elements.{All-contains}
-use Rattle.lra_linear.specs.Descriptions.{Given}
-use Rattle.lra_linear.specs.Formed.{AreInRange, IsFormed, KeepsLimit}
-use Rattle.lra_linear.specs.Kinds.{is_equality, is_line}
-use Rattle.lra_linear.specs.Polyhedra.{IsPolyhedron, Polyhedron}
-use Rattle.lra_linear.specs.Range.{InRange}
-use Rattle.lra_linear.specs.declared.ConKind.{ConKind}
-use Rattle.lra_linear.specs.declared.GenKind.{GenKind}
+use Rattle.lra_linear_spec.specs.Descriptions.{LinearRow}
+use Rattle.lra_linear_spec.specs.Representable.{AreInRange, IsRepresentable, KeepsLimit}
+use Rattle.lra_linear_spec.specs.Kinds.{is_equality, is_line}
+use Rattle.lra_linear_spec.specs.Polyhedra.{IsPolyhedron, Polyhedron}
+use Rattle.lra_linear_spec.specs.Range.{InRange}
+use Rattle.lra_linear_spec.specs.declared.ConKind.{ConKind}
+use Rattle.lra_linear_spec.specs.declared.GenKind.{GenKind}
 use Rattle.lra_sys.specs.Listed.{FitKinds, Listed, constraints, generators, given_by}
 use Rattle.lra_bits.specs.Matrix.{Matrix}
 use Rattle.lra_duality.specs.Saturations.{saturation_of}
-use Rattle.lra_linear.proofs.Membership.{contains_cases, contains_head, contains_none, contains_tail}
+use Rattle.lra_linear_spec.proofs.Membership.{contains_cases, contains_head, contains_none, contains_tail}
 
-given_row : {K : Type 0} (k : K → Bool) (rows : List (List ℤ)) (kinds : List K) (g : Given) →
+given_row : {K : Type 0} (k : K → Bool) (rows : List (List ℤ)) (kinds : List K) (g : LinearRow) →
     Contains (given_by k rows kinds) g → Contains rows g.row
 given_row k [] kinds g c = absurd (contains_none g c)
 given_row k (r ∷ rows) [] g c = absurd (contains_none g c)
 given_row k (r ∷ rows) (q ∷ kinds) g c =
-    elim (contains_cases (let x : Given = record { row = r; equal = k q } in x) g (given_by k rows kinds) c) [
+    elim (contains_cases (let x : LinearRow = record { row = r; equal = k q } in x) g (given_by k rows kinds) c) [
       | inl e ↦ subst (λ y. Contains (r ∷ rows) y.row) e (contains_head r rows)
       | inr d ↦ contains_tail r g.row rows (given_row k rows kinds g d)
     ]
@@ -40,7 +40,7 @@ pub formed_lists : (rows : Listed ConKind) (by_generators : Listed GenKind) → 
   rows = constraints rows;
   generators = generators by_generators;
 }) → (one two : List (List ℤ)) → one ≡ rows.rows → two ≡ by_generators.rows →
-    All (All InRange) one → All (All InRange) two → IsFormed (record {
+    All (All InRange) one → All (All InRange) two → IsRepresentable (record {
       dims = rows.dims;
       rows = constraints rows;
       generators = generators by_generators;
@@ -72,6 +72,6 @@ pub taken_over : (p : Polyhedron) (rows : Listed ConKind) (by_generators : Liste
 taken_over p rows by_generators ed er eh eg fit canonical limit =
     let q : Polyhedron = record { dims = rows.dims; rows = constraints rows; generators = generators by_generators } in
     let same : q ≡ p = ap (λ (n : ℕ). let x : Polyhedron = record { dims = n; rows = constraints rows; generators = generators by_generators } in x) ed ∙
-    ap (λ (l : List Given). let x : Polyhedron = record { dims = p.dims; rows = l; generators = generators by_generators } in x) er ∙
-    ap (λ (l : List Given). let x : Polyhedron = record { dims = p.dims; rows = p.rows; generators = l } in x) eg in
+    ap (λ (l : List LinearRow). let x : Polyhedron = record { dims = p.dims; rows = l; generators = generators by_generators } in x) er ∙
+    ap (λ (l : List LinearRow). let x : Polyhedron = record { dims = p.dims; rows = p.rows; generators = l } in x) eg in
     (subst IsPolyhedron (sym same) canonical, eh ∙ sym ed, fit, refl, subst KeepsLimit (sym same) limit)

@@ -2,11 +2,11 @@
 use Rattle.std.proofs.Common.{◌≡◌, ◌∙◌, ◌↔◌, ℕ, List, ◌∷◌, ◌++◌, ap, refl, subst, sym, Bool, true, false, drop, IsTrue, inl, inr, []}
 use Rattle.std.specs.List.{Contains}
 use Rattle.std.proofs.lemmas.List.Elements.{All-contains, Contains-append_right}
-use Rattle.lra_linear.specs.Descriptions.{Con, Given, inequality}
-use Rattle.lra_linear.specs.OperationStrain.{FromRowsStrains, with_positivity}
-use Rattle.lra_linear.specs.Polyhedra.{Polyhedron, positivity}
-use Rattle.lra_linear.specs.Strain.{Loss}
-use Rattle.lra_linear.proofs.Membership.{contains_head}
+use Rattle.lra_linear_spec.specs.Descriptions.{Con, LinearRow, inequality}
+use Rattle.lra_linear_spec.specs.OperationStrain.{FromRowsStrains, with_positivity}
+use Rattle.lra_linear_spec.specs.Polyhedra.{Polyhedron, positivity}
+use Rattle.lra_linear_spec.specs.Strain.{Loss}
+use Rattle.lra_linear_spec.proofs.Membership.{contains_head}
 use Rattle.lra_sys.specs.FirstPlaces.{FirstAt}
 use Rattle.lra_duality.specs.Inclusions.{IsInclusion, Meets, MeetsAll, Passes, ViolatesFirst, Violates}
 use Rattle.lra_duality.specs.declared.inclusion.Inclusion.{Inclusion}
@@ -25,7 +25,7 @@ use Rattle.lra_poly.specs.declared.outcome.Outcome.TheVariants.{Exact, Flagged}
 at_place : {A : Type 0} (P Q R : A → Type 0) (list : List A) (place : ℕ) (f : FirstAt P Q list place) → ((x : A) → Contains list x → R x) → R f.member
 at_place P Q R list place f h = h f.member (subst (λ l. Contains l f.member) (sym f.is) (Contains-append_right f.earlier (f.member ∷ f.later) f.member (contains_head f.member f.later)))
 
-pub only_yes : (rows generators : List Given) (answer : Inclusion) → IsInclusion rows generators answer → IsInclusion rows generators Yes → answer ≡ Yes
+pub only_yes : (rows generators : List LinearRow) (answer : Inclusion) → IsInclusion rows generators answer → IsInclusion rows generators Yes → answer ≡ Yes
 only_yes rows generators Yes told seen = refl
 only_yes rows generators (No place) told seen =
     let g = told.member in
@@ -46,11 +46,11 @@ pub never : (b : Bool) → b ≡ false → IsTrue b → ⊥
 never b f t = cc
 
 -- what the code answers by the first pair that decides
-pub is_yes : (rows generators : List Given) (answer : Inclusion) (told : IsInclusion rows generators answer) → answer ≡ Yes →
+pub is_yes : (rows generators : List LinearRow) (answer : Inclusion) (told : IsInclusion rows generators answer) → answer ≡ Yes →
     (IsTrue true ↔ IsInclusion rows generators Yes)
 is_yes rows generators answer told e = (λ _. subst (IsInclusion rows generators) e told, λ _. refl)
 
-pub is_other : (rows generators : List Given) (answer other : Inclusion) → IsInclusion rows generators answer → answer ≡ other → (other ≡ Yes → ⊥) →
+pub is_other : (rows generators : List LinearRow) (answer other : Inclusion) → IsInclusion rows generators answer → answer ≡ other → (other ≡ Yes → ⊥) →
     (IsTrue false ↔ IsInclusion rows generators Yes)
 is_other rows generators answer other told e apart = (
   λ t. absurd (never false refl t),
@@ -64,29 +64,29 @@ pub wide_is_not_yes : (place row : ℕ) → Wide place row ≡ Yes → ⊥
 wide_is_not_yes place row e = cc
 
 -- ---- rows that were tried
-pub tried_of : (n : ℕ) (first all : List Given) (made pair : Polyhedron) (o : Outcome) (losses : List Loss) → made ≡ pair → o ≡ first_loss losses → IsOfTried n first all pair losses →
+pub tried_of : (n : ℕ) (first all : List LinearRow) (made pair : Polyhedron) (o : Outcome) (losses : List Loss) → made ≡ pair → o ≡ first_loss losses → IsOfTried n first all pair losses →
     IsTried n first all made o
 tried_of n first all made pair o losses e told of = record { losses = losses; told = told; of = subst (λ (p : Polyhedron). IsOfTried n first all p losses) (sym e) of }
 
-pub met_onward : (p view : Polyhedron) (taken more : List Given) (d : ℕ) (made : Polyhedron) (o : Outcome) → view ≡ p → MayGoOn view.dims view.generators →
+pub met_onward : (p view : Polyhedron) (taken more : List LinearRow) (d : ℕ) (made : Polyhedron) (o : Outcome) → view ≡ p → MayGoOn view.dims view.generators →
     taken ≡ inequality (positivity view.dims) ∷ view.rows → d ≡ p.dims → IsTried d taken more made o → IsMetWith p more made o
 met_onward p view taken more d made o e may et ed t = inl (
   subst (λ (q : Polyhedron). MayGoOn q.dims q.generators) e may,
   subst (λ (n : ℕ). IsTried n (with_positivity p.dims p.rows) more made o) ed
-      (subst (λ (l : List Given). IsTried d l more made o) (et ∙ ap (λ (q : Polyhedron). with_positivity q.dims q.rows) e) t),
+      (subst (λ (l : List LinearRow). IsTried d l more made o) (et ∙ ap (λ (q : Polyhedron). with_positivity q.dims q.rows) e) t),
 )
 
-pub met_anew : (p view : Polyhedron) (more : List Given) (made : Polyhedron) (o : Outcome) → view ≡ p → ¬ (MayGoOn view.dims view.generators) →
+pub met_anew : (p view : Polyhedron) (more : List LinearRow) (made : Polyhedron) (o : Outcome) → view ≡ p → ¬ (MayGoOn view.dims view.generators) →
     IsTried p.dims (with_positivity p.dims []) (p.rows ++ more) made o → IsMetWith p more made o
 met_anew p view more made o e fails t = inr (subst (λ (q : Polyhedron). ¬ (MayGoOn q.dims q.generators)) e fails, t)
 
 -- what was tried tells what is made
-tried_becomes : (n : ℕ) (first all : List Given) (made : Polyhedron) (o : Outcome) → IsPositive n first → IsTried n first all made o → IsOfRows n (drop 1 first ++ all) made o
+tried_becomes : (n : ℕ) (first all : List LinearRow) (made : Polyhedron) (o : Outcome) → IsPositive n first → IsTried n first all made o → IsOfRows n (drop 1 first ++ all) made o
 tried_becomes n first all made o positive t =
     let rows = drop 1 first ++ all in
     becomes_told n (Con rows) (FromRowsStrains n rows) made made o t.losses refl t.told (tried_is_made n first all made t.losses positive t.of)
 
-pub met_becomes : (p made : Polyhedron) (more : List Given) (o : Outcome) → IsMetWith p more made o → IsOfRows p.dims (p.rows ++ more) made o
+pub met_becomes : (p made : Polyhedron) (more : List LinearRow) (o : Outcome) → IsMetWith p more made o → IsOfRows p.dims (p.rows ++ more) made o
 met_becomes p made more o (inl x) = tried_becomes p.dims (with_positivity p.dims p.rows) more made o (p.rows, refl) x.1
 met_becomes p made more o (inr x) = tried_becomes p.dims (with_positivity p.dims []) (p.rows ++ more) made o ([], refl) x.1
 

@@ -1,19 +1,20 @@
 -- What the operations' lists tell of sets of points.
 use Rattle.std.proofs.Common.{◌≡◌, ◌≢◌, ℕ, suc, Bool, List, [], ◌∷◌, ◌++◌, length, ap, sym, ◌∙◌, subst, ℤ, pos, ◌≤ℤ◌, inl, inr, refl, arith}
 use Rattle.std.specs.List.{Contains}
-use Rattle.lra_linear.specs.Descriptions.{Con, Gen, Given, Holds, inequality, system_of}
-use Rattle.lra_linear.specs.OperationStrain.{ConstraintsStrain, FromRowsStrains, FromGeneratorsStrains, MeetStrains, AddTestStrains, HullStrains, ResultStrains}
-use Rattle.lra_linear.specs.Points.{IsPoint, IsWithin, IsEmptySet, SameSet, PointSet}
-use Rattle.lra_linear.specs.Polyhedra.{Polyhedron, IsPolyhedron, IsPolyhedronOf, positivity}
-use Rattle.lra_linear.specs.SetOperations.{Meet, Union, Hull}
-use Rattle.lra_linear.specs.Strain.{Loss}
-use Rattle.lra_linear.specs.Vectors.{entry, product}
-use Rattle.lra_linear.proofs.Combinations.{generated_row}
-use Rattle.lra_linear.proofs.Descriptions.{con_cons, con_head, con_none, con_solves, solves_con, generated_gen, gen_generated}
-use Rattle.lra_linear.proofs.LinearMaps.{generated_nonneg, generated_through}
-use Rattle.lra_linear.proofs.Membership.{contains_none}
-use Rattle.lra_linear.proofs.Polyhedra.{con_gen}
-use Rattle.lra_linear.proofs.SetOperations.{has_vertex, meet_con, system_append, system_append_in, valid_on_rows}
+use Rattle.lra_linear_spec.specs.Descriptions.{Con, Gen, LinearRow, Holds, inequality, system_of}
+use Rattle.lra_linear_spec.specs.OperationStrain.{ConstraintsStrain, FromRowsStrains, FromGeneratorsStrains, MeetStrains, AddTestStrains, HullStrains}
+use Rattle.lra_linear_spec.specs.OperationStrain.{ResultStrains}
+use Rattle.lra_linear_spec.specs.Points.{IsPoint, IsWithin, IsEmptySet, SameSet, PointSet}
+use Rattle.lra_linear_spec.specs.Polyhedra.{Polyhedron, IsPolyhedron, IsPolyhedronOf, positivity}
+use Rattle.lra_linear_spec.specs.SetOperations.{Meet, Union, Hull}
+use Rattle.lra_linear_spec.specs.Strain.{Loss}
+use Rattle.lra_linear_spec.specs.Vectors.{entry, product}
+use Rattle.lra_linear_spec.proofs.Combinations.{generated_row}
+use Rattle.lra_linear_spec.proofs.Descriptions.{con_cons, con_head, con_none, con_solves, solves_con, generated_gen, gen_generated}
+use Rattle.lra_linear_spec.proofs.LinearMaps.{generated_nonneg, generated_through}
+use Rattle.lra_linear_spec.proofs.Membership.{contains_none}
+use Rattle.lra_linear_spec.proofs.Polyhedra.{con_gen}
+use Rattle.lra_linear_spec.proofs.SetOperations.{has_vertex, meet_con, system_append, system_append_in, valid_on_rows}
 use Rattle.lra_poly.specs.declared.outcome.Outcome.{Outcome}
 use Rattle.lra_poly.specs.declared.outcome.Outcome.TheVariants.{Exact, Flagged}
 use Rattle.lra_poly.specs.Outcomes.{Becomes, IfExact, IfFlagged, IsOfGenerators, IsOfRows, first_loss}
@@ -22,9 +23,9 @@ use Rattle.lra_cone.specs.Losses.{IfLost}
 use Rattle.lra_pair.specs.Made.{IsMadeFor}
 use Rattle.lra_pair.specs.OwnLists.{IsPositive}
 use Rattle.lra_pair.proofs.OwnRows.{none_of}
-use Rattle.lra_linear.specs.Kinds.{is_line}
+use Rattle.lra_linear_spec.specs.Kinds.{is_line}
 use Rattle.lra_sys.specs.Listed.{Listed, generators, given_by}
-use Rattle.lra_linear.specs.declared.GenKind.{GenKind}
+use Rattle.lra_linear_spec.specs.declared.GenKind.{GenKind}
 use Rattle.std.specs.Prelude.{◌↔◌, ◌==◌, IsTrue}
 
 -- ---- other words for the exact result
@@ -35,10 +36,10 @@ same_polyhedron n P Q p s h = record {
   points = (λ x i c. h.points.0 x i (s.0 x i c), λ x i c. s.1 x i (h.points.1 x i c));
 }
 
-pub result_strain : (n : ℕ) (P Q : PointSet) (list : Polyhedron → List Given) (loss : Loss) → SameSet n P Q → ResultStrains n Q list loss → ResultStrains n P list loss
+pub result_strain : (n : ℕ) (P Q : PointSet) (list : Polyhedron → List LinearRow) (loss : Loss) → SameSet n P Q → ResultStrains n Q list loss → ResultStrains n P list loss
 result_strain n P Q list loss s r = record { result = r.result; is_result = same_polyhedron n P Q r.result s r.is_result; strains = r.strains }
 
-pub constraints_strain : (n : ℕ) (P Q : PointSet) (taken : List Given) (loss : Loss) → SameSet n P Q → ConstraintsStrain n Q taken loss → ConstraintsStrain n P taken loss
+pub constraints_strain : (n : ℕ) (P Q : PointSet) (taken : List LinearRow) (loss : Loss) → SameSet n P Q → ConstraintsStrain n Q taken loss → ConstraintsStrain n P taken loss
 constraints_strain n P Q taken loss s (inl a) = inl a
 constraints_strain n P Q taken loss s (inr b) = inr (result_strain n P Q (λ p. p.generators) loss s b)
 
@@ -116,27 +117,27 @@ emptiness p list kinds b h e ek n is = let said = none_counted kinds b is in (
 
 -- ---- as the code tells it
 -- the exact result of constraints that have no other points than the old value; a value that lies in it; the old value
-pub exact_inside : (n m : ℕ) (list old : List Given) (self made : Polyhedron) (o : Outcome) → o ≡ Exact → self ≡ made → n ≡ m → IfExact (IsPolyhedronOf m (Con list) made) o →
+pub exact_inside : (n m : ℕ) (list old : List LinearRow) (self made : Polyhedron) (o : Outcome) → o ≡ Exact → self ≡ made → n ≡ m → IfExact (IsPolyhedronOf m (Con list) made) o →
     IsWithin n (Con list) (Con old) → IsWithin n (Con self.rows) (Con old)
 exact_inside n m list old self made o eo es d h k =
     let a : IsPolyhedronOf m (Con list) made = subst (IfExact (IsPolyhedronOf m (Con list) made)) eo h in
     λ x i c. k x i (a.points.1 x (subst (λ (j : ℕ). IsPoint j x) d i) (subst (λ (y : Polyhedron). Con y.rows x) es c))
 
-pub made_inside : (n : ℕ) (old : List Given) (self made : Polyhedron) → self ≡ made → n ≡ made.dims → IsWithin made.dims (Con made.rows) (Con old) → IsWithin n (Con self.rows) (Con old)
+pub made_inside : (n : ℕ) (old : List LinearRow) (self made : Polyhedron) → self ≡ made → n ≡ made.dims → IsWithin made.dims (Con made.rows) (Con old) → IsWithin n (Con self.rows) (Con old)
 made_inside n old self made es d h x i c = h x (subst (λ (j : ℕ). IsPoint j x) d i) (subst (λ (y : Polyhedron). Con y.rows x) es c)
 
 pub old_inside : (n : ℕ) (self old : Polyhedron) → self ≡ old → IsWithin n (Con self.rows) (Con old.rows)
 old_inside n self old es x i c = subst (λ (y : Polyhedron). Con y.rows x) es c
 
-pub joined_seen : (list first second rows more : List Given) → list ≡ first ++ second → first ≡ rows → second ≡ more → list ≡ rows ++ more
-joined_seen list first second rows more e ef es = e ∙ ap (λ (l : List Given). l ++ second) ef ∙ ap (λ (l : List Given). rows ++ l) es
+pub joined_seen : (list first second rows more : List LinearRow) → list ≡ first ++ second → first ≡ rows → second ≡ more → list ≡ rows ++ more
+joined_seen list first second rows more e ef es = e ∙ ap (λ (l : List LinearRow). l ++ second) ef ∙ ap (λ (l : List LinearRow). rows ++ l) es
 
 -- ---- the meet with a list of constraints
-pub meet_inside : (n : ℕ) (rows more list : List Given) → list ≡ rows ++ more → IsWithin n (Con list) (Con rows)
-meet_inside n rows more list e x i c = ((meet_con n rows more).1 x i (subst (λ (l : List Given). Con l x) e c)).0
+pub meet_inside : (n : ℕ) (rows more list : List LinearRow) → list ≡ rows ++ more → IsWithin n (Con list) (Con rows)
+meet_inside n rows more list e x i c = ((meet_con n rows more).1 x i (subst (λ (l : List LinearRow). Con l x) e c)).0
 
 -- constraints that each point meets change nothing
-pub met_exact : (p : Polyhedron) (more : List Given) → IsPolyhedron p → IsWithin p.dims (Con p.rows) (Con more) →
+pub met_exact : (p : Polyhedron) (more : List LinearRow) → IsPolyhedron p → IsWithin p.dims (Con p.rows) (Con more) →
     IsPolyhedronOf p.dims (Con (p.rows ++ more)) p
 met_exact p more h within = record {
   dimensions = refl;
@@ -147,16 +148,17 @@ met_exact p more h within = record {
   );
 }
 
-pub meet_becomes : (p q new : Polyhedron) (list : List Given) (o : Outcome) → list ≡ p.rows ++ q.rows → IsOfRows p.dims list new o →
+pub meet_becomes : (p q new : Polyhedron) (list : List LinearRow) (o : Outcome) → list ≡ p.rows ++ q.rows → IsOfRows p.dims list new o →
     Becomes p.dims (Meet (Con p.rows) (Con q.rows)) (MeetStrains p q) new o
 meet_becomes p q new list o e b =
     let all = p.rows ++ q.rows in
     let same = meet_con p.dims p.rows q.rows in
     becomes_same p.dims (Meet (Con p.rows) (Con q.rows)) (Con all) (MeetStrains p q) (FromRowsStrains p.dims all) new o same
-    (λ loss s. constraints_strain p.dims (Meet (Con p.rows) (Con q.rows)) (Con all) all loss same s) (subst (λ (l : List Given). IsOfRows p.dims l new o) e b)
+    (λ loss s. constraints_strain p.dims (Meet (Con p.rows) (Con q.rows)) (Con all) all loss same s)
+    (subst (λ (l : List LinearRow). IsOfRows p.dims l new o) e b)
 
 -- the old value stays where what was made isn't known to lie in it
-pub stays_flagged : (p made new : Polyhedron) (more : List Given) (o : Outcome) (loss : Loss) → IsPolyhedron p → o ≡ Flagged loss → new ≡ p →
+pub stays_flagged : (p made new : Polyhedron) (more : List LinearRow) (o : Outcome) (loss : Loss) → IsPolyhedron p → o ≡ Flagged loss → new ≡ p →
     IsOfRows p.dims (p.rows ++ more) made o → IsOfRows p.dims (p.rows ++ more) new o
 stays_flagged p made new more o loss h eo es b = subst (λ (q : Polyhedron). IsOfRows p.dims (p.rows ++ more) q o) (sym es) (record {
   dims = refl;
@@ -167,32 +169,32 @@ stays_flagged p made new more o loss h eo es b = subst (λ (q : Polyhedron). IsO
 })
 
 -- what stands behind the positivity row
-pub kept_positive : (n m : ℕ) (taken listed : List Given) → taken ≡ inequality (positivity n) ∷ listed → n ≡ m → IsPositive m taken
+pub kept_positive : (n m : ℕ) (taken listed : List LinearRow) → taken ≡ inequality (positivity n) ∷ listed → n ≡ m → IsPositive m taken
 kept_positive n m taken listed et e = (listed, et ∙ ap (λ (k : ℕ). inequality (positivity k) ∷ listed) e)
 
 -- ---- the meet with a test
-test_same : (n : ℕ) (P : PointSet) (t : Given) → SameSet n (Meet P (Holds t)) (Meet P (Con (t ∷ [])))
+test_same : (n : ℕ) (P : PointSet) (t : LinearRow) → SameSet n (Meet P (Holds t)) (Meet P (Con (t ∷ [])))
 test_same n P t = (λ x i h. (h.0, con_cons t [] x h.1 (con_none x)), λ x i h. (h.0, con_head t [] x h.1))
 
 both_same : (n : ℕ) (P Q R : PointSet) → SameSet n P Q → SameSet n Q R → SameSet n P R
 both_same n P Q R a b = (λ x i h. b.0 x i (a.0 x i h), λ x i h. a.1 x i (b.1 x i h))
 
-tested_same : (n : ℕ) (rows : List Given) (t : Given) → SameSet n (Meet (Con rows) (Holds t)) (Con (rows ++ t ∷ []))
+tested_same : (n : ℕ) (rows : List LinearRow) (t : LinearRow) → SameSet n (Meet (Con rows) (Holds t)) (Con (rows ++ t ∷ []))
 tested_same n rows t = both_same n (Meet (Con rows) (Holds t)) (Meet (Con rows) (Con (t ∷ []))) (Con (rows ++ t ∷ [])) (test_same n (Con rows) t) (meet_con n rows (t ∷ []))
 
-pub test_becomes : (p new : Polyhedron) (t : Given) (list : List Given) (o : Outcome) → list ≡ p.rows ++ t ∷ [] → IsOfRows p.dims list new o →
+pub test_becomes : (p new : Polyhedron) (t : LinearRow) (list : List LinearRow) (o : Outcome) → list ≡ p.rows ++ t ∷ [] → IsOfRows p.dims list new o →
     Becomes p.dims (Meet (Con p.rows) (Holds t)) (AddTestStrains p t) new o
 test_becomes p new t list o e b =
     let all = p.rows ++ t ∷ [] in
     let same = tested_same p.dims p.rows t in
     becomes_same p.dims (Meet (Con p.rows) (Holds t)) (Con all) (AddTestStrains p t) (FromRowsStrains p.dims all) new o same
-    (λ loss s. constraints_strain p.dims (Meet (Con p.rows) (Holds t)) (Con all) all loss same s) (subst (λ (l : List Given). IsOfRows p.dims l new o) e b)
+    (λ loss s. constraints_strain p.dims (Meet (Con p.rows) (Holds t)) (Con all) all loss same s) (subst (λ (l : List LinearRow). IsOfRows p.dims l new o) e b)
 
 -- ---- the hull
 -- an inequality that is valid on a polyhedron holds with each of its generators
 pub valid_with : (p : Polyhedron) → IsPolyhedron p → (c : List ℤ) → ((y : List ℤ) → IsPoint p.dims y → Con p.rows y → pos 0 ≤ℤ product c y) → (t : List ℤ) → Contains (system_of p.generators) t →
     pos 0 ≤ℤ product c t
-valid_with p (inl none) c valid t k = absurd (contains_none t (subst (λ (l : List Given). Contains (system_of l) t) none.1 k))
+valid_with p (inl none) c valid t k = absurd (contains_none t (subst (λ (l : List LinearRow). Contains (system_of l) t) none.1 k))
 valid_with p (inr h) c valid t k = valid_on_rows p.dims p.generators (has_vertex p h) c (λ y i g. valid y i ((con_gen p (inr h)).1 y i g)) t k
 
 -- so what the generators of both give is in the hull
@@ -216,13 +218,13 @@ union_in_gen p q h k e x i (inr c) =
     (gen_generated q.generators (entry x) ((con_gen q k).0 x (subst (λ (n : ℕ). IsPoint n x) (sym e) i) c)))
 
 -- constraints that hold at each point of a set hold on its hull
-pub hull_holds : (n : ℕ) (P : PointSet) (rows : List Given) → ((c : List ℤ) → Contains (system_of rows) c → length c ≡ suc n) → IsWithin n P (Con rows) → IsWithin n (Hull n P) (Con rows)
+pub hull_holds : (n : ℕ) (P : PointSet) (rows : List LinearRow) → ((c : List ℤ) → Contains (system_of rows) c → length c ≡ suc n) → IsWithin n P (Con rows) → IsWithin n (Hull n P) (Con rows)
 hull_holds n P rows widths h x i hull = solves_con rows x (λ c k. hull c (widths c k) (λ y j s. con_solves rows y (h y j s) c k))
 
-hull_within : (p q r : Polyhedron) (list : List Given) → IsPolyhedron p → IsPolyhedron q → IsPolyhedron r → q.dims ≡ p.dims → r.dims ≡ p.dims → list ≡ p.generators ++ q.generators →
+hull_within : (p q r : Polyhedron) (list : List LinearRow) → IsPolyhedron p → IsPolyhedron q → IsPolyhedron r → q.dims ≡ p.dims → r.dims ≡ p.dims → list ≡ p.generators ++ q.generators →
     IsWithin p.dims (Gen list) (Con r.rows) → IsWithin p.dims (Hull p.dims (Union (Con p.rows) (Con q.rows))) (Con r.rows)
 hull_within p q r list h k m e er el within = hull_holds p.dims (Union (Con p.rows) (Con q.rows)) r.rows (λ c i. rows_width r m c i ∙ ap suc er)
-    (λ x i u. within x i (subst (λ (l : List Given). Gen l x) (sym el) (union_in_gen p q h k e x i u)))
+    (λ x i u. within x i (subst (λ (l : List LinearRow). Gen l x) (sym el) (union_in_gen p q h k e x i u)))
 
 -- the hull with a set that lies inside
 pub hull_inside : (p q : Polyhedron) → IsPolyhedron p → q.dims ≡ p.dims → IsWithin q.dims (Con q.rows) (Con p.rows) → IsPolyhedronOf p.dims (Hull p.dims (Union (Con p.rows) (Con q.rows))) p
@@ -247,21 +249,23 @@ hull_made p q r h k e a = record {
   );
 }
 
-hull_exact : (p q r : Polyhedron) (list : List Given) (o : Outcome) → IsPolyhedron p → IsPolyhedron q → q.dims ≡ p.dims → list ≡ p.generators ++ q.generators →
+hull_exact : (p q r : Polyhedron) (list : List LinearRow) (o : Outcome) → IsPolyhedron p → IsPolyhedron q → q.dims ≡ p.dims →
+    list ≡ p.generators ++ q.generators →
     IfExact (IsPolyhedronOf p.dims (Gen list) r) o → IfExact (IsPolyhedronOf p.dims (Hull p.dims (Union (Con p.rows) (Con q.rows))) r) o
 hull_exact p q r list o h k e el = if_exact (IsPolyhedronOf p.dims (Gen list) r) (IsPolyhedronOf p.dims (Hull p.dims (Union (Con p.rows) (Con q.rows))) r) o
-    (λ a. hull_made p q r h k e (subst (λ (l : List Given). IsPolyhedronOf p.dims (Gen l) r) el a))
+    (λ a. hull_made p q r h k e (subst (λ (l : List LinearRow). IsPolyhedronOf p.dims (Gen l) r) el a))
 
 taken_strain : (p q : Polyhedron) (loss : Loss) → IsPolyhedron p → IsPolyhedron q → q.dims ≡ p.dims → FromGeneratorsStrains p.dims (p.generators ++ q.generators) loss → HullStrains p q loss
 taken_strain p q loss h k e (inl a) = inl a
 taken_strain p q loss h k e (inr b) = inr (record { result = b.result; is_result = hull_made p q b.result h k e b.is_result; strains = b.strains })
 
-hull_strain : (p q : Polyhedron) (list : List Given) (o : Outcome) → IsPolyhedron p → IsPolyhedron q → q.dims ≡ p.dims → list ≡ p.generators ++ q.generators →
+hull_strain : (p q : Polyhedron) (list : List LinearRow) (o : Outcome) → IsPolyhedron p → IsPolyhedron q → q.dims ≡ p.dims →
+    list ≡ p.generators ++ q.generators →
     IfFlagged (FromGeneratorsStrains p.dims list) o → IfFlagged (HullStrains p q) o
 hull_strain p q list o h k e el = if_flagged (FromGeneratorsStrains p.dims list) (HullStrains p q) o
-    (λ loss s. taken_strain p q loss h k e (subst (λ (l : List Given). FromGeneratorsStrains p.dims l loss) el s))
+    (λ loss s. taken_strain p q loss h k e (subst (λ (l : List LinearRow). FromGeneratorsStrains p.dims l loss) el s))
 
-pub hull_becomes : (p q r : Polyhedron) (list : List Given) (o : Outcome) → IsPolyhedron p → IsPolyhedron q → q.dims ≡ p.dims → list ≡ p.generators ++ q.generators →
+pub hull_becomes : (p q r : Polyhedron) (list : List LinearRow) (o : Outcome) → IsPolyhedron p → IsPolyhedron q → q.dims ≡ p.dims → list ≡ p.generators ++ q.generators →
     IsOfGenerators p.dims list r o → Becomes p.dims (Hull p.dims (Union (Con p.rows) (Con q.rows))) (HullStrains p q) r o
 hull_becomes p q r list o h k e el b = record {
   dims = b.dims;
@@ -273,15 +277,16 @@ hull_becomes p q r list o h k e el b = record {
 
 -- ---- generators taken in after those of a polyhedron that has a point
 -- which stays among theirs
-some_beside : (p : Polyhedron) (more : List Given) → IsPolyhedron p → p.generators ≢ [] → ¬ (IsEmptySet p.dims (Gen (p.generators ++ more)))
+some_beside : (p : Polyhedron) (more : List LinearRow) → IsPolyhedron p → p.generators ≢ [] → ¬ (IsEmptySet p.dims (Gen (p.generators ++ more)))
 some_beside p more (inl none) some empty = some none.1
 some_beside p more (inr h) some empty =
     let v = has_vertex p h in
     empty v.vertex (record { width = v.widths v.vertex v.has; divisor = v.divisor }) (generated_gen (p.generators ++ more) (entry v.vertex)
     (generated_row (system_of (p.generators ++ more)) v.vertex (system_append_in p.generators more v.vertex (inl v.has))))
 
-pub some_more : (p : Polyhedron) (n : ℕ) (taken listed more : List Given) → IsPolyhedron p → n ≡ p.dims → taken ≡ listed → listed ≡ p.generators → listed ≢ [] →
+pub some_more : (p : Polyhedron) (n : ℕ) (taken listed more : List LinearRow) → IsPolyhedron p → n ≡ p.dims → taken ≡ listed → listed ≡ p.generators →
+    listed ≢ [] →
     ¬ (IsEmptySet n (Gen (taken ++ more)))
 some_more p n taken listed more h en et el some =
     subst (λ (m : ℕ). ¬ (IsEmptySet m (Gen (taken ++ more)))) (sym en)
-    (subst (λ (l : List Given). ¬ (IsEmptySet p.dims (Gen (l ++ more)))) (sym (et ∙ el)) (some_beside p more h (λ none. some (el ∙ none))))
+    (subst (λ (l : List LinearRow). ¬ (IsEmptySet p.dims (Gen (l ++ more)))) (sym (et ∙ el)) (some_beside p more h (λ none. some (el ∙ none))))

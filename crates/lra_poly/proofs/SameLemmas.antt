@@ -2,13 +2,13 @@
 use Rattle.std.proofs.Common.{◌≡◌, ◌≢◌, ◌∙◌, Bool, false, ap, length, sym, subst}
 use Rattle.std.specs.Bool.{one_answer}
 use Rattle.std.specs.Prelude.{◌↔◌, IsTrue}
-use Rattle.lra_linear.specs.Descriptions.{Con, rows_of}
-use Rattle.lra_linear.specs.Points.{SameSet}
-use Rattle.lra_linear.specs.Polyhedra.{IsPolyhedron, Polyhedron}
-use Rattle.lra_linear.specs.declared.ConKind.{ConKind}
+use Rattle.lra_linear_spec.specs.Descriptions.{Con, rows_of}
+use Rattle.lra_linear_spec.specs.Points.{SameSet}
+use Rattle.lra_linear_spec.specs.Polyhedra.{IsPolyhedron, Polyhedron}
+use Rattle.lra_linear_spec.specs.declared.ConKind.{ConKind}
 use Rattle.lra_sys.specs.Listed.{Listed, constraints}
-use Rattle.lra_linear.proofs.OneSpelling.{same_points_same_lists}
-use Rattle.lra_linear.specs.Kinds.{is_equality}
+use Rattle.lra_linear_spec.proofs.OneSpelling.{same_points_same_lists}
+use Rattle.lra_linear_spec.specs.Kinds.{is_equality}
 use Rattle.lra_pair.proofs.OwnRows.{rows_of_given}
 use Rattle.lra_poly.specs.Equality.{polyhedron_Decides, polyhedron_eq}
 

@@ -1,9 +1,9 @@
 -- What is told of generators that strain.
 use Rattle.std.proofs.Common.{◌≡◌, ◌≢◌, ◌∙◌, ℕ, List, [], ◌∷◌, ◌++◌, refl, subst, sym, inl, inr}
-use Rattle.lra_linear.specs.Descriptions.{Given}
-use Rattle.lra_linear.specs.Polyhedra.{Polyhedron}
-use Rattle.lra_linear.specs.Strain.{Loss}
-use Rattle.lra_linear.specs.declared.GenKind.{GenKind}
+use Rattle.lra_linear_spec.specs.Descriptions.{LinearRow}
+use Rattle.lra_linear_spec.specs.Polyhedra.{Polyhedron}
+use Rattle.lra_linear_spec.specs.Strain.{Loss}
+use Rattle.lra_linear_spec.specs.declared.GenKind.{GenKind}
 use Rattle.lra_sys.specs.Listed.{Listed, generators}
 use Rattle.lra_duality.specs.Onward.{MayTurn}
 use Rattle.lra_pair.specs.TakenPoints.{IsOfPoints}
@@ -16,7 +16,7 @@ use Rattle.lra_poly.specs.United.{AreTriedPoints, StopsBehind, UnitesAnew}
 some_told : (l : Loss) (losses : List Loss) → l ∷ losses ≢ []
 some_told l losses e = cc
 
-pub tried_points : (n : ℕ) (given : List Given) (made pair : Polyhedron) (o : Outcome) (losses : List Loss) → made ≡ pair → o ≡ first_loss losses →
+pub tried_points : (n : ℕ) (given : List LinearRow) (made pair : Polyhedron) (o : Outcome) (losses : List Loss) → made ≡ pair → o ≡ first_loss losses →
     (losses ≢ [] → IsOfPoints n given pair losses) → IfFlagged (λ _. AreTriedPoints n given made o) o
 tried_points n given made pair o losses em e h = subst (λ (x : Outcome). IfFlagged (λ _. AreTriedPoints n given made x) x) (sym e) (by_losses losses h)
   where
@@ -28,13 +28,13 @@ tried_points n given made pair o losses em e h = subst (λ (x : Outcome). IfFlag
       of = subst (λ (p : Polyhedron). IsOfPoints n given p (l ∷ later)) (sym em) (h (some_told l later));
     }
 
-pub no_cone : (p view : Polyhedron) (more : List Given) → view ≡ p → ¬ (MayTurn view.dims view.rows view.generators) → StopsBehind p more
+pub no_cone : (p view : Polyhedron) (more : List LinearRow) → view ≡ p → ¬ (MayTurn view.dims view.rows view.generators) → StopsBehind p more
 no_cone p view more e fails = inl (subst (λ (x : Polyhedron). ¬ (MayTurn x.dims x.rows x.generators)) e fails)
 
-pub strains_behind : (p : Polyhedron) (d : ℕ) (taken listed more : List Given) → d ≡ p.dims → taken ≡ listed → listed ≡ p.generators → StrainsWhenTried d taken more → StopsBehind p more
-strains_behind p d taken listed more ed et el h = inr (subst (λ (n : ℕ). StrainsWhenTried n p.generators more) ed (subst (λ (l : List Given). StrainsWhenTried d l more) (et ∙ el) h))
+pub strains_behind : (p : Polyhedron) (d : ℕ) (taken listed more : List LinearRow) → d ≡ p.dims → taken ≡ listed → listed ≡ p.generators → StrainsWhenTried d taken more → StopsBehind p more
+strains_behind p d taken listed more ed et el h = inr (subst (λ (n : ℕ). StrainsWhenTried n p.generators more) ed (subst (λ (l : List LinearRow). StrainsWhenTried d l more) (et ∙ el) h))
 
-pub unites_anew : (p made : Polyhedron) (more : List Given) (o : Outcome) → StopsBehind p more → IfFlagged (λ _. AreTriedPoints p.dims (p.generators ++ more) made o) o →
+pub unites_anew : (p made : Polyhedron) (more : List LinearRow) (o : Outcome) → StopsBehind p more → IfFlagged (λ _. AreTriedPoints p.dims (p.generators ++ more) made o) o →
     IfFlagged (λ _. UnitesAnew p more made o) o
 unites_anew p made more o stops h = by_outcome o h
   where
@@ -43,7 +43,7 @@ unites_anew p made more o stops h = by_outcome o h
     by_outcome (Flagged loss) h = record { stops = stops; tried = h }
 
 -- of the list that stands for the generators of an operation
-pub tried_as : (n : ℕ) (given : List Given) (list : Listed GenKind) (made : Polyhedron) (o : Outcome) → list.dims ≡ n → generators list ≡ given →
+pub tried_as : (n : ℕ) (given : List LinearRow) (list : Listed GenKind) (made : Polyhedron) (o : Outcome) → list.dims ≡ n → generators list ≡ given →
     IfFlagged (λ _. AreTriedPoints list.dims (generators list) made o) o → IfFlagged (λ _. AreTriedPoints n given made o) o
-tried_as n given list made o ed eg h = subst (λ (l : List Given). IfFlagged (λ _. AreTriedPoints n l made o) o) eg
+tried_as n given list made o ed eg h = subst (λ (l : List LinearRow). IfFlagged (λ _. AreTriedPoints n l made o) o) eg
     (subst (λ (d : ℕ). IfFlagged (λ _. AreTriedPoints d (generators list) made o) o) ed h)

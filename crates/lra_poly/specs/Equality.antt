@@ -9,10 +9,10 @@ use Rattle.std.specs.Cmp.Rules.{signed_items}
 use Rattle.std.specs.Hash as fed
 use Rattle.std.specs.Ordering.{int_eq}
 use Rattle.std.specs.Prelude.{◌&&◌, nat_eq}
-use Rattle.lra_linear.specs.Descriptions.{Given, rows_of}
-use Rattle.lra_linear.specs.Polyhedra.{Polyhedron}
+use Rattle.lra_linear_spec.specs.Descriptions.{LinearRow, rows_of}
+use Rattle.lra_linear_spec.specs.Polyhedra.{Polyhedron}
 
-abbrev pub given_eq : Given → Given → Bool
+abbrev pub given_eq : LinearRow → LinearRow → Bool
 given_eq g h = pointwise int_eq g.row h.row && beq g.equal h.equal
 
 abbrev pub polyhedron_eq : Polyhedron → Polyhedron → Bool
@@ -23,12 +23,12 @@ polyhedron_eq p q = nat_eq p.dims q.dims
 abbrev pub polyhedron_hash : Polyhedron → fed.HashWrites
 polyhedron_hash p = fed.usize p.dims ++ fed.slice (fed.slice fed.i128) (rows_of p.rows)
 
-given_Decides : (g h : Given) → Decides (given_eq g h) (g ≡ h)
+given_Decides : (g h : LinearRow) → Decides (given_eq g h) (g ≡ h)
 given_Decides g h =
     let both = Decides-and (pointwise int_eq g.row h.row) (beq g.equal h.equal) (signed_items g.row h.row)
     (booleans_Decides g.equal h.equal) in (
       λ e i. record { row = (both.0 e).0 i; equal = (both.0 e).1 i },
-      λ e. both.1 (ap (λ (x : Given). x.row) e, ap (λ (x : Given). x.equal) e),
+      λ e. both.1 (ap (λ (x : LinearRow). x.row) e, ap (λ (x : LinearRow). x.equal) e),
     )
 
 pub polyhedron_Decides : (p q : Polyhedron) → Decides (polyhedron_eq p q) (p ≡ q)

@@ -1,9 +1,9 @@
 -- What meets and tests make of a polyhedron, flagged or not.
 use Rattle.std.specs.Prelude.{◌≡◌, ◌⊎◌, ℕ, List, [], ◌++◌}
-use Rattle.lra_linear.specs.Descriptions.{Given}
-use Rattle.lra_linear.specs.OperationStrain.{with_positivity}
-use Rattle.lra_linear.specs.Polyhedra.{Polyhedron}
-use Rattle.lra_linear.specs.Strain.{Loss}
+use Rattle.lra_linear_spec.specs.Descriptions.{LinearRow}
+use Rattle.lra_linear_spec.specs.OperationStrain.{with_positivity}
+use Rattle.lra_linear_spec.specs.Polyhedra.{Polyhedron}
+use Rattle.lra_linear_spec.specs.Strain.{Loss}
 use Rattle.lra_pair.specs.TriedRows.{IsOfTried}
 use Rattle.lra_duality.specs.Inclusions.{IsInclusion}
 use Rattle.lra_duality.specs.Onward.{MayGoOn}
@@ -13,20 +13,20 @@ use Rattle.lra_poly.specs.declared.outcome.Outcome.TheVariants.{Exact, Flagged}
 use Rattle.lra_poly.specs.Outcomes.{first_loss}
 
 -- the rows were tried behind the first ones, and the first loss is told
-pub record IsTried (n : ℕ) (first all : List Given) (made : Polyhedron) (o : Outcome) : Type 0 where
+pub record IsTried (n : ℕ) (first all : List LinearRow) (made : Polyhedron) (o : Outcome) : Type 0 where
   pub losses : List Loss
   pub told : o ≡ first_loss losses
   pub of : IsOfTried n first all made losses
 
 -- The polyhedron of a polyhedron's rows and of further ones. Where both lists at hand make a cone, the further ones are
 -- tried behind that; else all of them from nothing.
-abbrev pub IsMetWith : Polyhedron → List Given → Polyhedron → Outcome → Type 0
+abbrev pub IsMetWith : Polyhedron → List LinearRow → Polyhedron → Outcome → Type 0
 IsMetWith p more made o =
     (MayGoOn p.dims p.generators × IsTried p.dims (with_positivity p.dims p.rows) more made o)
     ⊎ ((¬ (MayGoOn p.dims p.generators)) × IsTried p.dims (with_positivity p.dims []) (p.rows ++ more) made o)
 
 -- each generator is seen to meet each of the rows
-abbrev pub IsSeenWithin : Polyhedron → List Given → Type 0
+abbrev pub IsSeenWithin : Polyhedron → List LinearRow → Type 0
 IsSeenWithin p rows = IsInclusion rows p.generators Yes
 
 -- what was made is the new value; if it is flagged, only where it is seen to lie in the old one, which else stays
@@ -35,12 +35,12 @@ IsSettled old made Exact new = new ≡ made
 IsSettled old made (Flagged loss) new =
     (IsSeenWithin made old.rows × (new ≡ made)) ⊎ ((¬ (IsSeenWithin made old.rows)) × (new ≡ old))
 
-pub record Narrows (old : Polyhedron) (more : List Given) (new : Polyhedron) (o : Outcome) : Type 0 where
+pub record Narrows (old : Polyhedron) (more : List LinearRow) (new : Polyhedron) (o : Outcome) : Type 0 where
   pub unmet : ¬ (IsSeenWithin old more)
   pub made : Polyhedron
   pub is_met : IsMetWith old more made o
   pub settled : IsSettled old made o new
 
 -- rows that all points meet change nothing, and the answer is exact
-abbrev pub IsNarrowed : Polyhedron → List Given → Polyhedron → Outcome → Type 0
+abbrev pub IsNarrowed : Polyhedron → List LinearRow → Polyhedron → Outcome → Type 0
 IsNarrowed old more new o = (IsSeenWithin old more × (new ≡ old) × (o ≡ Exact)) ⊎ Narrows old more new o

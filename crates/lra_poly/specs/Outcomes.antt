@@ -1,10 +1,10 @@
 -- What the calls that make or change a polyhedron tell: that the result is the exact one, or a loss.
 use Rattle.std.specs.Prelude.{◌≡◌, ℕ, List, [], ◌∷◌}
-use Rattle.lra_linear.specs.Descriptions.{Con, Gen, Given}
-use Rattle.lra_linear.specs.OperationStrain.{FromRowsStrains, FromGeneratorsStrains}
-use Rattle.lra_linear.specs.Points.{IsWithin, PointSet}
-use Rattle.lra_linear.specs.Polyhedra.{IsPolyhedron, IsPolyhedronOf, Polyhedron}
-use Rattle.lra_linear.specs.Strain as strain
+use Rattle.lra_linear_spec.specs.Descriptions.{Con, Gen, LinearRow}
+use Rattle.lra_linear_spec.specs.OperationStrain.{FromRowsStrains, FromGeneratorsStrains}
+use Rattle.lra_linear_spec.specs.Points.{IsWithin, PointSet}
+use Rattle.lra_linear_spec.specs.Polyhedra.{IsPolyhedron, IsPolyhedronOf, Polyhedron}
+use Rattle.lra_linear_spec.specs.Strain as strain
 use Rattle.lra_poly.specs.declared.outcome.Outcome.{Outcome}
 use Rattle.lra_poly.specs.declared.outcome.Outcome.TheVariants.{Exact, Flagged}
 
@@ -39,8 +39,8 @@ pub record Becomes (n : ℕ) (P : PointSet) (strains : strain.Loss → Type 0) (
   pub flagged : IfFlagged strains o
 
 -- for the points at which these constraints hold; for those that the generators give
-abbrev pub IsOfRows : ℕ → List Given → Polyhedron → Outcome → Type 0
+abbrev pub IsOfRows : ℕ → List LinearRow → Polyhedron → Outcome → Type 0
 IsOfRows n rows = Becomes n (Con rows) (FromRowsStrains n rows)
 
-abbrev pub IsOfGenerators : ℕ → List Given → Polyhedron → Outcome → Type 0
+abbrev pub IsOfGenerators : ℕ → List LinearRow → Polyhedron → Outcome → Type 0
 IsOfGenerators n list = Becomes n (Gen list) (FromGeneratorsStrains n list)

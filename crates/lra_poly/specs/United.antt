@@ -1,8 +1,8 @@
 -- What hulls, and generators that are taken in, make of a polyhedron where they are flagged.
 use Rattle.std.specs.Prelude.{◌≡◌, ◌⊎◌, ℕ, List, ◌++◌}
-use Rattle.lra_linear.specs.Descriptions.{Given}
-use Rattle.lra_linear.specs.Polyhedra.{Polyhedron}
-use Rattle.lra_linear.specs.Strain.{Loss}
+use Rattle.lra_linear_spec.specs.Descriptions.{LinearRow}
+use Rattle.lra_linear_spec.specs.Polyhedra.{Polyhedron}
+use Rattle.lra_linear_spec.specs.Strain.{Loss}
 use Rattle.lra_pair.specs.TakenPoints.{IsOfPoints}
 use Rattle.lra_pair.specs.TriedRows.{StrainsWhenTried}
 use Rattle.lra_duality.specs.Onward.{MayTurn}
@@ -10,16 +10,16 @@ use Rattle.lra_poly.specs.declared.outcome.Outcome.{Outcome}
 use Rattle.lra_poly.specs.Outcomes.{first_loss}
 
 -- the generators were tried from nothing, and the first loss is told
-pub record AreTriedPoints (n : ℕ) (given : List Given) (made : Polyhedron) (o : Outcome) : Type 0 where
+pub record AreTriedPoints (n : ℕ) (given : List LinearRow) (made : Polyhedron) (o : Outcome) : Type 0 where
   pub losses : List Loss
   pub told : o ≡ first_loss losses
   pub of : IsOfPoints n given made losses
 
 -- its lists make no cone, or behind that these generators strain
-abbrev pub StopsBehind : Polyhedron → List Given → Type 0
+abbrev pub StopsBehind : Polyhedron → List LinearRow → Type 0
 StopsBehind p more = (¬ (MayTurn p.dims p.rows p.generators)) ⊎ StrainsWhenTried p.dims p.generators more
 
 -- only then its own and these are converted from nothing, which alone is flagged
-pub record UnitesAnew (p : Polyhedron) (more : List Given) (made : Polyhedron) (o : Outcome) : Type 0 where
+pub record UnitesAnew (p : Polyhedron) (more : List LinearRow) (made : Polyhedron) (o : Outcome) : Type 0 where
   pub stops : StopsBehind p more
   pub tried : AreTriedPoints p.dims (p.generators ++ more) made o

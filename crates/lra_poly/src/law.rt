@@ -1,11 +1,11 @@
 //! One spelling of each set of points, and what a flag of a meet tells.
 
 ghost use Rattle.std.specs.Prelude.{◌≡◌, List};
-ghost use Rattle.lra_linear.specs.Descriptions.{Con, Gen, Given};
-ghost use Rattle.lra_linear.specs.OperationStrain.{with_positivity};
-ghost use Rattle.lra_linear.specs.Points.{SameSet};
-ghost use Rattle.lra_linear.specs.Polyhedra.{Polyhedron, IsPolyhedron};
-ghost use Rattle.lra_linear.specs.Strain as strain;
+ghost use Rattle.lra_linear_spec.specs.Descriptions.{Con, Gen, LinearRow};
+ghost use Rattle.lra_linear_spec.specs.OperationStrain.{with_positivity};
+ghost use Rattle.lra_linear_spec.specs.Points.{SameSet};
+ghost use Rattle.lra_linear_spec.specs.Polyhedra.{Polyhedron, IsPolyhedron};
+ghost use Rattle.lra_linear_spec.specs.Strain as strain;
 ghost use Rattle.lra_duality.specs.Onward.{MayGoOn};
 ghost use Rattle.lra_poly.specs.declared.outcome.Outcome.TheVariants.{Flagged};
 ghost use Rattle.lra_poly.specs.Narrowed.{IsNarrowed};
@@ -26,6 +26,6 @@ pub fn polyhedra_have_one_spelling()
 ///
 /// Does nothing: its contract is the theorem.
 pub fn flagged_meets_go_on()
-    ensures { (p q : Polyhedron) (more : List Given) (loss : strain.Loss) → MayGoOn p.dims p.generators →
+    ensures { (p q : Polyhedron) (more : List LinearRow) (loss : strain.Loss) → MayGoOn p.dims p.generators →
         IsNarrowed p more q (Flagged loss) → StrainsBehind p.dims (with_positivity p.dims p.rows) more loss }
 {}

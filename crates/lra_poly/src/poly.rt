@@ -2,13 +2,13 @@
 
 ghost use Rattle.std.specs.Prelude.{◌≡◌, ◌↔◌, ◌<◌, ◌∷◌, ◌++◌, [], length, drop, IsTrue, IfOk, IfSome, IsSome};
 ghost use Rattle.std.specs.Prelude.{IfNone, OnErr};
-ghost use Rattle.lra_linear.specs.Descriptions.{AreGenerators, Con, Gen, Holds};
-ghost use Rattle.lra_linear.specs.Formed.{IsFormed, KeepsLimit};
-ghost use Rattle.lra_linear.specs.OperationStrain.{AddTestStrains, MeetStrains, HullStrains, with_positivity};
-ghost use Rattle.lra_linear.specs.Points.{IsEmptySet, IsWithin, SameSet};
-ghost use Rattle.lra_linear.specs.Polyhedra.{IsPolyhedron, IsPolyhedronOf};
-ghost use Rattle.lra_linear.specs.SetOperations.{Meet, Union, Hull};
-ghost use Rattle.lra_linear.specs.Vectors.{negated};
+ghost use Rattle.lra_linear_spec.specs.Descriptions.{AreGenerators, Con, Gen, Holds};
+ghost use Rattle.lra_linear_spec.specs.Representable.{IsRepresentable, KeepsLimit};
+ghost use Rattle.lra_linear_spec.specs.OperationStrain.{AddTestStrains, MeetStrains, HullStrains, with_positivity};
+ghost use Rattle.lra_linear_spec.specs.Points.{IsEmptySet, IsWithin, SameSet};
+ghost use Rattle.lra_linear_spec.specs.Polyhedra.{IsPolyhedron, IsPolyhedronOf};
+ghost use Rattle.lra_linear_spec.specs.SetOperations.{Meet, Union, Hull};
+ghost use Rattle.lra_linear_spec.specs.Vectors.{negated};
 ghost use Rattle.lra_sys.specs.Dimensions.{too_many_dimensions};
 ghost use Rattle.lra_sys.specs.Listed.{constraints, generators, FitKinds};
 ghost use Rattle.lra_pair.specs.KeptRows.{IsOfSome};
@@ -60,8 +60,8 @@ impl Drop for Poly {
 
 impl Model for Poly {
     ghost use Rattle.std.specs.Prelude.{◌≡◌};
-    ghost use Rattle.lra_linear.specs.Formed.{KeepsLimit};
-    ghost use Rattle.lra_linear.specs.Polyhedra.{Polyhedron, IsPolyhedron};
+    ghost use Rattle.lra_linear_spec.specs.Representable.{KeepsLimit};
+    ghost use Rattle.lra_linear_spec.specs.Polyhedra.{Polyhedron, IsPolyhedron};
     ghost use Rattle.lra_sys.specs.Listed.{constraints, generators, FitKinds};
     ghost use Rattle.lra_duality.specs.Saturations.{saturation_of};
 
@@ -239,7 +239,7 @@ impl Poly {
         ensures dims { result.now.dims ≡ self.now.dims }
         ensures rows { constraints result.now ≡ self.now.rows }
         ensures canonical { IsPolyhedron self.now }
-        ensures formed { IsFormed self.now }
+        ensures formed { IsRepresentable self.now }
     {
         let (_rows, _others) = (self.rows.rows(), self.by_generators.rows());
         &self.rows
@@ -251,7 +251,7 @@ impl Poly {
         ensures generators { generators result.now ≡ self.now.generators }
         ensures kinds { FitKinds result.now.rows result.now.kinds }
         ensures canonical { IsPolyhedron self.now }
-        ensures formed { IsFormed self.now }
+        ensures formed { IsRepresentable self.now }
     {
         let (_rows, _others) = (self.rows.rows(), self.by_generators.rows());
         &self.by_generators

@@ -5,13 +5,13 @@ use Rattle.std.proofs.Math.ListN.{length-set}
 use Rattle.lra_domain.specs.Actions.{Leads, assign, test}
 use Rattle.lra_domain.specs.Backward.{GoesBack, MeetsBoth}
 use Rattle.lra_lin.specs.Form.{Form, form_row, form_value}
-use Rattle.lra_linear.specs.Descriptions.{Con}
-use Rattle.lra_linear.specs.Formed.{IsFormed}
-use Rattle.lra_linear.specs.OperationStrain.{AddTestStrains, MeetStrains, PreimageStrains}
-use Rattle.lra_linear.specs.Points.{IsPoint}
-use Rattle.lra_linear.specs.Polyhedra.{IsPolyhedronOf, Polyhedron}
-use Rattle.lra_linear.specs.SetOperations.{Meet, Preimage}
-use Rattle.lra_linear.specs.declared.ConKind.{ConKind}
+use Rattle.lra_linear_spec.specs.Descriptions.{Con}
+use Rattle.lra_linear_spec.specs.Representable.{IsRepresentable}
+use Rattle.lra_linear_spec.specs.OperationStrain.{AddTestStrains, MeetStrains, PreimageStrains}
+use Rattle.lra_linear_spec.specs.Points.{IsPoint}
+use Rattle.lra_linear_spec.specs.Polyhedra.{IsPolyhedronOf, Polyhedron}
+use Rattle.lra_linear_spec.specs.SetOperations.{Meet, Preimage}
+use Rattle.lra_linear_spec.specs.declared.ConKind.{ConKind}
 use Rattle.lra_poly.specs.Outcomes.{Becomes}
 use Rattle.lra_duality.specs.Rows.{test_row}
 use Rattle.lra_poly.specs.declared.outcome.Outcome.{Outcome}
@@ -34,7 +34,7 @@ assigned_back x e p s t long has l = subst (Con p.rows)
 as_long : (x : ℕ) (e : Form) (s t : List ℤ) (n : ℕ) → Leads (assign x e) s t → length t ≡ n → length s ≡ n
 as_long x e s t n l long = sym (length-set {A = ℤ} s x (form_value e s)) ∙ sym (ap length l) ∙ long
 
-pub undoes_assignment : (x : ℕ) (e : Form) (p r : Polyhedron) (o : Outcome) → IsFormed r →
+pub undoes_assignment : (x : ℕ) (e : Form) (p r : Polyhedron) (o : Outcome) → IsRepresentable r →
     Becomes p.dims (Preimage (suc x) (form_row e) (Con p.rows)) (PreimageStrains (suc x) (form_row e) p) r o →
     GoesBack polyhedron_meaning polyhedron_retracing (assign x e) p (exactness_of o) r
 undoes_assignment x e p r o fine b = record {
@@ -50,7 +50,7 @@ undoes_assignment x e p r o fine b = record {
 }
 
 -- a store that passes and is in P behind the test was there before it
-pub undoes_test : (kind : ConKind) (e : Form) (p r : Polyhedron) (o : Outcome) → length e.coefficients ≡ p.dims → IsFormed r →
+pub undoes_test : (kind : ConKind) (e : Form) (p r : Polyhedron) (o : Outcome) → length e.coefficients ≡ p.dims → IsRepresentable r →
     Becomes p.dims (reached (test kind e) p) (AddTestStrains p (test_row kind e)) r o →
     GoesBack polyhedron_meaning polyhedron_retracing (test kind e) p (exactness_of o) r
 undoes_test kind e p r o width fine b = record {
@@ -67,7 +67,7 @@ undoes_test kind e p r o width fine b = record {
   flagged = λ f. of_flagged (UndoStrains (test kind e) p) o b.flagged f;
 }
 
-pub meets_both : (p q r : Polyhedron) (o : Outcome) → IsFormed r →
+pub meets_both : (p q r : Polyhedron) (o : Outcome) → IsRepresentable r →
     Becomes p.dims (Meet (Con p.rows) (Con q.rows)) (MeetStrains p q) r o →
     MeetsBoth polyhedron_meaning polyhedron_retracing p q (exactness_of o) r
 meets_both p q r o fine b = record {

@@ -4,14 +4,14 @@ use Rattle.std.specs.List.{All, Contains}
 use Rattle.std.specs.Prelude.{option_map}
 use Rattle.std.proofs.lemmas.List.Elements.{All-contains}
 use Rattle.lra_lin.specs.Form.{Form, form_row}
-use Rattle.lra_linear.specs.CheckedArithmetic.{checked_product}
-use Rattle.lra_linear.specs.Descriptions.{Given, inequality}
-use Rattle.lra_linear.specs.OperationStrain.{MaximiseStrains}
-use Rattle.lra_linear.specs.Polyhedra.{Polyhedron}
-use Rattle.lra_linear.specs.Vectors.{negated}
-use Rattle.lra_linear.specs.declared.Excess as E
-use Rattle.lra_linear.proofs.Membership.{contains_cases, contains_head, contains_none}
-use Rattle.lra_linear.proofs.Products.{negated_twice}
+use Rattle.lra_linear_spec.specs.CheckedArithmetic.{checked_product}
+use Rattle.lra_linear_spec.specs.Descriptions.{LinearRow, inequality}
+use Rattle.lra_linear_spec.specs.OperationStrain.{MaximiseStrains}
+use Rattle.lra_linear_spec.specs.Polyhedra.{Polyhedron}
+use Rattle.lra_linear_spec.specs.Vectors.{negated}
+use Rattle.lra_linear_spec.specs.declared.Excess as E
+use Rattle.lra_linear_spec.proofs.Membership.{contains_cases, contains_head, contains_none}
+use Rattle.lra_linear_spec.proofs.Products.{negated_twice}
 use Rattle.lra_duality.specs.Maxima.{IsMaximum, StaysInRange, TellsMaximum}
 use Rattle.lra_duality.specs.declared.maximum.Maximum.{Maximum}
 use Rattle.lra_duality.specs.declared.maximum.Maximum.TheVariants.{Empty, Wide, Unbounded, At}
@@ -22,7 +22,7 @@ use Rattle.lra_polydom.specs.Bounded.{IsGreatestRounded, PolyhedronBounded, roun
 abbrev ProductStrains : Polyhedron → List ℤ → Type 0
 ProductStrains p row = (e : E.Excess) × MaximiseStrains p row e
 
-only : (r x : Given) → Contains (r ∷ []) x → x ≡ r
+only : (r x : LinearRow) → Contains (r ∷ []) x → x ≡ r
 only r x h = elim (contains_cases r x [] h) [
   | inl e ↦ sym e
   | inr c ↦ absurd (contains_none x c)
@@ -35,12 +35,12 @@ none_passes p row stays (e, x) =
     let ok = All-contains (StaysInRange row) p.generators x.generator stays x.has_generator in
     absurd (both row x.row x.generator e same x.passes ok)
   where
-    both : (row : List ℤ) (r g : Given) (e : E.Excess) → r ≡ inequality row → checked_product r.row g.row ≡ Err e →
+    both : (row : List ℤ) (r g : LinearRow) (e : E.Excess) → r ≡ inequality row → checked_product r.row g.row ≡ Err e →
         StaysInRange row g → ⊥
     both row r g e same passes ok = cc
 
 none_there : (p : Polyhedron) (row : List ℤ) → p.generators ≡ [] → ¬ ProductStrains p row
-none_there p row e (f, x) = contains_none x.generator (subst (λ (l : List Given). Contains l x.generator) e x.has_generator)
+none_there p row e (f, x) = contains_none x.generator (subst (λ (l : List LinearRow). Contains l x.generator) e x.has_generator)
 
 greatest_or_strained : (p : Polyhedron) (row : List ℤ) (m : Maximum) → IsMaximum row p.generators m → TellsMaximum p row m →
     (ProductStrains p row × (rounded_down m ≡ None)) ⊎ ((¬ ProductStrains p row) × IsGreatestRounded p row (rounded_down m))
@@ -65,7 +65,7 @@ strains_opposite p row (e, x) =
       },
     )
   where
-    passing : (row : List ℤ) (r g : Given) (e : E.Excess) → r ≡ inequality row → checked_product r.row g.row ≡ Err e →
+    passing : (row : List ℤ) (r g : LinearRow) (e : E.Excess) → r ≡ inequality row → checked_product r.row g.row ≡ Err e →
         IsErr (checked_product row g.row)
     passing row r g e same passes = cc
 

@@ -2,11 +2,11 @@
 use Rattle.std.proofs.Common.{◌≡◌, ◌∙◌, ℕ, inl, inr, sym, subst}
 use Rattle.lra_domain.specs.Actions.{Action, ActionFits, dims_after}
 use Rattle.lra_domain.specs.Meaning.{Joins, Meets}
-use Rattle.lra_linear.specs.Descriptions.{Con}
-use Rattle.lra_linear.specs.Formed.{IsFormed}
-use Rattle.lra_linear.specs.OperationStrain.{HullStrains}
-use Rattle.lra_linear.specs.Points.{IsPoint, IsWithin}
-use Rattle.lra_linear.specs.Polyhedra.{IsPolyhedron, Polyhedron}
+use Rattle.lra_linear_spec.specs.Descriptions.{Con}
+use Rattle.lra_linear_spec.specs.Representable.{IsRepresentable}
+use Rattle.lra_linear_spec.specs.OperationStrain.{HullStrains}
+use Rattle.lra_linear_spec.specs.Points.{IsPoint, IsWithin}
+use Rattle.lra_linear_spec.specs.Polyhedra.{IsPolyhedron, Polyhedron}
 use Rattle.lra_poly.specs.Outcomes.{Becomes}
 use Rattle.lra_poly.specs.declared.outcome.Outcome.{Outcome}
 use Rattle.lra_polydom.specs.Covering.{covered_from}
@@ -16,7 +16,7 @@ use Rattle.lra_polydom.specs.Sets.{ChangeStrains, IsChanged, IsJoin, hull_of, re
 use Rattle.lra_polydom.proofs.OutcomeLemmas.{of_exact, of_flagged}
 
 -- ---- what the operations give
-pub changes : (step : Action) (p r : Polyhedron) (o : Outcome) → ActionFits step p.dims → IsFormed r →
+pub changes : (step : Action) (p r : Polyhedron) (o : Outcome) → ActionFits step p.dims → IsRepresentable r →
     Becomes (dims_after step p.dims) (reached step p) (ChangeStrains step p) r o → Meets polyhedron_meaning step p (exactness_of o) r
 changes step p r o fits fine b = record {
   formed = fine;
@@ -35,7 +35,7 @@ left_in_hull p q x i c form width valid = valid x i (inl c)
 pub right_in_hull : (p q : Polyhedron) → IsWithin p.dims (Con q.rows) (hull_of p q)
 right_in_hull p q x i c form width valid = valid x i (inr c)
 
-pub joins : (p q r : Polyhedron) (o : Outcome) → IsPolyhedron p → IsPolyhedron q → IsFormed r → q.dims ≡ p.dims →
+pub joins : (p q r : Polyhedron) (o : Outcome) → IsPolyhedron p → IsPolyhedron q → IsRepresentable r → q.dims ≡ p.dims →
     Becomes p.dims (hull_of p q) (HullStrains p q) r o → Joins polyhedron_meaning p q (exactness_of o) r
 joins p q r o hp hq fine dq b = record {
   formed = fine;

@@ -11,16 +11,16 @@ use Rattle.lra_domain.specs.declared.Exactness.TheVariants as degree
 use Rattle.lra_domain.specs.declared.Grown.TheVariants as Grown
 use Rattle.lra_domain.specs.declared.Mode.{Mode}
 use Rattle.lra_domain.specs.declared.Mode.TheVariants as how
-use Rattle.lra_linear.specs.declared.Excess as E
-use Rattle.lra_linear.specs.declared.Cause.TheVariants.{Excess}
-use Rattle.lra_linear.specs.Descriptions.{Con, Given}
-use Rattle.lra_linear.specs.OperationStrain.{HullStrains, InclusionStrains, ProductsPass, WideningPasses, valid_on}
-use Rattle.lra_linear.specs.Points.{IsPoint, IsWithin}
-use Rattle.lra_linear.specs.Polyhedra.{IsPolyhedron, IsPolyhedronOf, Polyhedron}
-use Rattle.lra_linear.specs.Strain.{Loss}
-use Rattle.lra_linear.specs.Widening.{Limited, Standard, StandardFrom}
-use Rattle.lra_linear.proofs.Descriptions.{con_none}
-use Rattle.lra_linear.proofs.Polyhedra.{polyhedron_unique}
+use Rattle.lra_linear_spec.specs.declared.Excess as E
+use Rattle.lra_linear_spec.specs.declared.Cause.TheVariants.{Excess}
+use Rattle.lra_linear_spec.specs.Descriptions.{Con, LinearRow}
+use Rattle.lra_linear_spec.specs.OperationStrain.{HullStrains, InclusionStrains, ProductsPass, WideningPasses, valid_on}
+use Rattle.lra_linear_spec.specs.Points.{IsPoint, IsWithin}
+use Rattle.lra_linear_spec.specs.Polyhedra.{IsPolyhedron, IsPolyhedronOf, Polyhedron}
+use Rattle.lra_linear_spec.specs.Strain.{Loss}
+use Rattle.lra_linear_spec.specs.Widening.{LimitedWidening, StandardWidening, StandardFrom}
+use Rattle.lra_linear_spec.proofs.Descriptions.{con_none}
+use Rattle.lra_linear_spec.proofs.Polyhedra.{polyhedron_unique}
 use Rattle.lra_poly.specs.Outcomes.{Becomes}
 use Rattle.lra_duality.specs.declared.inclusion.Inclusion.TheVariants as inclusion
 use Rattle.lra_poly.specs.declared.outcome.Outcome.{Outcome}
@@ -60,7 +60,7 @@ next_in_join p next q e j x i c = j.within x i (right_in_hull p next x i c)
 defined_in_join : (p next q join : Polyhedron) (e : Exactness) → IsJoined p next q e → IsJoin p next join → IsWithin p.dims (Con join.rows) (Con q.rows)
 defined_in_join p next q join e j is x i c = j.within x i (is.points.1 x i c)
 
-pub grown_by_join : (p next q : Polyhedron) (given left : List Given) (e : Exactness) → left ≡ given → IsJoined p next q e →
+pub grown_by_join : (p next q : Polyhedron) (given left : List LinearRow) (e : Exactness) → left ≡ given → IsJoined p next q e →
     HasGrown (head p given) next how.Join (head q left) e
 grown_by_join p next q given left e same j = record {
   dims = j.dims;
@@ -86,7 +86,7 @@ never_outside p q place h w o = inclusion_tells p q (inclusion.No place) h o w
 pub never_refused : (p q : Polyhedron) (e : WidenError) (place : ℕ) → IsPolyhedron p → IsWithin p.dims (Con p.rows) (Con q.rows) → e ≡ NotIncluded place → IsRefusal p q e → ⊥
 never_refused p q e place h w is r = never_outside p q place h w (subst (IsRefusal p q) is r)
 
-pub is_widening : (mode : Mode) (p q r : Polyhedron) (given : List Given) (o : Outcome) → Becomes p.dims (grown_set mode p q given) (λ loss. WideningStrains mode p q given loss) r o →
+pub is_widening : (mode : Mode) (p q r : Polyhedron) (given : List LinearRow) (o : Outcome) → Becomes p.dims (grown_set mode p q given) (λ loss. WideningStrains mode p q given loss) r o →
     IsWithin p.dims (Con p.rows) (Con r.rows) → (r ≢ p → Falls p r given) → IsWidening mode p q given r (exactness_of o)
 is_widening mode p q r given o b old falls = record {
   dims = b.dims;
@@ -111,43 +111,47 @@ not_true : (b : Bool) → ¬ (IsTrue b) → b ≡ false
 not_true true h = absurd (h refl)
 not_true false h = refl
 
-left_valid : (p r : Polyhedron) (given : List Given) → ¬ (IsTrue (some_passes p.generators given || some_passes r.generators given)) → kept p r given ≡ valid_on p r given
+left_valid : (p r : Polyhedron) (given : List LinearRow) → ¬ (IsTrue (some_passes p.generators given || some_passes r.generators given)) → kept p r given ≡ valid_on p r given
 left_valid p r given none =
     let n = or_parts (some_passes p.generators given) (some_passes r.generators given) (not_true (some_passes p.generators given || some_passes r.generators given) none) in
     kept_valid p r given n.0 n.1
 
 -- where none of them flags, the rows that are kept are those that the definition leaves
-left_is : (mode : Mode) (p r : Polyhedron) (given : List Given) → mode ≢ how.Join → ¬ StrikePasses mode p r given → kept p r given ≡ given_left mode p r given
+left_is : (mode : Mode) (p r : Polyhedron) (given : List LinearRow) → mode ≢ how.Join → ¬ StrikePasses mode p r given →
+    kept p r given ≡ given_left mode p r given
 left_is how.Join p r given other none = absurd (other refl)
 left_is how.Widen p r given other none = refl
 left_is how.Limited p r given other none = left_valid p r given none
 left_is how.Tightest p r given other none = left_valid p r given none
 
 -- what the code finds
-pub struck_other : (e : Exactness) (mode : Mode) (p r : Polyhedron) (given : List Given) → takes_given mode ≡ false → IsStruck e mode p r given e
+pub struck_other : (e : Exactness) (mode : Mode) (p r : Polyhedron) (given : List LinearRow) → takes_given mode ≡ false → IsStruck e mode p r given e
 struck_other degree.Flagged mode p r given other = inl refl
 struck_other degree.Exact how.Join p r given other = (refl, λ t. t)
 struck_other degree.Exact how.Widen p r given other = (refl, λ t. t)
 struck_other degree.Exact how.Limited p r given other = let wrong : ⊥ = cc in absurd wrong
 struck_other degree.Exact how.Tightest p r given other = let wrong : ⊥ = cc in absurd wrong
 
-pub struck_first : (e : Exactness) (mode : Mode) (p r : Polyhedron) (given : List Given) → takes_given mode ≡ true → some_passes p.generators given ≡ true → IsStruck e mode p r given degree.Flagged
+pub struck_first : (e : Exactness) (mode : Mode) (p r : Polyhedron) (given : List LinearRow) → takes_given mode ≡ true → some_passes p.generators given ≡ true →
+    IsStruck e mode p r given degree.Flagged
 struck_first e how.Limited p r given is t = inr (rw t refl)
 struck_first e how.Tightest p r given is t = inr (rw t refl)
 struck_first e how.Join p r given is t = let wrong : ⊥ = cc in absurd wrong
 struck_first e how.Widen p r given is t = let wrong : ⊥ = cc in absurd wrong
 
-pub struck_second : (e : Exactness) (mode : Mode) (p r : Polyhedron) (given : List Given) → takes_given mode ≡ true → some_passes r.generators given ≡ true → IsStruck e mode p r given degree.Flagged
+pub struck_second : (e : Exactness) (mode : Mode) (p r : Polyhedron) (given : List LinearRow) → takes_given mode ≡ true → some_passes r.generators given ≡ true →
+    IsStruck e mode p r given degree.Flagged
 struck_second e how.Limited p r given is t = inr (or_true (some_passes p.generators given) (some_passes r.generators given) t)
 struck_second e how.Tightest p r given is t = inr (or_true (some_passes p.generators given) (some_passes r.generators given) t)
 struck_second e how.Join p r given is t = let wrong : ⊥ = cc in absurd wrong
 struck_second e how.Widen p r given is t = let wrong : ⊥ = cc in absurd wrong
 
-none_struck : (p r : Polyhedron) (given : List Given) → some_passes p.generators given ≡ false → some_passes r.generators given ≡ false →
+none_struck : (p r : Polyhedron) (given : List LinearRow) → some_passes p.generators given ≡ false → some_passes r.generators given ≡ false →
     ¬ (IsTrue (some_passes p.generators given || some_passes r.generators given))
 none_struck p r given f g t = false≢true (sym (both_false (some_passes p.generators given) (some_passes r.generators given) f g) ∙ t)
 
-pub struck_none : (e : Exactness) (mode : Mode) (p r : Polyhedron) (given : List Given) → some_passes p.generators given ≡ false → some_passes r.generators given ≡ false → IsStruck e mode p r given e
+pub struck_none : (e : Exactness) (mode : Mode) (p r : Polyhedron) (given : List LinearRow) → some_passes p.generators given ≡ false → some_passes r.generators given ≡ false →
+    IsStruck e mode p r given e
 struck_none degree.Flagged mode p r given f g = inl refl
 struck_none degree.Exact how.Join p r given f g = (refl, λ t. t)
 struck_none degree.Exact how.Widen p r given f g = (refl, λ t. t)
@@ -155,14 +159,14 @@ struck_none degree.Exact how.Limited p r given f g = (refl, none_struck p r give
 struck_none degree.Exact how.Tightest p r given f g = (refl, none_struck p r given f g)
 
 -- the loss of a given row in such a product
-abbrev loss_of : Given → E.Excess → Loss
+abbrev loss_of : LinearRow → E.Excess → Loss
 loss_of r e = record { chosen = []; further = r; cause = Excess e }
 
-strike_passes : (p q r : Polyhedron) (given : List Given) → IsPolyhedronOf p.dims (Limited p q given) r → IsTrue (some_passes p.generators given || some_passes r.generators given)
-    → (loss : Loss) × WideningPasses p q given (Limited p q given) loss
+strike_passes : (p q r : Polyhedron) (given : List LinearRow) → IsPolyhedronOf p.dims (LimitedWidening p q given) r → IsTrue (some_passes p.generators given || some_passes r.generators given)
+    → (loss : Loss) × WideningPasses p q given (LimitedWidening p q given) loss
 strike_passes p q r given is t = by_value (some_passes p.generators given) (some_passes r.generators given) refl refl t
   where
-    with_row : (generators : List Given) (e : E.Excess) → ProductsPass given generators e → ProductsPass (q.rows ++ given) generators e
+    with_row : (generators : List LinearRow) (e : E.Excess) → ProductsPass given generators e → ProductsPass (q.rows ++ given) generators e
     with_row generators e x = record {
       row = x.row;
       has_row = Contains-append_right q.rows given x.row x.has_row;
@@ -171,7 +175,7 @@ strike_passes p q r given is t = by_value (some_passes p.generators given) (some
       passes = x.passes;
     }
 
-    by_value : (a b : Bool) → some_passes p.generators given ≡ a → some_passes r.generators given ≡ b → IsTrue (a || b) → (loss : Loss) × WideningPasses p q given (Limited p q given) loss
+    by_value : (a b : Bool) → some_passes p.generators given ≡ a → some_passes r.generators given ≡ b → IsTrue (a || b) → (loss : Loss) × WideningPasses p q given (LimitedWidening p q given) loss
     by_value true b e f t =
         let x = some_product p.generators given e in (
           loss_of x.1.row x.0,
@@ -200,7 +204,7 @@ strike_passes p q r given is t = by_value (some_passes p.generators given) (some
         )
     by_value false false e f t = let wrong : ⊥ = cc in absurd wrong
 
-strike_strains : (mode : Mode) (p q r : Polyhedron) (given : List Given) → IsPolyhedronOf p.dims (grown_set mode p q given) r → StrikePasses mode p r given
+strike_strains : (mode : Mode) (p q r : Polyhedron) (given : List LinearRow) → IsPolyhedronOf p.dims (grown_set mode p q given) r → StrikePasses mode p r given
     → (loss : Loss) × WideningStrains mode p q given loss
 strike_strains how.Join p q r given is t = absurd t
 strike_strains how.Widen p q r given is t = absurd t
@@ -208,17 +212,18 @@ strike_strains how.Limited p q r given is t = let x = strike_passes p q r given 
 strike_strains how.Tightest p q r given is t = let x = strike_passes p q r given is t in (x.0, inr x.1)
 
 -- ---- a growth by widening with the defined join
-struck_exact : (before after : Exactness) (mode : Mode) (p r : Polyhedron) (given : List Given) → IsStruck before mode p r given after → after ≡ degree.Exact →
+struck_exact : (before after : Exactness) (mode : Mode) (p r : Polyhedron) (given : List LinearRow) → IsStruck before mode p r given after →
+    after ≡ degree.Exact →
     (before ≡ degree.Exact) × ¬ StrikePasses mode p r given
 struck_exact before degree.Exact mode p r given s e = s
 struck_exact before degree.Flagged mode p r given s e = let wrong : ⊥ = cc in absurd wrong
 
-struck_flagged : (before after : Exactness) (mode : Mode) (p r : Polyhedron) (given : List Given) → IsStruck before mode p r given after → after ≡ degree.Flagged →
+struck_flagged : (before after : Exactness) (mode : Mode) (p r : Polyhedron) (given : List LinearRow) → IsStruck before mode p r given after → after ≡ degree.Flagged →
     (before ≡ degree.Flagged) ⊎ StrikePasses mode p r given
 struck_flagged before degree.Exact mode p r given s e = let wrong : ⊥ = cc in absurd wrong
 struck_flagged before degree.Flagged mode p r given s e = s
 
-widening_flagged : (mode : Mode) (p next q r : Polyhedron) (given : List Given) (before : Exactness) → mode ≢ how.Join → IsJoin p next q → IsWidening mode p q given r before →
+widening_flagged : (mode : Mode) (p next q r : Polyhedron) (given : List LinearRow) (before : Exactness) → mode ≢ how.Join → IsJoin p next q → IsWidening mode p q given r before →
     (before ≡ degree.Flagged) ⊎ StrikePasses mode p r given → GrowthStrains (head p given) next mode
 widening_flagged mode p next q r given before other is w (inl f) =
     let l = w.flagged f in inr (record { join = q; is_join = is; loss = l.0; strains = l.1 })
@@ -228,23 +233,23 @@ widening_flagged mode p next q r given degree.Exact other is w (inr t) =
     let l = strike_strains mode p q r given (w.exact refl) t in inr (record { join = q; is_join = is; loss = l.0; strains = l.1 })
 
 -- the join lies in its widening
-join_in_standard : (p q : Polyhedron) (x : List ℤ) → Con q.rows x → Standard p q x
+join_in_standard : (p q : Polyhedron) (x : List ℤ) → Con q.rows x → StandardWidening p q x
 join_in_standard p q x c = by_generators p.generators
   where
-    by_generators : (generators : List Given) → StandardFrom generators p q x
+    by_generators : (generators : List LinearRow) → StandardFrom generators p q x
     by_generators [] = c
     by_generators (g ∷ generators) = λ r k t. c r k
 
-join_in_limited : (p q : Polyhedron) (given : List Given) → q.dims ≡ p.dims → IsWithin p.dims (Con q.rows) (Limited p q given)
+join_in_limited : (p q : Polyhedron) (given : List LinearRow) → q.dims ≡ p.dims → IsWithin p.dims (Con q.rows) (LimitedWidening p q given)
 join_in_limited p q given d x i c = (join_in_standard p q x c, λ g k valid also. also x (subst (λ (n : ℕ). IsPoint n x) (sym d) i) c)
 
-join_in_set : (mode : Mode) (p q : Polyhedron) (given : List Given) → q.dims ≡ p.dims → IsWithin p.dims (Con q.rows) (grown_set mode p q given)
+join_in_set : (mode : Mode) (p q : Polyhedron) (given : List LinearRow) → q.dims ≡ p.dims → IsWithin p.dims (Con q.rows) (grown_set mode p q given)
 join_in_set how.Join p q given d x i c = c
 join_in_set how.Widen p q given d x i c = join_in_standard p q x c
 join_in_set how.Limited p q given d x i c = join_in_limited p q given d x i c
 join_in_set how.Tightest p q given d x i c = join_in_limited p q given d x i c
 
-below_by_left : (p r : Polyhedron) (given left : List Given) → left ≡ kept p r given → Falls p r given → IsBelow (rank_of r left) (rank_of p given)
+below_by_left : (p r : Polyhedron) (given left : List LinearRow) → left ≡ kept p r given → Falls p r given → IsBelow (rank_of r left) (rank_of p given)
 below_by_left p r given left e f = subst (λ l. IsBelow (rank_of r l) (rank_of p given)) (sym e) f
 
 left_kept : (mode : Mode) (h new : HeadContent) → mode ≢ how.Join → new.given ≡ kept h.value new.value h.given → IsLeft h mode new
@@ -253,7 +258,8 @@ left_kept how.Widen h new other e = e
 left_kept how.Limited h new other e = e
 left_kept how.Tightest h new other e = e
 
-pub grown_by_widening : (mode : Mode) (p next q r : Polyhedron) (given left : List Given) (joining before after : Exactness) → mode ≢ how.Join → IsJoined p next q joining → joining ≡ degree.Exact →
+pub grown_by_widening : (mode : Mode) (p next q r : Polyhedron) (given left : List LinearRow) (joining before after : Exactness) → mode ≢ how.Join → IsJoined p next q joining →
+    joining ≡ degree.Exact →
     IsWidening mode p q given r before → left ≡ kept p r given → IsStruck before mode p r given after → HasGrown (head p given) next mode (head r left) after
 grown_by_widening mode p next q r given left joining before after other j f w kept_are s = record {
   dims = w.dims;
@@ -280,7 +286,7 @@ grown_by_widening mode p next q r given left joining before after other j f w ke
 
 -- ---- all points
 -- where the join is flagged
-pub grown_up : (mode : Mode) (p next q u : Polyhedron) (given left : List Given) (joining after : Exactness) → mode ≢ how.Join → IsPolyhedron p → HaveColumns p.dims given →
+pub grown_up : (mode : Mode) (p next q u : Polyhedron) (given left : List LinearRow) (joining after : Exactness) → mode ≢ how.Join → IsPolyhedron p → HaveColumns p.dims given →
     IsJoined p next q joining → joining ≡ degree.Flagged → IsPolyhedronOf p.dims (Con []) u → left ≡ kept p u given → after ≡ degree.Flagged →
     HasGrown (head p given) next mode (head u left) after
 grown_up mode p next q u given left joining after other h columns j f is kept_are flags = record {
@@ -299,7 +305,7 @@ grown_up mode p next q u given left joining after other h columns j f is kept_ar
 other_where_wide : (p next u : Polyhedron) (e : E.Excess) → InclusionStrains next p e → IsPolyhedronOf p.dims (Con []) u → u ≢ p
 other_where_wide p next u e x is same = all_no_row p.dims u is x.row (subst (λ (y : Polyhedron). Contains y.rows x.row) (sym same) x.has_row)
 
-wide_falls : (p next u : Polyhedron) (given left : List Given) (e : E.Excess) → IsPolyhedron p → HaveColumns p.dims given → InclusionStrains next p e → IsPolyhedronOf p.dims (Con []) u →
+wide_falls : (p next u : Polyhedron) (given left : List LinearRow) (e : E.Excess) → IsPolyhedron p → HaveColumns p.dims given → InclusionStrains next p e → IsPolyhedronOf p.dims (Con []) u →
     left ≡ kept p u given → IsBelow (rank_of u left) (rank_of p given)
 wide_falls p next u given left e h columns x is kept_are = below_by_left p u given left kept_are (up_falls p u given h is columns (other_where_wide p next u e x is))
 

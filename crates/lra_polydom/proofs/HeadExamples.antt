@@ -1,8 +1,8 @@
 -- Worked examples of heads: x from 0 to 1 becomes x from 0 to 9.
 use Rattle.std.proofs.Common.{◌≡◌, pos, negsuc, [], ◌∷◌, refl}
 use Rattle.lra_domain.specs.declared.Mode.TheVariants as how
-use Rattle.lra_linear.specs.Descriptions.{Given, inequality}
-use Rattle.lra_linear.specs.Polyhedra.{Polyhedron}
+use Rattle.lra_linear_spec.specs.Descriptions.{LinearRow, inequality}
+use Rattle.lra_linear_spec.specs.Polyhedra.{Polyhedron}
 use Rattle.lra_polydom.specs.Content.{listed, polyhedron_parts}
 use Rattle.lra_polydom.specs.Heads.{given_left}
 
@@ -20,10 +20,10 @@ to_nine = record {
   generators = inequality (pos 1 ∷ pos 0 ∷ []) ∷ inequality (pos 1 ∷ pos 9 ∷ []) ∷ [];
 }
 
-abbrev at_most_nine : Given
+abbrev at_most_nine : LinearRow
 at_most_nine = inequality (pos 9 ∷ negsuc 0 ∷ [])
 
-abbrev at_most_five : Given
+abbrev at_most_five : LinearRow
 at_most_five = inequality (pos 5 ∷ negsuc 0 ∷ [])
 
 -- of the given rows x <= 9 and x <= 5 a widening leaves the first, a join both

@@ -1,9 +1,9 @@
 -- What an inclusion answers.
 use Rattle.std.proofs.Common.{◌≡◌, subst}
 use Rattle.lra_domain.specs.declared.Included.{Included}
-use Rattle.lra_linear.specs.Descriptions.{Con}
-use Rattle.lra_linear.specs.Points.{IsWithin}
-use Rattle.lra_linear.specs.Polyhedra.{Polyhedron}
+use Rattle.lra_linear_spec.specs.Descriptions.{Con}
+use Rattle.lra_linear_spec.specs.Points.{IsWithin}
+use Rattle.lra_linear_spec.specs.Polyhedra.{Polyhedron}
 use Rattle.lra_polydom.specs.Content.{Answers, Covered}
 
 pub outside : (p q : Polyhedron) → ¬ (IsWithin p.dims (Con p.rows) (Con q.rows)) → ¬ (Covered p q)

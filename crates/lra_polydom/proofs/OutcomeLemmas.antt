@@ -1,7 +1,7 @@
 -- What the outcome of an operation tells, by its exactness.
 use Rattle.std.proofs.Common.{◌≡◌}
 use Rattle.lra_domain.specs.declared.Exactness.TheVariants as degree
-use Rattle.lra_linear.specs.Strain.{Loss}
+use Rattle.lra_linear_spec.specs.Strain.{Loss}
 use Rattle.lra_poly.specs.Outcomes.{IfExact, IfFlagged}
 use Rattle.lra_poly.specs.declared.outcome.Outcome.{Outcome}
 use Rattle.lra_poly.specs.declared.outcome.Outcome.TheVariants as told

@@ -5,13 +5,13 @@ use Rattle.std.specs.List.{All, list_any}
 use Rattle.std.proofs.lemmas.List.Elements.{All-cons, All-nil}
 use Rattle.lra_domain.specs.Laws.{PartsTell}
 use Rattle.lra_domain.specs.Parts.{SomePartHolds}
-use Rattle.lra_linear.specs.Descriptions.{Con, Given, rows_of}
-use Rattle.lra_linear.specs.Kinds.{constraint_kind, is_equality}
-use Rattle.lra_linear.specs.declared.ConKind.{ConKind}
-use Rattle.lra_linear.specs.declared.ConKind.TheVariants as con
-use Rattle.lra_linear.specs.Points.{IsEmptySet}
-use Rattle.lra_linear.specs.Polyhedra.{IsPolyhedron, IsPolyhedronOf, Polyhedron}
-use Rattle.lra_linear.proofs.Descriptions.{con_none}
+use Rattle.lra_linear_spec.specs.Descriptions.{Con, LinearRow, rows_of}
+use Rattle.lra_linear_spec.specs.Kinds.{constraint_kind, is_equality}
+use Rattle.lra_linear_spec.specs.declared.ConKind.{ConKind}
+use Rattle.lra_linear_spec.specs.declared.ConKind.TheVariants as con
+use Rattle.lra_linear_spec.specs.Points.{IsEmptySet}
+use Rattle.lra_linear_spec.specs.Polyhedra.{IsPolyhedron, IsPolyhedronOf, Polyhedron}
+use Rattle.lra_linear_spec.proofs.Descriptions.{con_none}
 use Rattle.lra_sys.specs.Listed.{Listed, constraints, given_by}
 use Rattle.lra_polydom.specs.Content.{PolyhedronHas, is_absurd, listed, polyhedron_parts}
 use Rattle.lra_polydom.specs.Meaning.{polyhedron_meaning}
@@ -27,18 +27,18 @@ rows_back [] kinds e = refl
 rows_back (r ∷ rows) [] e = let wrong : ⊥ = cc in absurd wrong
 rows_back (r ∷ rows) (k ∷ kinds) e = ap (λ l. r ∷ l) (rows_back rows kinds (omega (arith, e)))
 
-kinds_back : (rows : List (List ℤ)) (kinds : List ConKind) → length rows ≡ length kinds → map (λ (g : Given). constraint_kind g.equal) (given_by is_equality rows kinds) ≡ kinds
+kinds_back : (rows : List (List ℤ)) (kinds : List ConKind) → length rows ≡ length kinds → map (λ (g : LinearRow). constraint_kind g.equal) (given_by is_equality rows kinds) ≡ kinds
 kinds_back [] [] e = refl
 kinds_back [] (k ∷ kinds) e = let wrong : ⊥ = cc in absurd wrong
 kinds_back (r ∷ rows) [] e = let wrong : ⊥ = cc in absurd wrong
 kinds_back (r ∷ rows) (k ∷ kinds) e =
-    ap (λ x. x ∷ map (λ (g : Given). constraint_kind g.equal) (given_by is_equality rows kinds)) (kind_back k) ∙ ap (λ l. k ∷ l) (kinds_back rows kinds (omega (arith, e)))
+    ap (λ x. x ∷ map (λ (g : LinearRow). constraint_kind g.equal) (given_by is_equality rows kinds)) (kind_back k) ∙ ap (λ l. k ∷ l) (kinds_back rows kinds (omega (arith, e)))
 
 pub listed_back : (p : Polyhedron) (list : Listed ConKind) → list.dims ≡ p.dims → constraints list ≡ p.rows → length list.kinds ≡ length list.rows → list ≡ listed p
 listed_back p list d e n =
-    whole list.dims p.dims list.rows (rows_of p.rows) list.kinds (map (λ (g : Given). constraint_kind g.equal) p.rows) d
+    whole list.dims p.dims list.rows (rows_of p.rows) list.kinds (map (λ (g : LinearRow). constraint_kind g.equal) p.rows) d
     (sym (rows_back list.rows list.kinds (sym n)) ∙ ap rows_of e)
-    (sym (kinds_back list.rows list.kinds (sym n)) ∙ ap (map (λ (g : Given). constraint_kind g.equal)) e)
+    (sym (kinds_back list.rows list.kinds (sym n)) ∙ ap (map (λ (g : LinearRow). constraint_kind g.equal)) e)
   where
     whole : (a b : ℕ) (r s : List (List ℤ)) (k l : List ConKind) → a ≡ b → r ≡ s → k ≡ l →
         (let x : Listed ConKind = record { dims = a; rows = r; kinds = k } in x) ≡ record { dims = b; rows = s; kinds = l }
@@ -48,9 +48,9 @@ listed_back p list d e n =
         ap (λ (m : List ConKind). let x : Listed ConKind = record { dims = b; rows = s; kinds = m } in x) g
 
 -- and its constraints are those
-constraints_back : (gs : List Given) → given_by is_equality (rows_of gs) (map (λ (g : Given). constraint_kind g.equal) gs) ≡ gs
+constraints_back : (gs : List LinearRow) → given_by is_equality (rows_of gs) (map (λ (g : LinearRow). constraint_kind g.equal) gs) ≡ gs
 constraints_back [] = refl
-constraints_back (g ∷ gs) = ap (λ (b : Bool). (let y : Given = record { row = g.row; equal = b } in y) ∷ given_by is_equality (rows_of gs) (map (λ (x : Given). constraint_kind x.equal) gs))
+constraints_back (g ∷ gs) = ap (λ (b : Bool). (let y : LinearRow = record { row = g.row; equal = b } in y) ∷ given_by is_equality (rows_of gs) (map (λ (x : LinearRow). constraint_kind x.equal) gs))
     (equal_back g.equal) ∙
     ap (λ l. g ∷ l) (constraints_back gs)
   where

@@ -3,12 +3,12 @@ use Rattle.std.proofs.Common.{◌≡◌, ◌∙◌, Bool, true, false, cond, Lis
 use Rattle.std.specs.Prelude.{◌&&◌, not}
 use Rattle.std.specs.List.{list_all}
 use Rattle.std.proofs.lemmas.Bool.{or_parts}
-use Rattle.lra_linear.specs.declared.Excess as E
-use Rattle.lra_linear.specs.CheckedArithmetic.{checked_product}
-use Rattle.lra_linear.specs.Descriptions.{Given}
-use Rattle.lra_linear.specs.OperationStrain.{ProductsPass, valid_on}
-use Rattle.lra_linear.specs.Polyhedra.{Polyhedron}
-use Rattle.lra_linear.specs.Widening.{holds_with, is_valid}
+use Rattle.lra_linear_spec.specs.declared.Excess as E
+use Rattle.lra_linear_spec.specs.CheckedArithmetic.{checked_product}
+use Rattle.lra_linear_spec.specs.Descriptions.{LinearRow}
+use Rattle.lra_linear_spec.specs.OperationStrain.{ProductsPass, valid_on}
+use Rattle.lra_linear_spec.specs.Polyhedra.{Polyhedron}
+use Rattle.lra_linear_spec.specs.Widening.{holds_with, is_valid}
 use Rattle.lra_widen.specs.Rank.{fits, holds_in_range, kept}
 use Rattle.lra_widen.proofs.Counting.{any_said}
 use Rattle.lra_polydom.specs.Growth.{row_passes, some_passes}
@@ -18,7 +18,7 @@ tests_alike : (f h : Bool) → not f ≡ false → (f && h) ≡ h
 tests_alike true h e = refl
 tests_alike false h e = let wrong : ⊥ = cc in absurd wrong
 
-in_range_alike : (generators : List Given) (r : Given) → row_passes generators r.row ≡ false →
+in_range_alike : (generators : List LinearRow) (r : LinearRow) → row_passes generators r.row ≡ false →
     list_all (λ g. fits (checked_product r.row g.row) && holds_with r g) generators ≡ list_all (holds_with r) generators
 in_range_alike [] r e = refl
 in_range_alike (g ∷ generators) r e =
@@ -26,7 +26,7 @@ in_range_alike (g ∷ generators) r e =
     ap (λ (b : Bool). b && list_all (λ k. fits (checked_product r.row k.row) && holds_with r k) generators) (tests_alike (fits (checked_product r.row g.row)) (holds_with r g) n.0) ∙
     ap (λ (b : Bool). holds_with r g && b) (in_range_alike generators r n.1)
 
-pub kept_valid : (p r : Polyhedron) (given : List Given) → some_passes p.generators given ≡ false → some_passes r.generators given ≡ false → kept p r given ≡ valid_on p r given
+pub kept_valid : (p r : Polyhedron) (given : List LinearRow) → some_passes p.generators given ≡ false → some_passes r.generators given ≡ false → kept p r given ≡ valid_on p r given
 kept_valid p r [] e f = refl
 kept_valid p r (g ∷ given) e f =
     let n = or_parts (row_passes p.generators g.row) (some_passes p.generators given) e in
@@ -40,7 +40,7 @@ passing : {A Q : Type 0} (x : Result A Q) → not (fits x) ≡ true → (e : Q) 
 passing (Ok a) h = let wrong : ⊥ = cc in absurd wrong
 passing (Err e) h = (e, refl)
 
-pub some_product : (generators given : List Given) → some_passes generators given ≡ true → (e : E.Excess) × ProductsPass given generators e
+pub some_product : (generators given : List LinearRow) → some_passes generators given ≡ true → (e : E.Excess) × ProductsPass given generators e
 some_product generators given h =
     let r = any_said (λ x. row_passes generators x.row) given h in
     let g = any_said (λ x. not (fits (checked_product r.0.row x.row))) generators r.2 in

@@ -6,21 +6,21 @@ use Rattle.std.proofs.lemmas.Bool.{cases_lt}
 use Rattle.std.proofs.lemmas.List.Elements.{Contains-append_cases, Contains-append_right}
 use Rattle.std.specs.List.{Contains}
 use Rattle.std.specs.Prelude.{slice_set}
-use Rattle.lra_linear.specs.Cones.{both_ways}
-use Rattle.lra_linear.specs.Descriptions.{Con, Given, Holds, HoldsWith, given_as}
-use Rattle.lra_linear.specs.Echelon.{pivot}
-use Rattle.lra_linear.specs.Points.{IsPoint}
-use Rattle.lra_linear.specs.Polyhedra.{HasPoint, IsPolyhedron, IsPolyhedronOf, Polyhedron, positivity}
-use Rattle.lra_linear.specs.Vectors.{cleared, entry, product}
-use Rattle.lra_linear.proofs.Descriptions.{con_none}
-use Rattle.lra_linear.proofs.Lines.{in_lines, zeros_length}
-use Rattle.lra_linear.proofs.Membership.{contains_none}
-use Rattle.lra_linear.proofs.OneSpelling.{given_from, positivity_product}
-use Rattle.lra_linear.proofs.Pivots.{echelon_pivot, echelon_positive}
-use Rattle.lra_linear.proofs.Products.{entry_past, entry_set_other, product_comm}
-use Rattle.lra_linear.proofs.Ring.{ring, v, ◌⊕◌, ◌⊗◌}
-use Rattle.lra_linear.proofs.Signs.{not_both}
-use Rattle.lra_linear.proofs.SetOperations.{product_set}
+use Rattle.lra_linear_spec.specs.Cones.{both_ways}
+use Rattle.lra_linear_spec.specs.Descriptions.{Con, LinearRow, Holds, HoldsWith, rows_as}
+use Rattle.lra_linear_spec.specs.Echelon.{pivot}
+use Rattle.lra_linear_spec.specs.Points.{IsPoint}
+use Rattle.lra_linear_spec.specs.Polyhedra.{HasPoint, IsPolyhedron, IsPolyhedronOf, Polyhedron, positivity}
+use Rattle.lra_linear_spec.specs.Vectors.{cleared, entry, product}
+use Rattle.lra_linear_spec.proofs.Descriptions.{con_none}
+use Rattle.lra_linear_spec.proofs.Lines.{in_lines, zeros_length}
+use Rattle.lra_linear_spec.proofs.Membership.{contains_none}
+use Rattle.lra_linear_spec.proofs.OneSpelling.{given_from, positivity_product}
+use Rattle.lra_linear_spec.proofs.Pivots.{echelon_pivot, echelon_positive}
+use Rattle.lra_linear_spec.proofs.Products.{entry_past, entry_set_other, product_comm}
+use Rattle.lra_linear_spec.proofs.Ring.{ring, v, ◌⊕◌, ◌⊗◌}
+use Rattle.lra_linear_spec.proofs.Signs.{not_both}
+use Rattle.lra_linear_spec.proofs.SetOperations.{product_set}
 use Rattle.lra_pair.proofs.PairLists.{origin}
 use Rattle.lra_duality.proofs.PolyhedronLemmas.{falsity_is_empty}
 use Rattle.lra_widen.specs.Rank.{Falls}
@@ -51,7 +51,8 @@ pivot_inside e n l h = elim (cases_lt (pivot e) n) [
   | inr i ↦ absurd (not_both (entry e (pivot e)) h (entry_past e (pivot e) (subst (λ (m : ℕ). m ≤ pivot e) (sym l) i)))
 ]
 
-no_equality : (u : Polyhedron) (h : HasPoint u) (g : Given) → ((x : List ℤ) → IsPoint u.dims x → Holds g x) → g.equal ≡ true → Contains h.equalities g.row → ⊥
+no_equality : (u : Polyhedron) (h : HasPoint u) (g : LinearRow) → ((x : List ℤ) → IsPoint u.dims x → Holds g x) → g.equal ≡ true → Contains h.equalities g.row →
+    ⊥
 no_equality u h g all equal k =
     let c = h.constraints_canonical in
     let up = echelon_positive h.equalities c.pivots c.echelon g.row k in
@@ -61,7 +62,7 @@ no_equality u h g all equal k =
     (λ x i. subst (λ b. HoldsWith b (product g.row x)) equal (all x i)))
 
 -- ---- so it has no constraint
-pub all_no_row : (n : ℕ) (u : Polyhedron) → IsPolyhedronOf n (Con []) u → (g : Given) → ¬ Contains u.rows g
+pub all_no_row : (n : ℕ) (u : Polyhedron) → IsPolyhedronOf n (Con []) u → (g : LinearRow) → ¬ Contains u.rows g
 all_no_row n u is g k = by_kind is.canonical
   where
     all : (x : List ℤ) → IsPoint u.dims x → Con u.rows x
@@ -72,7 +73,7 @@ all_no_row n u is g k = by_kind is.canonical
 
     by_kind : IsPolyhedron u → ⊥
     by_kind (inl none) = falsity_is_empty u.dims u.rows none.0 (positivity u.dims) (origin u.dims) (all (positivity u.dims) (origin u.dims))
-    by_kind (inr h) = elim (Contains-append_cases (given_as true h.equalities) (given_as false h.inequalities) g (subst (λ (l : List Given). Contains l g) h.rows_are k)) [
+    by_kind (inr h) = elim (Contains-append_cases (rows_as true h.equalities) (rows_as false h.inequalities) g (subst (λ (l : List LinearRow). Contains l g) h.rows_are k)) [
       | inl e ↦ let f = given_from true h.equalities g e in no_equality u h g (λ x i. all x i g k) f.0 f.1
       | inr i ↦
           let f = h.shown g.row (given_from false h.inequalities g i).1 in
@@ -81,7 +82,8 @@ all_no_row n u is g k = by_kind is.canonical
     ]
 
 -- the rank falls from any other polyhedron
-pub up_falls : (p u : Polyhedron) (given : List Given) → IsPolyhedron p → IsPolyhedronOf p.dims (Con []) u → HaveColumns p.dims given → u ≢ p → Falls p u given
+pub up_falls : (p u : Polyhedron) (given : List LinearRow) → IsPolyhedron p → IsPolyhedronOf p.dims (Con []) u → HaveColumns p.dims given → u ≢ p →
+    Falls p u given
 up_falls p u given h is columns other = rank_falls p u given h is.canonical is.dimensions (λ x i c. is.points.0 x i (con_none x)) other columns (λ k. record {
   rows = [];
   made = subst (λ (m : ℕ). IsPolyhedronOf m (Con []) u) (sym is.dimensions) is;

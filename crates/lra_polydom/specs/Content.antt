@@ -4,26 +4,26 @@ use Rattle.std.specs.List.{All, Contains, list_all, list_any}
 use Rattle.std.specs.Ordering.{int_eq}
 use Rattle.lra_domain.specs.declared.Included.{Included}
 use Rattle.lra_domain.specs.declared.Included.TheVariants.{Yes, No, Wide}
-use Rattle.lra_linear.specs.declared.Excess as E
-use Rattle.lra_linear.specs.Descriptions.{Con, Given, rows_of}
-use Rattle.lra_linear.specs.Formed.{IsFormed}
-use Rattle.lra_linear.specs.Kinds.{constraint_kind}
-use Rattle.lra_linear.specs.OperationStrain.{InclusionStrains}
-use Rattle.lra_linear.specs.Points.{IsWithin}
-use Rattle.lra_linear.specs.Polyhedra.{Polyhedron}
-use Rattle.lra_linear.specs.Range.{InRange}
-use Rattle.lra_linear.specs.declared.ConKind.{ConKind}
+use Rattle.lra_linear_spec.specs.declared.Excess as E
+use Rattle.lra_linear_spec.specs.Descriptions.{Con, LinearRow, rows_of}
+use Rattle.lra_linear_spec.specs.Representable.{IsRepresentable}
+use Rattle.lra_linear_spec.specs.Kinds.{constraint_kind}
+use Rattle.lra_linear_spec.specs.OperationStrain.{InclusionStrains}
+use Rattle.lra_linear_spec.specs.Points.{IsWithin}
+use Rattle.lra_linear_spec.specs.Polyhedra.{Polyhedron}
+use Rattle.lra_linear_spec.specs.Range.{InRange}
+use Rattle.lra_linear_spec.specs.declared.ConKind.{ConKind}
 use Rattle.lra_sys.specs.Listed.{Listed}
 
 -- what a loop's head holds: the polyhedron that was reached, and the given rows that no growth has struck
 pub record HeadContent : Type 0 where
   pub value : Polyhedron
-  pub given : List Given
+  pub given : List LinearRow
 
 -- a head that is held: its value is, and each given row has a number for each dimension and a constant, in the range
 abbrev pub IsHeadFormed : HeadContent → Type 0
-IsHeadFormed h = IsFormed h.value
-    × ((g : Given) → Contains h.given g → (length g.row ≡ suc h.value.dims) × All InRange g.row)
+IsHeadFormed h = IsRepresentable h.value
+    × ((g : LinearRow) → Contains h.given g → (length g.row ≡ suc h.value.dims) × All InRange g.row)
 
 -- the list has a number for each dimension, and as a point it meets every constraint
 abbrev pub PolyhedronHas : Polyhedron → List ℤ → Type 0
@@ -35,7 +35,7 @@ abbrev pub is_negative : List ℤ → Bool
 is_negative [] = false
 is_negative (c ∷ cs) = not (int_le (pos 0) c) && list_all (λ x. int_eq x (pos 0)) cs
 
-abbrev pub is_absurd : Given → Bool
+abbrev pub is_absurd : LinearRow → Bool
 is_absurd r = not r.equal && is_negative r.row
 
 -- the constraints as a list of rows with their kinds

@@ -7,20 +7,20 @@ use Rattle.std.specs.Prelude.{◌||◌, int_le, not}
 use Rattle.std.specs.Cmp.{signed_Decides}
 use Rattle.std.specs.List.{Contains, list_all, list_any}
 use Rattle.std.specs.Ordering.{int_eq}
-use Rattle.lra_linear.specs.Descriptions.{Con, Given, Holds, HoldsWith, inequality}
-use Rattle.lra_linear.specs.Points.{IsEmptySet, IsPoint, IsWithin, PointSet}
-use Rattle.lra_linear.specs.Polyhedra.{HasPoint, IsPolyhedron, Polyhedron, falsity}
-use Rattle.lra_linear.specs.SetOperations.{Hull}
-use Rattle.lra_linear.specs.Vectors.{dot, entry, negated, product, zeros}
-use Rattle.lra_linear.proofs.Membership.{contains_none}
-use Rattle.lra_linear.proofs.Products.{negated_dot, product_none}
-use Rattle.lra_linear.proofs.Ring.{ring, v, ⊖, ◌⊕◌, ◌⊗◌}
-use Rattle.lra_linear.proofs.SetOperations.{has_vertex}
-use Rattle.lra_linear.proofs.Signs.{between_opposites, times_positive}
+use Rattle.lra_linear_spec.specs.Descriptions.{Con, LinearRow, Holds, HoldsWith, inequality}
+use Rattle.lra_linear_spec.specs.Points.{IsEmptySet, IsPoint, IsWithin, PointSet}
+use Rattle.lra_linear_spec.specs.Polyhedra.{HasPoint, IsPolyhedron, Polyhedron, falsity}
+use Rattle.lra_linear_spec.specs.SetOperations.{Hull}
+use Rattle.lra_linear_spec.specs.Vectors.{dot, entry, negated, product, zeros}
+use Rattle.lra_linear_spec.proofs.Membership.{contains_none}
+use Rattle.lra_linear_spec.proofs.Products.{negated_dot, product_none}
+use Rattle.lra_linear_spec.proofs.Ring.{ring, v, ⊖, ◌⊕◌, ◌⊗◌}
+use Rattle.lra_linear_spec.proofs.SetOperations.{has_vertex}
+use Rattle.lra_linear_spec.proofs.Signs.{between_opposites, times_positive}
 use Rattle.lra_duality.proofs.PolyhedronLemmas.{none_where_empty}
 use Rattle.lra_widen.proofs.Counting.{any_said}
 use Rattle.lra_domain.specs.Actions.{Within}
-use Rattle.lra_linear.specs.Descriptions.{system_of}
+use Rattle.lra_linear_spec.specs.Descriptions.{system_of}
 use Rattle.lra_polydom.specs.Content.{Covered, PolyhedronHas, is_absurd, is_negative, listed, polyhedron_parts}
 use Rattle.lra_polydom.specs.Sets.{IsJoin}
 
@@ -54,7 +54,7 @@ negative_product (c ∷ cs) x h d k =
     low : (z y : ℤ) → z ≡ neg_ℤ y → pos 0 <ℤ y → pos 0 ≤ℤ z → ⊥
     low z y e h k = omega (arith, ints, e, h, k)
 
-pub absurd_empty : (n : ℕ) (rows : List Given) → list_any is_absurd rows ≡ true → IsEmptySet n (Con rows)
+pub absurd_empty : (n : ℕ) (rows : List LinearRow) → list_any is_absurd rows ≡ true → IsEmptySet n (Con rows)
 absurd_empty n rows e x i c =
     let r = any_said is_absurd rows e in
     let b = and_parts (not r.0.equal) (is_negative r.0.row) r.2 in
@@ -78,7 +78,8 @@ no_parts p e = ap (λ (b : Bool). cond b [] (listed p ∷ [])) e
 pub point_not_empty : (p : Polyhedron) → HasPoint p → ¬ (IsEmptySet p.dims (Con p.rows))
 point_not_empty p h e =
     let none = none_where_empty p (inr h) e in
-    contains_none (has_vertex p h).vertex (subst (λ (l : List Given). Contains (system_of l) (has_vertex p h).vertex)
+    contains_none (has_vertex p h).vertex
+    (subst (λ (l : List LinearRow). Contains (system_of l) (has_vertex p h).vertex)
     none (has_vertex p h).has)
 
 pub empty_parts : (p : Polyhedron) → IsPolyhedron p → IsEmptySet p.dims (Con p.rows) → polyhedron_parts p ≡ []
@@ -149,7 +150,7 @@ fitted_product (suc n) [] (y ∷ ys) e =
 fitted_product (suc n) (c ∷ cs) (y ∷ ys) e = ap (λ z. (c *ℤ y) +ℤ z) (fitted_product n cs ys (omega (arith, e)))
 
 -- a constraint that holds at each point of a set holds on its hull
-pub hull_row : (n : ℕ) (P : PointSet) (r : Given) → ((y : List ℤ) → IsPoint n y → P y → Holds r y) → (x : List ℤ) →
+pub hull_row : (n : ℕ) (P : PointSet) (r : LinearRow) → ((y : List ℤ) → IsPoint n y → P y → Holds r y) → (x : List ℤ) →
     IsPoint n x → Hull n P x → Holds r x
 hull_row n P r valid x i hull = by_kind r.equal valid
   where
@@ -180,6 +181,7 @@ joined_covered a b j c is u w =
     let at : IsPoint a.dims x = subst (λ (n : ℕ). IsPoint n x) is.dimensions i in
     hull_row a.dims (λ y. Con a.rows y ⊎ Con b.rows y) g (λ y l. both y l g m) x at (is.points.1 x at k))
   where
-    both : (y : List ℤ) → IsPoint a.dims y → (g : Given) → Contains c.rows g → Con a.rows y ⊎ Con b.rows y → Holds g y
+    both : (y : List ℤ) → IsPoint a.dims y → (g : LinearRow) → Contains c.rows g → Con a.rows y ⊎ Con b.rows y →
+        Holds g y
     both y l g m (inl p) = u.within y l p g m
     both y l g m (inr p) = w.within y (subst (λ (n : ℕ). IsPoint n y) (u.dims ∙ sym w.dims) l) p g m

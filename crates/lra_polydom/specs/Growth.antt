@@ -5,12 +5,12 @@ use Rattle.lra_domain.specs.declared.Exactness.{Exactness}
 use Rattle.lra_domain.specs.declared.Exactness.TheVariants as degree
 use Rattle.lra_domain.specs.declared.Mode.{Mode}
 use Rattle.lra_domain.specs.declared.Mode.TheVariants as how
-use Rattle.lra_linear.specs.CheckedArithmetic.{checked_product}
-use Rattle.lra_linear.specs.Descriptions.{Con, Given}
-use Rattle.lra_linear.specs.OperationStrain.{HullStrains}
-use Rattle.lra_linear.specs.Points.{IsWithin}
-use Rattle.lra_linear.specs.Polyhedra.{IsPolyhedron, IsPolyhedronOf, Polyhedron}
-use Rattle.lra_linear.specs.Strain.{Loss}
+use Rattle.lra_linear_spec.specs.CheckedArithmetic.{checked_product}
+use Rattle.lra_linear_spec.specs.Descriptions.{Con, LinearRow}
+use Rattle.lra_linear_spec.specs.OperationStrain.{HullStrains}
+use Rattle.lra_linear_spec.specs.Points.{IsWithin}
+use Rattle.lra_linear_spec.specs.Polyhedra.{IsPolyhedron, IsPolyhedronOf, Polyhedron}
+use Rattle.lra_linear_spec.specs.Strain.{Loss}
 use Rattle.lra_poly.specs.declared.outcome.Outcome.{Outcome}
 use Rattle.lra_poly.specs.declared.outcome.Outcome.TheVariants as told
 use Rattle.lra_widen.specs.Rank.{Falls, IsBelow, fits, rank_of}
@@ -44,11 +44,11 @@ pub record HasGrown (h : HeadContent) (next : Polyhedron) (mode : Mode) (new : H
   pub falls : mode ≢ how.Join → new.value ≢ h.value → IsBelow (rank_of new.value new.given) (rank_of h.value h.given)
   pub left : IsLeft h mode new
 
-abbrev pub head : Polyhedron → List Given → HeadContent
+abbrev pub head : Polyhedron → List LinearRow → HeadContent
 head p given = record { value = p; given = given }
 
 -- R is the widening of P by Q with this exactness, or covers it where that strains
-pub record IsWidening (mode : Mode) (p q : Polyhedron) (given : List Given) (r : Polyhedron) (e : Exactness)
+pub record IsWidening (mode : Mode) (p q : Polyhedron) (given : List LinearRow) (r : Polyhedron) (e : Exactness)
     : Type 0 where
   pub dims : r.dims ≡ p.dims
   pub canonical : IsPolyhedron r
@@ -64,10 +64,10 @@ abbrev pub product_passes : List ℤ → List ℤ → Bool
 product_passes r g = not (fits (checked_product r g))
 
 -- that of the row with one of the generators does
-abbrev pub row_passes : List Given → List ℤ → Bool
+abbrev pub row_passes : List LinearRow → List ℤ → Bool
 row_passes generators r = list_any (λ g. product_passes r g.row) generators
 
-abbrev pub some_passes : List Given → List Given → Bool
+abbrev pub some_passes : List LinearRow → List LinearRow → Bool
 some_passes generators given = list_any (λ r. row_passes generators r.row) given
 
 -- a widening of this mode takes given rows in
@@ -77,13 +77,13 @@ takes_given how.Widen = false
 takes_given how.Limited = true
 takes_given how.Tightest = true
 
-abbrev pub StrikePasses : Mode → Polyhedron → Polyhedron → List Given → Type 0
+abbrev pub StrikePasses : Mode → Polyhedron → Polyhedron → List LinearRow → Type 0
 StrikePasses how.Join p r given = ⊥
 StrikePasses how.Widen p r given = ⊥
 StrikePasses how.Limited p r given = IsTrue (some_passes p.generators given || some_passes r.generators given)
 StrikePasses how.Tightest p r given = IsTrue (some_passes p.generators given || some_passes r.generators given)
 
 -- where the widening is limited such a strike flags
-abbrev pub IsStruck : Exactness → Mode → Polyhedron → Polyhedron → List Given → Exactness → Type 0
+abbrev pub IsStruck : Exactness → Mode → Polyhedron → Polyhedron → List LinearRow → Exactness → Type 0
 IsStruck before mode p r given degree.Exact = (before ≡ degree.Exact) × ¬ StrikePasses mode p r given
 IsStruck before mode p r given degree.Flagged = (before ≡ degree.Flagged) ⊎ StrikePasses mode p r given

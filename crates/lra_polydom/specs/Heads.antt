@@ -5,28 +5,28 @@ use Rattle.std.specs.Prelude.{◌≡◌, List, [], ◌⊎◌}
 use Rattle.lra_domain.specs.declared.Mode.{Mode}
 use Rattle.lra_domain.specs.declared.Mode.TheVariants as how
 use Rattle.lra_domain.specs.declared.Rank.{Rank}
-use Rattle.lra_linear.specs.Descriptions.{Con, Given}
-use Rattle.lra_linear.specs.OperationStrain.{HullStrains, LimitedStrains, StandardStrains, valid_on}
-use Rattle.lra_linear.specs.Points.{PointSet}
-use Rattle.lra_linear.specs.Polyhedra.{IsPolyhedronOf, Polyhedron}
-use Rattle.lra_linear.specs.Strain.{Loss}
-use Rattle.lra_linear.specs.Widening.{Limited, Standard}
+use Rattle.lra_linear_spec.specs.Descriptions.{Con, LinearRow}
+use Rattle.lra_linear_spec.specs.OperationStrain.{HullStrains, LimitedStrains, StandardStrains, valid_on}
+use Rattle.lra_linear_spec.specs.Points.{PointSet}
+use Rattle.lra_linear_spec.specs.Polyhedra.{IsPolyhedronOf, Polyhedron}
+use Rattle.lra_linear_spec.specs.Strain.{Loss}
+use Rattle.lra_linear_spec.specs.Widening.{LimitedWidening, StandardWidening}
 use Rattle.lra_widen.specs.Rank.{kept, rank_of}
 use Rattle.lra_widen.specs.Tightest.{TightestStrains}
 use Rattle.lra_polydom.specs.Content.{HeadContent}
 use Rattle.lra_polydom.specs.Sets.{IsJoin}
 
 -- the points of P, grown by the join Q of P and next
-abbrev pub grown_set : Mode → Polyhedron → Polyhedron → List Given → PointSet
+abbrev pub grown_set : Mode → Polyhedron → Polyhedron → List LinearRow → PointSet
 grown_set how.Join p q given = Con q.rows
-grown_set how.Widen p q given = Standard p q
-grown_set how.Limited p q given = Limited p q given
-grown_set how.Tightest p q given = Limited p q given
+grown_set how.Widen p q given = StandardWidening p q
+grown_set how.Limited p q given = LimitedWidening p q given
+grown_set how.Tightest p q given = LimitedWidening p q given
 
 -- the given rows that are left where P became R. A join strikes none. The standard widening strikes each that fails on
 -- the result, or a product of which with a generator of P or of R passes the range. So do the limited ones, but a row
 -- struck for its products alone is no part of their definition: that flags
-abbrev pub given_left : Mode → Polyhedron → Polyhedron → List Given → List Given
+abbrev pub given_left : Mode → Polyhedron → Polyhedron → List LinearRow → List LinearRow
 given_left how.Join p r given = given
 given_left how.Widen p r given = kept p r given
 given_left how.Limited p r given = valid_on p r given
@@ -52,7 +52,7 @@ IsLeft h how.Limited new = new.given ≡ kept h.value new.value h.given
 IsLeft h how.Tightest new = new.given ≡ kept h.value new.value h.given
 
 -- the widening of P by Q strains; a join of P with Q is Q
-abbrev pub WideningStrains : Mode → Polyhedron → Polyhedron → List Given → Loss → Type 0
+abbrev pub WideningStrains : Mode → Polyhedron → Polyhedron → List LinearRow → Loss → Type 0
 WideningStrains how.Join p q given loss = ⊥
 WideningStrains how.Widen p q given loss = StandardStrains p q loss
 WideningStrains how.Limited p q given loss = LimitedStrains p q given loss

@@ -3,17 +3,17 @@ use Rattle.std.proofs.Common.{◌≡◌, ◌∙◌, ◌≤◌, ℕ, suc, ℤ, po
 use Rattle.lra_domain.specs.Actions.{Action, Leads, Within, assign, dims_after, embed, forget, remove_last, test}
 use Rattle.lra_domain.specs.Backward.{SingleRetracing}
 use Rattle.lra_lin.specs.Form.{form_row}
-use Rattle.lra_linear.specs.SetOperations.{Meet, Preimage}
+use Rattle.lra_linear_spec.specs.SetOperations.{Meet, Preimage}
 use Rattle.lra_domain.specs.Laws.{Laws, PlainLaws, SingleLaws}
 use Rattle.lra_domain.specs.declared.Mode.{Mode}
 use Rattle.std.proofs.Common.{replicate}
 use Rattle.std.proofs.lemmas.List.{length-replicate}
-use Rattle.lra_linear.specs.Descriptions.{Con, Given}
-use Rattle.lra_linear.specs.Formed.{IsFormed}
-use Rattle.lra_linear.specs.Points.{IsWithin, PointSet}
-use Rattle.lra_linear.specs.Polyhedra.{IsPolyhedronOf, Polyhedron}
-use Rattle.lra_linear.proofs.Descriptions.{con_none}
-use Rattle.lra_linear.proofs.Polyhedra.{polyhedron_unique}
+use Rattle.lra_linear_spec.specs.Descriptions.{Con, LinearRow}
+use Rattle.lra_linear_spec.specs.Representable.{IsRepresentable}
+use Rattle.lra_linear_spec.specs.Points.{IsWithin, PointSet}
+use Rattle.lra_linear_spec.specs.Polyhedra.{IsPolyhedronOf, Polyhedron}
+use Rattle.lra_linear_spec.proofs.Descriptions.{con_none}
+use Rattle.lra_linear_spec.proofs.Polyhedra.{polyhedron_unique}
 use Rattle.lra_polydom.specs.Content.{HeadContent, PolyhedronHas, polyhedron_parts}
 use Rattle.lra_polydom.specs.Covering.{covered_has, covered_refl, covered_trans, joined_covered, one_part, parts_empty}
 use Rattle.lra_polydom.specs.Covering.{same_covered, store_point}
@@ -108,7 +108,7 @@ one_growth h p mode i j is so =
     same_head : (i j : HeadContent) → i.value ≡ j.value → i.given ≡ j.given → i ≡ j
     same_head i j e f =
         ap (λ (v : Polyhedron). let x : HeadContent = record { value = v; given = i.given } in x) e ∙
-        ap (λ (g : List Given). let x : HeadContent = record { value = j.value; given = g } in x) f
+        ap (λ (g : List LinearRow). let x : HeadContent = record { value = j.value; given = g } in x) f
 
 -- every definition allows one polyhedron, or one head
 pub polyhedron_single : SingleLaws polyhedron_meaning
@@ -153,7 +153,7 @@ polyhedron_plain = record {
   stays_joined = λ h a b j mode is u c. joined_covered a b j h.value is u c;
   stays_value = λ h p mode e. same_covered p h.value e;
   stays_started = λ h p given mode e. same_covered p h.value (sym (ap (λ k. k.value) e));
-  started_formed = λ h p given e fine. subst (λ (k : HeadContent). IsFormed k.value) e fine.0;
+  started_formed = λ h p given e fine. subst (λ (k : HeadContent). IsRepresentable k.value) e fine.0;
   universal_filled = λ n cap p is e. partless_has p e (replicate n (pos 0))
       (universal_has n cap p is (replicate n (pos 0)) (length-replicate n (pos 0)));
   started_stores = λ h p given e. covered_has h.value p (same_covered h.value p (ap (λ k. k.value) e));

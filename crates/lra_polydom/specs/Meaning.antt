@@ -1,13 +1,13 @@
 -- The meaning of closed polyhedra. All is said of sets of rational points; a store of whole numbers is one of them.
 use Rattle.std.specs.Prelude.{◌≡◌, ◌≤◌, []}
 use Rattle.lra_domain.specs.Meaning.{Meaning}
-use Rattle.lra_linear.specs.declared.Excess as E
-use Rattle.lra_linear.specs.Descriptions.{Con}
-use Rattle.lra_linear.specs.Formed.{IsFormed}
-use Rattle.lra_linear.specs.OperationStrain.{HullStrains, InclusionStrains}
-use Rattle.lra_linear.specs.Points.{IsEmptySet}
-use Rattle.lra_linear.specs.Polyhedra.{IsPolyhedron, IsPolyhedronOf, Polyhedron}
-use Rattle.lra_linear.specs.Strain.{Loss}
+use Rattle.lra_linear_spec.specs.declared.Excess as E
+use Rattle.lra_linear_spec.specs.Descriptions.{Con}
+use Rattle.lra_linear_spec.specs.Representable.{IsRepresentable}
+use Rattle.lra_linear_spec.specs.OperationStrain.{HullStrains, InclusionStrains}
+use Rattle.lra_linear_spec.specs.Points.{IsEmptySet}
+use Rattle.lra_linear_spec.specs.Polyhedra.{IsPolyhedron, IsPolyhedronOf, Polyhedron}
+use Rattle.lra_linear_spec.specs.Strain.{Loss}
 use Rattle.lra_sys.specs.Listed.{constraints}
 use Rattle.lra_polydom.specs.Bounded.{PolyhedronBounded}
 use Rattle.lra_polydom.specs.Content.{Answers, Covered, HeadContent, IsHeadFormed, PolyhedronHas, polyhedron_parts}
@@ -16,7 +16,7 @@ use Rattle.lra_polydom.specs.Sets.{ChangeStrains, HoldsPoints, IsChanged, IsJoin
 
 abbrev pub polyhedron_meaning : Meaning Polyhedron HeadContent
 polyhedron_meaning = record {
-  formed = IsFormed;
+  formed = IsRepresentable;
   has = PolyhedronHas;
   dims = λ p. p.dims;
   parts = polyhedron_parts;

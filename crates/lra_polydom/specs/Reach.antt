@@ -6,16 +6,16 @@ use Rattle.std.proofs.lemmas.List.{length-append}
 use Rattle.std.specs.Prelude.{slice_set}
 use Rattle.lra_domain.specs.Actions.{ActionFits, Action, Leads, assign, dims_after, embed, forget, remove_last, test}
 use Rattle.lra_lin.specs.Form.{Form, KindHolds, form_value, form_row}
-use Rattle.lra_linear.specs.Descriptions.{Con, Holds, HoldsWith}
-use Rattle.lra_linear.specs.Kinds.{is_equality}
-use Rattle.lra_linear.specs.declared.ConKind.{ConKind}
-use Rattle.lra_linear.specs.declared.ConKind.TheVariants as con
-use Rattle.lra_linear.specs.Points.{SamePoint}
-use Rattle.lra_linear.specs.Polyhedra.{Polyhedron}
-use Rattle.lra_linear.specs.SetOperations.{assigned}
-use Rattle.lra_linear.specs.Vectors.{entry, product}
-use Rattle.lra_linear.proofs.Products.{entry_set_other}
-use Rattle.lra_linear.proofs.Ring.{ring, v, ◌⊗◌}
+use Rattle.lra_linear_spec.specs.Descriptions.{Con, Holds, HoldsWith}
+use Rattle.lra_linear_spec.specs.Kinds.{is_equality}
+use Rattle.lra_linear_spec.specs.declared.ConKind.{ConKind}
+use Rattle.lra_linear_spec.specs.declared.ConKind.TheVariants as con
+use Rattle.lra_linear_spec.specs.Points.{SamePoint}
+use Rattle.lra_linear_spec.specs.Polyhedra.{Polyhedron}
+use Rattle.lra_linear_spec.specs.SetOperations.{assigned}
+use Rattle.lra_linear_spec.specs.Vectors.{entry, product}
+use Rattle.lra_linear_spec.proofs.Products.{entry_set_other}
+use Rattle.lra_linear_spec.proofs.Ring.{ring, v, ◌⊗◌}
 use Rattle.lra_duality.specs.Rows.{test_row}
 use Rattle.lra_polydom.specs.Content.{PolyhedronHas}
 use Rattle.lra_polydom.specs.Covering.{store_point}

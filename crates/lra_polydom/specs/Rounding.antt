@@ -9,13 +9,13 @@ use Rattle.std.specs.declared.cmp.Ordering.TheVariants.{Equal}
 use Rattle.std.proofs.lemmas.Int.{ints}
 use Rattle.lra_domain.specs.Bounds.{IsLowerBound, IsBetween, IsUpperBound}
 use Rattle.lra_lin.specs.Form.{Form, form_row, form_value}
-use Rattle.lra_linear.specs.Descriptions.{Con}
-use Rattle.lra_linear.specs.Points.{IsEmptySet}
-use Rattle.lra_linear.specs.Polyhedra.{Polyhedron}
-use Rattle.lra_linear.specs.Vectors.{entry, negated, product}
-use Rattle.lra_linear.proofs.Products.{negated_dot}
-use Rattle.lra_linear.proofs.Ring.{mul_nonnegative, ring, v, ⊖, ◌⊕◌, ◌⊗◌}
-use Rattle.lra_linear.proofs.Signs.{as_nat, cases_sign, divide_nonnegative, positive_is_nonnegative, positive_nat}
+use Rattle.lra_linear_spec.specs.Descriptions.{Con}
+use Rattle.lra_linear_spec.specs.Points.{IsEmptySet}
+use Rattle.lra_linear_spec.specs.Polyhedra.{Polyhedron}
+use Rattle.lra_linear_spec.specs.Vectors.{entry, negated, product}
+use Rattle.lra_linear_spec.proofs.Products.{negated_dot}
+use Rattle.lra_linear_spec.proofs.Ring.{mul_nonnegative, ring, v, ⊖, ◌⊕◌, ◌⊗◌}
+use Rattle.lra_linear_spec.proofs.Signs.{as_nat, cases_sign, divide_nonnegative, positive_is_nonnegative, positive_nat}
 use Rattle.lra_duality.specs.Maxima.{IsAtMost, IsGreatestValue}
 use Rattle.std.specs.Cmp.{int_cmp_is, int_ranks}
 use Rattle.lra_row.proofs.Ratio.{euclid, ratio_apart, rem_bounds}

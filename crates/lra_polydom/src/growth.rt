@@ -3,8 +3,8 @@
 ghost use Rattle.std.specs.Prelude.{◌≡◌, ◌≢◌, [], IfOk};
 ghost use Rattle.lra_domain.specs.declared.Exactness.TheVariants.{Flagged};
 ghost use Rattle.lra_domain.specs.declared.Mode.TheVariants.{Join};
-ghost use Rattle.lra_linear.specs.Descriptions.{Con};
-ghost use Rattle.lra_linear.specs.Polyhedra.{IsPolyhedronOf};
+ghost use Rattle.lra_linear_spec.specs.Descriptions.{Con};
+ghost use Rattle.lra_linear_spec.specs.Polyhedra.{IsPolyhedronOf};
 ghost use Rattle.lra_widen.specs.Rank.{kept};
 ghost use Rattle.lra_sys.specs.Listed.{constraints};
 ghost use Rattle.lra_polydom.specs.Growth.{HasGrown, IsStruck, head, takes_given};

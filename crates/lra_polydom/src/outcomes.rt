@@ -1,7 +1,7 @@
 //! What the operations tell, in the words of a domain.
 
 ghost use Rattle.std.specs.Prelude.{◌≡◌, neg_ℤ, option_map, IfSome};
-ghost use Rattle.lra_linear.specs.Range.{InRange};
+ghost use Rattle.lra_linear_spec.specs.Range.{InRange};
 ghost use Rattle.lra_duality.specs.Maxima.{ValueInRange};
 ghost use Rattle.lra_polydom.specs.Bounded.{rounded_down};
 ghost use Rattle.lra_polydom.specs.Content.{Answers};

@@ -4,8 +4,8 @@ ghost use Rattle.std.specs.Prelude.{◌≡◌, ◌≢◌, IfOk, OnErr, OnOk};
 ghost use Rattle.lra_domain.specs.Meaning.{Grew};
 ghost use Rattle.lra_domain.specs.Parts.{CapsWithin};
 ghost use Rattle.lra_domain.specs.Rank.{RankBelow, RankFits};
-ghost use Rattle.lra_linear.specs.Formed.{IsFormed};
-ghost use Rattle.lra_linear.specs.Polyhedra.{IsPolyhedron};
+ghost use Rattle.lra_linear_spec.specs.Representable.{IsRepresentable};
+ghost use Rattle.lra_linear_spec.specs.Polyhedra.{IsPolyhedron};
 ghost use Rattle.lra_sys.specs.Listed.{constraints, generators, FitKinds};
 ghost use Rattle.lra_polydom.specs.Meaning.{polyhedron_meaning};
 
@@ -33,7 +33,7 @@ impl Drop for Polyhedron {
 }
 
 impl Model for Polyhedron {
-    ghost use Rattle.lra_linear.specs.Polyhedra.{Polyhedron as Content};
+    ghost use Rattle.lra_linear_spec.specs.Polyhedra.{Polyhedron as Content};
 
     ghost Value = { Content };
 
@@ -68,7 +68,7 @@ impl Polyhedron {
         ensures dims { result.now.dims ≡ self.now.dims }
         ensures rows { constraints result.now ≡ self.now.rows }
         ensures canonical { IsPolyhedron self.now }
-        ensures formed { IsFormed self.now }
+        ensures formed { IsRepresentable self.now }
     {
         self.poly.rows()
     }
@@ -79,7 +79,7 @@ impl Polyhedron {
         ensures generators { generators result.now ≡ self.now.generators }
         ensures kinds { FitKinds result.now.rows result.now.kinds }
         ensures canonical { IsPolyhedron self.now }
-        ensures formed { IsFormed self.now }
+        ensures formed { IsRepresentable self.now }
     {
         self.poly.generators()
     }

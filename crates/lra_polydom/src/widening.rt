@@ -2,8 +2,8 @@
 
 ghost use Rattle.std.specs.Prelude.{◌≡◌, ◌≢◌, IfOk};
 ghost use Rattle.lra_domain.specs.declared.Mode.TheVariants.{Join, Widen, Limited, Tightest};
-ghost use Rattle.lra_linear.specs.Descriptions.{Con};
-ghost use Rattle.lra_linear.specs.Points.{IsWithin};
+ghost use Rattle.lra_linear_spec.specs.Descriptions.{Con};
+ghost use Rattle.lra_linear_spec.specs.Points.{IsWithin};
 ghost use Rattle.lra_sys.specs.Listed.{constraints};
 ghost use Rattle.lra_polydom.specs.Growth.{IsJoined, IsWidening};
 

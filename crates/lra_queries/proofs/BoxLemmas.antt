@@ -5,17 +5,17 @@ use Rattle.std.proofs.Common.{Some, replicate, length-append, true≢false}
 use Rattle.std.specs.List.{All, Contains}
 use Rattle.std.proofs.lemmas.Int.{ints}
 use Rattle.lra_lin.specs.Form.{Form, form_row}
-use Rattle.lra_linear.specs.declared.Excess.{Excess}
-use Rattle.lra_linear.specs.CheckedArithmetic.{checked_product, checked_product_from}
-use Rattle.lra_linear.specs.Descriptions.{Given, inequality}
-use Rattle.lra_linear.specs.Formed.{AreInRange}
-use Rattle.lra_linear.specs.OperationStrain.{MaximiseStrains, ProductsPass, unit_row}
-use Rattle.lra_linear.specs.Polyhedra.{Polyhedron}
-use Rattle.lra_linear.specs.Range.{InRange, in_range}
-use Rattle.lra_linear.specs.Vectors.{negated, zeros}
-use Rattle.lra_linear.proofs.CheckedArithmetic.{in_range_yes}
-use Rattle.lra_linear.proofs.Membership.{contains_cases, contains_none}
-use Rattle.lra_linear.proofs.UnitRows.{zeros_are}
+use Rattle.lra_linear_spec.specs.declared.Excess.{Excess}
+use Rattle.lra_linear_spec.specs.CheckedArithmetic.{checked_product, checked_product_from}
+use Rattle.lra_linear_spec.specs.Descriptions.{LinearRow, inequality}
+use Rattle.lra_linear_spec.specs.Representable.{AreInRange}
+use Rattle.lra_linear_spec.specs.OperationStrain.{MaximiseStrains, ProductsPass, unit_row}
+use Rattle.lra_linear_spec.specs.Polyhedra.{Polyhedron}
+use Rattle.lra_linear_spec.specs.Range.{InRange, in_range}
+use Rattle.lra_linear_spec.specs.Vectors.{negated, zeros}
+use Rattle.lra_linear_spec.proofs.CheckedArithmetic.{in_range_yes}
+use Rattle.lra_linear_spec.proofs.Membership.{contains_cases, contains_none}
+use Rattle.lra_linear_spec.proofs.UnitRows.{zeros_are}
 use Rattle.lra_queries.specs.declared.boxes.Extent.{Extent}
 use Rattle.lra_queries.specs.Boxed.{IsExtent, IsLeastBox, coordinate_form}
 
@@ -93,11 +93,11 @@ opposite_in y h = subst InRange (turned y) (in_both y h)
     in_both : (y : ℤ) → InRange y → InRange (neg_ℤ y)
     in_both y h = omega (arith, ints, h)
 
-none_passes : (form : List ℤ) (list : List Given) (e : Excess) →
-    ((g : Given) → Contains list g → IsOk (checked_product form g.row)) → ¬ ProductsPass (inequality form ∷ []) list e
+none_passes : (form : List ℤ) (list : List LinearRow) (e : Excess) →
+    ((g : LinearRow) → Contains list g → IsOk (checked_product form g.row)) → ¬ ProductsPass (inequality form ∷ []) list e
 none_passes form list e f s = elim (contains_cases (inequality form) s.row [] s.has_row) [
   | inl is ↦ not_ok (checked_product form s.generator.row) (f s.generator s.has_generator)
-      (subst (λ (r : Given). checked_product r.row s.generator.row ≡ Err e) (sym is) s.passes)
+      (subst (λ (r : LinearRow). checked_product r.row s.generator.row ≡ Err e) (sym is) s.passes)
   | inr d ↦ contains_none s.row d
 ]
   where

@@ -5,39 +5,39 @@ use Rattle.std.specs.List.{Contains, prefix_len}
 use Rattle.std.proofs.lemmas.Bool.{cases_lt}
 use Rattle.std.proofs.lemmas.Int.{ints}
 use Rattle.std.proofs.lemmas.List.Elements.{Contains-append_left}
-use Rattle.lra_linear.specs.Cones.{Generated, all_rows}
-use Rattle.lra_linear.specs.Descriptions.{Given, Con, equality, given_as, rays_of, system_of}
-use Rattle.lra_linear.specs.Echelon.{IsEchelon, Leads, Spanned}
-use Rattle.lra_linear.specs.Points.{IsEmptySet, IsPoint}
-use Rattle.lra_linear.specs.Polyhedra.{HasPoint, IsPolyhedron, Polyhedron}
-use Rattle.lra_linear.specs.SetOperations.{ValidOn}
-use Rattle.lra_linear.specs.Vectors.{dot, entry, negated, product}
-use Rattle.lra_linear.specs.Kinds.{is_equality}
-use Rattle.lra_linear.specs.declared.ConKind.{ConKind}
-use Rattle.lra_linear.specs.declared.ConKind.TheVariants.{Eq, Ge}
-use Rattle.lra_linear.proofs.CanonicalForms.{lines_are_all, spanned_in_cone, spanned_negative}
-use Rattle.lra_linear.proofs.Combinations.{generated_same}
-use Rattle.lra_linear.proofs.Descriptions.{in_system}
-use Rattle.lra_linear.proofs.LinearMaps.{generated_nonneg}
-use Rattle.lra_linear.proofs.Membership.{contains_head, contains_tail}
-use Rattle.lra_linear.proofs.OneSpelling.{cone_solved, given_has}
-use Rattle.lra_linear.proofs.Polyhedra.{con_gen, generators_lines, generators_rays}
-use Rattle.lra_linear.proofs.Products.{dot_minus, entry_negated, entry_past, negated_dot, negated_length, product_comm}
-use Rattle.lra_linear.proofs.SetOperations.{has_vertex, valid_on_rows}
-use Rattle.lra_linear.proofs.Signs.{between_opposites, not_both, opposite_of_zero, times_positive, zero_at_least}
+use Rattle.lra_linear_spec.specs.Cones.{Generated, all_rows}
+use Rattle.lra_linear_spec.specs.Descriptions.{LinearRow, Con, equality, rows_as, rays_of, system_of}
+use Rattle.lra_linear_spec.specs.Echelon.{IsEchelon, HasPivot, Spanned}
+use Rattle.lra_linear_spec.specs.Points.{IsEmptySet, IsPoint}
+use Rattle.lra_linear_spec.specs.Polyhedra.{HasPoint, IsPolyhedron, Polyhedron}
+use Rattle.lra_linear_spec.specs.SetOperations.{ValidOn}
+use Rattle.lra_linear_spec.specs.Vectors.{dot, entry, negated, product}
+use Rattle.lra_linear_spec.specs.Kinds.{is_equality}
+use Rattle.lra_linear_spec.specs.declared.ConKind.{ConKind}
+use Rattle.lra_linear_spec.specs.declared.ConKind.TheVariants.{Eq, Ge}
+use Rattle.lra_linear_spec.proofs.CanonicalForms.{lines_are_all, spanned_in_cone, spanned_negative}
+use Rattle.lra_linear_spec.proofs.Combinations.{generated_same}
+use Rattle.lra_linear_spec.proofs.Descriptions.{in_system}
+use Rattle.lra_linear_spec.proofs.LinearMaps.{generated_nonneg}
+use Rattle.lra_linear_spec.proofs.Membership.{contains_head, contains_tail}
+use Rattle.lra_linear_spec.proofs.OneSpelling.{cone_solved, given_has}
+use Rattle.lra_linear_spec.proofs.Polyhedra.{con_gen, generators_lines, generators_rays}
+use Rattle.lra_linear_spec.proofs.Products.{dot_minus, entry_negated, entry_past, negated_dot, negated_length, product_comm}
+use Rattle.lra_linear_spec.proofs.SetOperations.{has_vertex, valid_on_rows}
+use Rattle.lra_linear_spec.proofs.Signs.{between_opposites, not_both, opposite_of_zero, times_positive, zero_at_least}
 use Rattle.lra_duality.proofs.PolyhedronLemmas.{given_width, with_point}
 use Rattle.lra_sys.specs.Listed.{Listed, constraints, given_by}
 use Rattle.lra_queries.specs.Shapes.{AffineDimension}
 
 -- ---- an echelon form none of whose rows leads in column 0 has fewer rows than columns
-leads_inside : (r : List ℤ) (p : ℕ) → Leads r p → p < length r
+leads_inside : (r : List ℤ) (p : ℕ) → HasPivot r p → p < length r
 leads_inside r p l = elim (cases_lt p (length r)) [
   | inl h ↦ h
   | inr h ↦ absurd (not_both (entry r p) l.here (entry_past r p h))
 ]
 
 fewer_above : (w lo : ℕ) (rows : List (List ℤ)) (ps : List ℕ) → ((t : List ℤ) → Contains rows t → length t ≡ w) →
-    IsEchelon rows ps → ((t : List ℤ) → Contains rows t → ¬ (Leads t 0)) →
+    IsEchelon rows ps → ((t : List ℤ) → Contains rows t → ¬ (HasPivot t 0)) →
     ((t : List ℤ) → Contains rows t → (j : ℕ) → 0 < j → j ≤ lo → entry t j ≡ pos 0) → lo < w → length rows + lo < w
 fewer_above w lo [] ps width ech none low h = omega (arith, h)
 fewer_above w lo (r ∷ rows) [] width ech none low h = absurd ech
@@ -76,14 +76,14 @@ first_alone (c ∷ cs) u h = ap (λ (z : ℤ). (c *ℤ u 0) +ℤ z) (zero_row cs
             sum : (x : ℤ) → (pos 0 *ℤ x) +ℤ pos 0 ≡ pos 0
             sum x = omega (arith, ints)
 
-not_leading : (n : ℕ) (c x : List ℤ) → IsPoint n x → product c x ≡ pos 0 → ¬ (Leads c 0)
+not_leading : (n : ℕ) (c x : List ℤ) → IsPoint n x → product c x ≡ pos 0 → ¬ (HasPivot c 0)
 not_leading n c x i z l = not_both (product c x)
     (subst (λ (y : ℤ). pos 0 <ℤ y) (sym (first_alone c (entry x) (λ j h. l.before j (h, inr refl))))
     (times_positive (entry c 0) (entry x 0) l.here i.divisor)) z
 
 equality_has : (p : Polyhedron) (h : HasPoint p) (c : List ℤ) → Contains h.equalities c → Contains p.rows (equality c)
-equality_has p h c k = subst (λ (l : List Given). Contains l (equality c)) (sym h.rows_are)
-    (Contains-append_left (given_as true h.equalities) (given_as false h.inequalities) (equality c)
+equality_has p h c k = subst (λ (l : List LinearRow). Contains l (equality c)) (sym h.rows_are)
+    (Contains-append_left (rows_as true h.equalities) (rows_as false h.inequalities) (equality c)
     (given_has true h.equalities c k))
 
 pub few_equalities : (p : Polyhedron) (h : HasPoint p) (x : List ℤ) → IsPoint p.dims x → Con p.rows x →
@@ -133,7 +133,7 @@ valid_spanned p h c s x i k =
 
 -- ---- as the code tells it
 prefix_of : (rows : List (List ℤ)) (kinds : List ConKind) (es is : List (List ℤ)) →
-    given_by is_equality rows kinds ≡ given_as true es ++ given_as false is → length kinds ≡ length rows →
+    given_by is_equality rows kinds ≡ rows_as true es ++ rows_as false is → length kinds ≡ length rows →
     prefix_len is_equality kinds ≡ length es
 prefix_of [] [] [] is e n = refl
 prefix_of [] [] (c ∷ es) is e n = cc
@@ -143,15 +143,15 @@ prefix_of (r ∷ rows) (Ge ∷ kinds) [] is e n = refl
 prefix_of (r ∷ rows) (Eq ∷ kinds) [] [] e n = cc
 prefix_of (r ∷ rows) (Eq ∷ kinds) [] (c ∷ is) e n = let z : true ≡ false = first_kind e in cc
   where
-    kind_of : List Given → Bool
+    kind_of : List LinearRow → Bool
     kind_of [] = true
     kind_of (g ∷ gs) = g.equal
 
-    first_kind : {xs ys : List Given} → xs ≡ ys → kind_of xs ≡ kind_of ys
+    first_kind : {xs ys : List LinearRow} → xs ≡ ys → kind_of xs ≡ kind_of ys
     first_kind e = ap kind_of e
 prefix_of (r ∷ rows) (Ge ∷ kinds) (c ∷ es) is e n = let z : false ≡ true = ap kind_of e in cc
   where
-    kind_of : List Given → Bool
+    kind_of : List LinearRow → Bool
     kind_of [] = true
     kind_of (g ∷ gs) = g.equal
 prefix_of (r ∷ rows) (Eq ∷ kinds) (c ∷ es) is e n =
@@ -160,7 +160,7 @@ prefix_of (r ∷ rows) (Eq ∷ kinds) (c ∷ es) is e n =
     one_more : (a b : ℕ) → a ≡ b → 1 + a ≡ suc b
     one_more a b e = omega (arith, e)
 
-    behind : List Given → List Given
+    behind : List LinearRow → List LinearRow
     behind [] = []
     behind (g ∷ gs) = gs
 

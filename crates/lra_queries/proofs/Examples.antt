@@ -4,12 +4,12 @@ use Rattle.std.proofs.Common.{◌≡◌, suc, List, [], ◌∷◌, ◌++◌, rep
 use Rattle.std.proofs.Math.Nat.{eq-one_of_dvd-one}
 use Rattle.std.proofs.lemmas.Int.{ints}
 use Rattle.std.proofs.lemmas.List.Elements.{All-nil, All-cons}
-use Rattle.lra_linear.specs.Descriptions.{Given, generator, inequality}
-use Rattle.lra_linear.specs.Polyhedra.{Polyhedron}
-use Rattle.lra_linear.specs.Strain.{Loss}
-use Rattle.lra_linear.specs.Vectors.{entry}
-use Rattle.lra_linear.proofs.Descriptions.{con_cons, con_none}
-use Rattle.lra_linear.proofs.Membership.{contains_head, contains_tail, split_none, split_one}
+use Rattle.lra_linear_spec.specs.Descriptions.{LinearRow, generator, inequality}
+use Rattle.lra_linear_spec.specs.Polyhedra.{Polyhedron}
+use Rattle.lra_linear_spec.specs.Strain.{Loss}
+use Rattle.lra_linear_spec.specs.Vectors.{entry}
+use Rattle.lra_linear_spec.proofs.Descriptions.{con_cons, con_none}
+use Rattle.lra_linear_spec.proofs.Membership.{contains_head, contains_tail, split_none, split_one}
 use Rattle.lra_duality.specs.Maxima.{DoesNotImprove, StaysInRange}
 use Rattle.lra_queries.specs.declared.minimum.Minimum.TheVariants.{Empty, Unbounded}
 use Rattle.lra_queries.specs.Boxed.{IsLeastEnd, coordinate_form}
@@ -126,10 +126,10 @@ pub third_for_first : replaced 2 0 ≡ 2 ∷ 1 ∷ []
 third_for_first = refl
 
 -- where x is at least 1, that it is at least 0 is given; that y is at least x isn't
-abbrev right_of_one : Given
+abbrev right_of_one : LinearRow
 right_of_one = inequality (negsuc 0 ∷ pos 1 ∷ pos 0 ∷ [])
 
-abbrev steep : Given
+abbrev steep : LinearRow
 steep = inequality (pos 0 ∷ negsuc 0 ∷ pos 1 ∷ [])
 
 pub right_given : IsGiven 2 (right_of_one ∷ []) (steep ∷ []) (inequality (pos 0 ∷ pos 1 ∷ pos 0 ∷ []))
@@ -142,7 +142,7 @@ right_given x i both =
 
 pub steep_needed : AreNeeded 2 (right_of_one ∷ []) (steep ∷ [])
 steep_needed front g back e =
-    split_one (λ (others : List Given) (h : Given). ¬ (IsGiven 2 (right_of_one ∷ []) others h)) steep fails front g back e
+    split_one (λ (others : List LinearRow) (h : LinearRow). ¬ (IsGiven 2 (right_of_one ∷ []) others h)) steep fails front g back e
   where
     -- at the point (1, 0)
     fails : IsGiven 2 (right_of_one ∷ []) [] steep → ⊥

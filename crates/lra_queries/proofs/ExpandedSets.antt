@@ -2,16 +2,16 @@
 use Rattle.std.proofs.Common.{◌≡◌, ℕ, zero, suc, ◌<◌, ◌≤◌, ◌+◌, List, [], ◌∷◌, ◌++◌, length, map, drop, slice_set}
 use Rattle.std.proofs.Common.{ap, refl, sym, ◌∙◌, ℤ, pos, ◌+ℤ◌, ◌*ℤ◌, arith}
 use Rattle.std.proofs.lemmas.List.{map-append}
-use Rattle.lra_linear.specs.Descriptions.{Con, Given}
-use Rattle.lra_linear.specs.Points.{SameSet}
-use Rattle.lra_linear.specs.Polyhedra.{IsPolyhedron, Polyhedron}
-use Rattle.lra_linear.specs.Vectors.{cleared, dot, entry, product}
-use Rattle.lra_linear.specs.declared.ConKind.{ConKind}
-use Rattle.lra_linear.proofs.Products.{entry_past}
-use Rattle.lra_linear.proofs.Ring.{ring, v, ◌⊕◌, ◌⊗◌}
-use Rattle.lra_linear.proofs.SetOperations.{meet_con, product_set}
+use Rattle.lra_linear_spec.specs.Descriptions.{Con, LinearRow}
+use Rattle.lra_linear_spec.specs.Points.{SameSet}
+use Rattle.lra_linear_spec.specs.Polyhedra.{IsPolyhedron, Polyhedron}
+use Rattle.lra_linear_spec.specs.Vectors.{cleared, dot, entry, product}
+use Rattle.lra_linear_spec.specs.declared.ConKind.{ConKind}
+use Rattle.lra_linear_spec.proofs.Products.{entry_past}
+use Rattle.lra_linear_spec.proofs.Ring.{ring, v, ◌⊕◌, ◌⊗◌}
+use Rattle.lra_linear_spec.proofs.SetOperations.{meet_con, product_set}
 use Rattle.lra_sys.specs.Listed.{Listed, constraints, given_by}
-use Rattle.lra_linear.specs.Kinds.{is_equality}
+use Rattle.lra_linear_spec.specs.Kinds.{is_equality}
 use Rattle.lra_queries.specs.Expanded.{Expanded, expanded}
 use Rattle.lra_queries.specs.Joined.{counted}
 use Rattle.lra_queries.specs.Moved.{chosen, moved}
@@ -145,14 +145,14 @@ pub expanded_takes : (p : Polyhedron) (start own all ps qs : Listed ConKind) (fi
 expanded_takes p start own all ps qs first twin kept n k hp less en er ed eo ea ef ek et ep eq go ga = record {
   dimensions = ea ∙ eo ∙ ed ∙ ap (λ (d : ℕ). d + 1) en;
   are = ga
-      ∙ ap (λ (l : List Given). l ++ moved twin (constraints qs))
+      ∙ ap (λ (l : List LinearRow). l ++ moved twin (constraints qs))
       (go ∙ ap (λ (l : List (List ℤ)). given_by is_equality l start.kinds ++ moved first (constraints ps)) er)
       ∙ ap (λ (f : List ℕ). moved f (constraints ps) ++ moved twin (constraints qs))
       (ef ∙ ap (λ (d : ℕ). counted (d + 1) 0) en)
       ∙ ap (λ (f : List ℕ). moved (counted (p.dims + 1) 0) (constraints ps) ++ moved f (constraints qs))
       (et ∙ ap (λ (l : List ℕ). l ++ k ∷ []) (ek ∙ ap (λ (d : ℕ). replaced d k) en))
-      ∙ ap (λ (r : List Given). moved (counted (p.dims + 1) 0) r ++
+      ∙ ap (λ (r : List LinearRow). moved (counted (p.dims + 1) 0) r ++
       moved (replaced p.dims k ++ k ∷ []) (constraints qs)) ep
-      ∙ ap (λ (r : List Given). moved (counted (p.dims + 1) 0) p.rows ++ moved (replaced p.dims k ++ k ∷ []) r) eq;
+      ∙ ap (λ (r : List LinearRow). moved (counted (p.dims + 1) 0) p.rows ++ moved (replaced p.dims k ++ k ∷ []) r) eq;
   same = expanded_rows p k hp less;
 }

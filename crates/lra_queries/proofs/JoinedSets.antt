@@ -3,17 +3,17 @@ use Rattle.std.proofs.Common.{◌≡◌, ℕ, zero, suc, ◌<◌, ◌≤◌, ◌
 use Rattle.std.proofs.Common.{ap, refl, sym, ◌∙◌, subst, ℤ, pos, ◌+ℤ◌, ◌*ℤ◌, add-one, append_assoc, arith}
 use Rattle.std.specs.List.{Contains}
 use Rattle.std.proofs.lemmas.List.{get_or_default, length-append, map-append, take_all}
-use Rattle.lra_linear.specs.Descriptions.{Con, Given, Holds, HoldsWith}
-use Rattle.lra_linear.specs.Kinds.{is_equality}
-use Rattle.lra_linear.specs.Points.{SameSet}
-use Rattle.lra_linear.specs.Polyhedra.{IsPolyhedron, Polyhedron}
-use Rattle.lra_linear.specs.Vectors.{dot, entry, product}
-use Rattle.lra_linear.specs.declared.ConKind.{ConKind}
-use Rattle.lra_linear.proofs.Descriptions.{system_has}
-use Rattle.lra_linear.proofs.Membership.{map_from, map_has}
-use Rattle.lra_linear.proofs.Products.{dot_same, entry_past}
-use Rattle.lra_linear.proofs.Ring.{ring, v, ◌⊕◌, ◌⊗◌}
-use Rattle.lra_linear.proofs.SetOperations.{meet_con}
+use Rattle.lra_linear_spec.specs.Descriptions.{Con, LinearRow, Holds, HoldsWith}
+use Rattle.lra_linear_spec.specs.Kinds.{is_equality}
+use Rattle.lra_linear_spec.specs.Points.{SameSet}
+use Rattle.lra_linear_spec.specs.Polyhedra.{IsPolyhedron, Polyhedron}
+use Rattle.lra_linear_spec.specs.Vectors.{dot, entry, product}
+use Rattle.lra_linear_spec.specs.declared.ConKind.{ConKind}
+use Rattle.lra_linear_spec.proofs.Descriptions.{system_has}
+use Rattle.lra_linear_spec.proofs.Membership.{map_from, map_has}
+use Rattle.lra_linear_spec.proofs.Products.{dot_same, entry_past}
+use Rattle.lra_linear_spec.proofs.Ring.{ring, v, ◌⊕◌, ◌⊗◌}
+use Rattle.lra_linear_spec.proofs.SetOperations.{meet_con}
 use Rattle.lra_duality.proofs.PolyhedronLemmas.{rows_width}
 use Rattle.lra_sys.specs.Listed.{Listed, constraints, given_by}
 use Rattle.lra_sys.proofs.GivenRows.{constraints_pushed, given_more}
@@ -102,19 +102,19 @@ last_product n m (c ∷ cs) x w =
     one_on n j = omega arith
 
 -- ---- what the list asks
-abbrev put : List ℕ → Given → Given
+abbrev put : List ℕ → LinearRow → LinearRow
 put dims g = record { row = chosen dims g.row; equal = g.equal }
 
-pub con_moved : (dims : List ℕ) (rows : List Given) (x y : List ℤ) →
-    ((g : Given) → Contains rows g → product (chosen dims g.row) x ≡ product g.row y) →
+pub con_moved : (dims : List ℕ) (rows : List LinearRow) (x y : List ℤ) →
+    ((g : LinearRow) → Contains rows g → product (chosen dims g.row) x ≡ product g.row y) →
     (Con (moved dims rows) x → Con rows y) × (Con rows y → Con (moved dims rows) x)
 con_moved dims rows x y e = (
   λ h g m. subst (HoldsWith g.equal) (e g m) (h (put dims g) (map_has (put dims) rows g m)),
   λ h t m. let f = map_from (put dims) rows t m in
-      subst (λ (u : Given). Holds u x) f.2 (subst (HoldsWith f.0.equal) (sym (e f.0 f.1)) (h f.0 f.1)),
+      subst (λ (u : LinearRow). Holds u x) f.2 (subst (HoldsWith f.0.equal) (sym (e f.0 f.1)) (h f.0 f.1)),
 )
 
-pub width_of : (p : Polyhedron) → IsPolyhedron p → (g : Given) → Contains p.rows g → length g.row ≡ suc p.dims
+pub width_of : (p : Polyhedron) → IsPolyhedron p → (g : LinearRow) → Contains p.rows g → length g.row ≡ suc p.dims
 width_of p h g m = rows_width p h g.row (system_has p.rows g m)
 
 pub first_rows : (p : Polyhedron) (m : ℕ) → IsPolyhedron p → (x : List ℤ) →
@@ -139,7 +139,7 @@ concatenated_rows p q hp hq =
     )
 
 -- ---- one constraint more
-pub one_moved : (base : List Given) (dims : List ℕ) (rows : List (List ℤ)) (kinds : List ConKind) (i : ℕ) (r : List ℤ)
+pub one_moved : (base : List LinearRow) (dims : List ℕ) (rows : List (List ℤ)) (kinds : List ConKind) (i : ℕ) (r : List ℤ)
     (d : ConKind) (old new : Listed ConKind) (t : List ℤ) → length kinds ≡ length rows → i < length rows →
     r ≡ get_or rows i r → length old.kinds ≡ length old.rows → new.rows ≡ old.rows ++ t ∷ [] →
     new.kinds ≡ old.kinds ++ get_or kinds i d ∷ [] → t ≡ chosen dims r →
@@ -149,21 +149,21 @@ one_moved base dims rows kinds i r d old new t c h er m nr nk et eo =
     let equal = is_equality (get_or kinds i d) in
     let front = given_by is_equality (take i rows) (take i kinds) in
     constraints_pushed old new t (get_or kinds i d) m nr nk
-    ∙ ap (λ (l : List Given). l ++ (let g : Given = record { row = t; equal = equal } in g) ∷ []) eo
+    ∙ ap (λ (l : List LinearRow). l ++ (let g : LinearRow = record { row = t; equal = equal } in g) ∷ []) eo
     ∙ append_assoc base (moved dims front) (record { row = t; equal = equal } ∷ [])
-    ∙ ap (λ (x : List ℤ). base ++ (moved dims front ++ (let g : Given = record { row = x; equal = equal } in g) ∷ [])) et
-    ∙ ap (λ (l : List Given). base ++ l) (sym (map-append (put dims) front (record { row = r; equal = equal } ∷ [])))
-    ∙ ap (λ (l : List Given). base ++ moved dims l)
+    ∙ ap (λ (x : List ℤ). base ++ (moved dims front ++ (let g : LinearRow = record { row = x; equal = equal } in g) ∷ [])) et
+    ∙ ap (λ (l : List LinearRow). base ++ l) (sym (map-append (put dims) front (record { row = r; equal = equal } ∷ [])))
+    ∙ ap (λ (l : List LinearRow). base ++ moved dims l)
     (sym (given_more is_equality rows kinds i r (get_or kinds i d) (sym c) h er
     (get_or_default kinds i d (get_or kinds i d) (omega (arith, h, c)))))
 
-pub all_moved : (base : List Given) (dims : List ℕ) (list all : Listed ConKind) (rows : List (List ℤ))
+pub all_moved : (base : List LinearRow) (dims : List ℕ) (list all : Listed ConKind) (rows : List (List ℤ))
     (kinds : List ConKind) (i : ℕ) → rows ≡ list.rows → kinds ≡ list.kinds → length kinds ≡ length list.rows →
     length rows ≤ i → constraints all ≡ base ++ moved dims (given_by is_equality (take i rows) (take i kinds)) →
     constraints all ≡ base ++ moved dims (constraints list)
 all_moved base dims list all rows kinds i er ek c h e =
     let s = ap length er in
-    e ∙ ap (λ (l : List Given). base ++ moved dims l)
+    e ∙ ap (λ (l : List LinearRow). base ++ moved dims l)
     (ap (λ (l : List (List ℤ)). given_by is_equality l (take i kinds)) (take_all i rows h ∙ er)
     ∙ ap (given_by is_equality list.rows) (take_all i kinds (omega (arith, h, c, s)) ∙ ek))
 
@@ -212,16 +212,16 @@ pub joined_takes : (p q : Polyhedron) (start own all ps qs : Listed ConKind) (fi
 joined_takes p q start own all ps qs first last n m hp hq en em er ed eo ea ef el ep eq go ga = record {
   dimensions = ea ∙ eo ∙ ed ∙ ap (λ (k : ℕ). k + m) en ∙ ap (λ (k : ℕ). p.dims + k) em;
   are = ga
-      ∙ ap (λ (l : List Given). l ++ moved last (constraints qs))
+      ∙ ap (λ (l : List LinearRow). l ++ moved last (constraints qs))
       (go ∙ ap (λ (l : List (List ℤ)). given_by is_equality l start.kinds ++ moved first (constraints ps)) er)
       ∙ ap (λ (f : List ℕ). moved f (constraints ps) ++ moved last (constraints qs))
       (ef ∙ ap (λ (k : ℕ). counted (k + m) 0) en ∙ ap (λ (k : ℕ). counted (p.dims + k) 0) em)
       ∙ ap (λ (f : List ℕ). moved (counted (p.dims + q.dims) 0) (constraints ps) ++ moved f (constraints qs))
       (el ∙ ap (λ (k : ℕ). replicate k m ++ counted m 0) en ∙
       ap (λ (k : ℕ). replicate p.dims k ++ counted k 0) em)
-      ∙ ap (λ (r : List Given). moved (counted (p.dims + q.dims) 0) r ++
+      ∙ ap (λ (r : List LinearRow). moved (counted (p.dims + q.dims) 0) r ++
       moved (replicate p.dims q.dims ++ counted q.dims 0) (constraints qs)) ep
-      ∙ ap (λ (r : List Given). moved (counted (p.dims + q.dims) 0) p.rows ++
+      ∙ ap (λ (r : List LinearRow). moved (counted (p.dims + q.dims) 0) p.rows ++
       moved (replicate p.dims q.dims ++ counted q.dims 0) r) eq;
   same = concatenated_rows p q hp hq;
 }

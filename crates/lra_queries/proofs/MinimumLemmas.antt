@@ -3,14 +3,14 @@ use Rattle.std.proofs.Common.{◌≡◌, ℕ, zero, suc, ℤ, pos, neg_ℤ, ◌*
 use Rattle.std.specs.Prelude.{unsigned_abs}
 use Rattle.std.proofs.lemmas.Int.{ints}
 use Rattle.std.specs.Int.{◌∣◌}
-use Rattle.lra_linear.specs.LowestTerms.{IsPrimitive}
-use Rattle.lra_linear.specs.Vectors.{entry, product, negated}
-use Rattle.lra_linear.specs.Polyhedra.{Polyhedron}
-use Rattle.lra_linear.proofs.Products.{negated_dot}
-use Rattle.lra_linear.proofs.Ring.{ring, v, ⊖, ◌⊗◌}
+use Rattle.lra_linear_spec.specs.LowestTerms.{IsPrimitive}
+use Rattle.lra_linear_spec.specs.Vectors.{entry, product, negated}
+use Rattle.lra_linear_spec.specs.Polyhedra.{Polyhedron}
+use Rattle.lra_linear_spec.proofs.Products.{negated_dot}
+use Rattle.lra_linear_spec.proofs.Ring.{ring, v, ⊖, ◌⊗◌}
 use Rattle.lra_duality.specs.Maxima.{IsGreatestValue, IsMaximum, IsUnbounded, HasValue, IsAtMost}
 use Rattle.lra_duality.specs.declared.maximum.Maximum.TheVariants.{At}
-use Rattle.lra_linear.specs.Descriptions.{Given}
+use Rattle.lra_linear_spec.specs.Descriptions.{LinearRow}
 use Rattle.lra_queries.specs.Minima.{IsAtLeast, IsLeastValue, IsUnboundedBelow}
 
 times_turned : (a b : ℤ) → neg_ℤ a *ℤ b ≡ neg_ℤ (a *ℤ b)
@@ -63,7 +63,7 @@ least_turned p form num den h = record {
 pub least_value : (p : Polyhedron) (form : List ℤ) (num den value : ℤ) → value ≡ neg_ℤ num → IsGreatestValue p (negated form) num den → IsLeastValue p form value den
 least_value p form num den value e h = subst (λ (z : ℤ). IsLeastValue p form z den) (sym e) (least_turned p form num den h)
 
-pub least_place : (form : List ℤ) (generators : List Given) (num den value : ℤ) (place : ℕ) → value ≡ neg_ℤ num → IsMaximum (negated form) generators (At num den place) →
+pub least_place : (form : List ℤ) (generators : List LinearRow) (num den value : ℤ) (place : ℕ) → value ≡ neg_ℤ num → IsMaximum (negated form) generators (At num den place) →
     IsMaximum (negated form) generators (At (neg_ℤ value) den place)
 least_place form generators num den value place e h = subst (λ (z : ℤ). IsMaximum (negated form) generators (At z den place)) (twice num value e) h
   where

@@ -4,16 +4,16 @@ use Rattle.std.specs.Prelude.{◌↔◌, IsTrue}
 use Rattle.std.specs.List.{All, Contains}
 use Rattle.std.proofs.lemmas.List.{take_all}
 use Rattle.std.proofs.lemmas.List.Elements.{All-contains, All-nil, All-push, Contains-append_right, Contains-append_left}
-use Rattle.lra_linear.specs.declared.Excess as E
-use Rattle.lra_linear.specs.declared.GenKind.{GenKind}
-use Rattle.lra_linear.specs.CheckedArithmetic.{checked_product}
-use Rattle.lra_linear.specs.Descriptions.{Given, inequality}
-use Rattle.lra_linear.specs.Kinds.{is_line}
-use Rattle.lra_linear.specs.OperationStrain.{ProductsPass}
-use Rattle.lra_linear.specs.Vectors.{entry, negated, product}
-use Rattle.lra_linear.specs.Widening.{holds_with}
-use Rattle.lra_linear.proofs.Membership.{all_from, contains_head}
-use Rattle.lra_linear.proofs.Products.{negated_dot}
+use Rattle.lra_linear_spec.specs.declared.Excess as E
+use Rattle.lra_linear_spec.specs.declared.GenKind.{GenKind}
+use Rattle.lra_linear_spec.specs.CheckedArithmetic.{checked_product}
+use Rattle.lra_linear_spec.specs.Descriptions.{LinearRow, inequality}
+use Rattle.lra_linear_spec.specs.Kinds.{is_line}
+use Rattle.lra_linear_spec.specs.OperationStrain.{ProductsPass}
+use Rattle.lra_linear_spec.specs.Vectors.{entry, negated, product}
+use Rattle.lra_linear_spec.specs.Widening.{holds_with}
+use Rattle.lra_linear_spec.proofs.Membership.{all_from, contains_head}
+use Rattle.lra_linear_spec.proofs.Products.{negated_dot}
 use Rattle.lra_sys.specs.Listed.{given_by}
 use Rattle.lra_sys.proofs.FirstMembers.{front, given_more, given_split, member}
 use Rattle.lra_queries.specs.declared.relation.Missed.{Missed}
@@ -24,10 +24,10 @@ as_said : (a b : Bool) → a ≡ b → IsTrue b ↔ IsTrue a
 as_said a b e = (λ t. e ∙ t, λ t. sym e ∙ t)
 
 pub missed_here : (form row : List ℤ) (line : Bool) (value other : ℤ) (m : Missed) →
-    ((r g : Given) → r.equal ≡ false → g.equal ≡ line → value ≡ product r.row g.row → holds_with r g ≡ m.below) →
+    ((r g : LinearRow) → r.equal ≡ false → g.equal ≡ line → value ≡ product r.row g.row → holds_with r g ≡ m.below) →
     IsTrue m.zero ↔ (¬ ((pos 0 <ℤ entry row 0) × (value ≡ pos 0))) →
-    ((r g : Given) → r.equal ≡ false → g.equal ≡ line → other ≡ product r.row g.row → holds_with r g ≡ m.above) →
-    value ≡ product form row → other ≡ neg_ℤ value → (g : Given) → g.row ≡ row → g.equal ≡ line → MissesAt form g m
+    ((r g : LinearRow) → r.equal ≡ false → g.equal ≡ line → other ≡ product r.row g.row → holds_with r g ≡ m.above) →
+    value ≡ product form row → other ≡ neg_ℤ value → (g : LinearRow) → g.row ≡ row → g.equal ≡ line → MissesAt form g m
 missed_here form row line value other m below zero above is turned g e l = record {
   below = as_said (holds_with (inequality form) g) m.below (below (inequality form) g refl l here);
   zero = subst (λ (z : ℤ). IsTrue m.zero ↔ (¬ ((pos 0 <ℤ entry g.row 0) × (z ≡ pos 0)))) here
@@ -40,7 +40,7 @@ missed_here form row line value other m below zero above is turned g e l = recor
     here = is ∙ ap (product form) (sym e)
 
 -- ---- one more
-all_more : (P : Given → Type 0) (list : List Given) (g : Given) (a b c : Bool) → IsTrue a ↔ All P list →
+all_more : (P : LinearRow → Type 0) (list : List LinearRow) (g : LinearRow) (a b c : Bool) → IsTrue a ↔ All P list →
     IsTrue b ↔ P g → IsTrue c ↔ (IsTrue a × IsTrue b) → IsTrue c ↔ All P (list ++ g ∷ [])
 all_more P list g a b c all here both = (
   λ t. All-push P list g (all.0 (both.0 t).0) (here.0 (both.0 t).1),
@@ -50,7 +50,7 @@ all_more P list g a b c all here both = (
   ),
 )
 
-missed_more : (form : List ℤ) (list : List Given) (g : Given) (old here new : Missed) → AreMissed form list old →
+missed_more : (form : List ℤ) (list : List LinearRow) (g : LinearRow) (old here new : Missed) → AreMissed form list old →
     MissesAt form g here → IsTrue new.below ↔ (IsTrue old.below × IsTrue here.below) →
     IsTrue new.zero ↔ (IsTrue old.zero × IsTrue here.zero) →
     IsTrue new.above ↔ (IsTrue old.above × IsTrue here.above) → AreMissed form (list ++ g ∷ []) new
@@ -63,13 +63,13 @@ missed_more form list g old here new are at below zero above = record {
 pub one_missed_more : (form : List ℤ) (rows : List (List ℤ)) (kinds : List GenKind) (i : ℕ) (r : List ℤ) (k : GenKind)
     (old here new : Missed) → length kinds ≡ length rows → i < length rows → r ≡ get_or rows i r →
     AreMissed form (front is_line rows kinds i) old →
-    ((g : Given) → g.row ≡ r → g.equal ≡ is_line (get_or kinds i k) → MissesAt form g here) →
+    ((g : LinearRow) → g.row ≡ r → g.equal ≡ is_line (get_or kinds i k) → MissesAt form g here) →
     IsTrue new.below ↔ (IsTrue old.below × IsTrue here.below) →
     IsTrue new.zero ↔ (IsTrue old.zero × IsTrue here.zero) →
     IsTrue new.above ↔ (IsTrue old.above × IsTrue here.above) → AreMissed form (front is_line rows kinds (i + 1)) new
 one_missed_more form rows kinds i r k old here new n h e are at below zero above =
     subst (λ (j : ℕ). AreMissed form (front is_line rows kinds j) new) (sym (add-one i))
-    (subst (λ (l : List Given). AreMissed form l new) (sym (given_more is_line rows kinds i r k n h e))
+    (subst (λ (l : List LinearRow). AreMissed form l new) (sym (given_more is_line rows kinds i r k n h e))
     (missed_more form (front is_line rows kinds i) (member is_line kinds i r k) old here new are
     (at (member is_line kinds i r k) refl refl) below zero above))
 
@@ -82,7 +82,7 @@ missed_first form rows kinds m b z a = record {
 }
 
 -- ---- all of them
-pub gone_through : (P : List Given → Type 0) (rows : List (List ℤ)) (kinds : List GenKind) (i : ℕ) →
+pub gone_through : (P : List LinearRow → Type 0) (rows : List (List ℤ)) (kinds : List GenKind) (i : ℕ) →
     length kinds ≡ length rows → length rows ≤ i → P (front is_line rows kinds i) → P (given_by is_line rows kinds)
 gone_through P rows kinds i n h p =
     subst (λ (ks : List GenKind). P (given_by is_line rows ks)) (take_all i kinds (omega (arith, n, h)))
@@ -96,7 +96,7 @@ one_passes form rows kinds i r k e n h at passes = record {
   row = inequality form;
   has_row = contains_head (inequality form) [];
   generator = member is_line kinds i r k;
-  has_generator = subst (λ (l : List Given). Contains l (member is_line kinds i r k))
+  has_generator = subst (λ (l : List LinearRow). Contains l (member is_line kinds i r k))
       (sym (given_split is_line rows kinds i r k n h at))
       (Contains-append_right (front is_line rows kinds i) _ (member is_line kinds i r k)
       (contains_head (member is_line kinds i r k) _));

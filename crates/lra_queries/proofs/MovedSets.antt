@@ -3,14 +3,14 @@ use Rattle.std.proofs.Common.{◌≡◌, ℕ, zero, suc, ◌<◌, ◌≤◌, ◌
 use Rattle.std.proofs.Common.{ℤ, pos, neg_ℤ, ◌+ℤ◌, ◌*ℤ◌, add-one, arith}
 use Rattle.std.proofs.Math.Seq.{take-suc}
 use Rattle.std.proofs.lemmas.List.{map-append, take_all}
-use Rattle.lra_linear.specs.Descriptions.{Con, Gen}
-use Rattle.lra_linear.specs.Points.{SameSet}
-use Rattle.lra_linear.specs.Polyhedra.{IsPolyhedron, Polyhedron}
-use Rattle.lra_linear.specs.Vectors.{entry, negated}
-use Rattle.lra_linear.specs.declared.GenKind.{GenKind}
-use Rattle.lra_linear.proofs.Polyhedra.{con_gen}
-use Rattle.lra_linear.proofs.Products.{entry_negated}
-use Rattle.lra_linear.proofs.Ring.{ring, v, ◌⊕◌, ◌⊗◌}
+use Rattle.lra_linear_spec.specs.Descriptions.{Con, Gen}
+use Rattle.lra_linear_spec.specs.Points.{SameSet}
+use Rattle.lra_linear_spec.specs.Polyhedra.{IsPolyhedron, Polyhedron}
+use Rattle.lra_linear_spec.specs.Vectors.{entry, negated}
+use Rattle.lra_linear_spec.specs.declared.GenKind.{GenKind}
+use Rattle.lra_linear_spec.proofs.Polyhedra.{con_gen}
+use Rattle.lra_linear_spec.proofs.Products.{entry_negated}
+use Rattle.lra_linear_spec.proofs.Ring.{ring, v, ◌⊕◌, ◌⊗◌}
 use Rattle.lra_sys.specs.Listed.{Listed, generators}
 use Rattle.lra_lists.proofs.MappedSets.{IsMapOf, mapped_from, mapped_in, widths_of}
 use Rattle.lra_lists.proofs.Sums.{IsLinear}

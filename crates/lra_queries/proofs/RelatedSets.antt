@@ -1,14 +1,14 @@
 -- A coordinate whose new values stand to the old point as a constraint tells.
 use Rattle.std.proofs.Common.{◌≡◌, ℕ, zero, suc, ◌+◌, List, [], ◌∷◌, ◌++◌, length, replicate, slice_set, ap, refl, sym}
 use Rattle.std.proofs.Common.{◌∙◌, subst, ℤ, inl, inr}
-use Rattle.lra_linear.specs.Descriptions.{Con, Given}
-use Rattle.lra_linear.specs.Kinds.{is_equality}
-use Rattle.lra_linear.specs.Points.{IsWithin, PointSet, SameSet}
-use Rattle.lra_linear.specs.Polyhedra.{IsPolyhedron, IsPolyhedronOf, Polyhedron}
-use Rattle.lra_linear.specs.Strain.{Loss}
-use Rattle.lra_linear.specs.declared.ConKind.{ConKind}
-use Rattle.lra_linear.proofs.Descriptions.{con_cons, con_head, con_none}
-use Rattle.lra_linear.proofs.SetOperations.{meet_con}
+use Rattle.lra_linear_spec.specs.Descriptions.{Con, LinearRow}
+use Rattle.lra_linear_spec.specs.Kinds.{is_equality}
+use Rattle.lra_linear_spec.specs.Points.{IsWithin, PointSet, SameSet}
+use Rattle.lra_linear_spec.specs.Polyhedra.{IsPolyhedron, IsPolyhedronOf, Polyhedron}
+use Rattle.lra_linear_spec.specs.Strain.{Loss}
+use Rattle.lra_linear_spec.specs.declared.ConKind.{ConKind}
+use Rattle.lra_linear_spec.proofs.Descriptions.{con_cons, con_head, con_none}
+use Rattle.lra_linear_spec.proofs.SetOperations.{meet_con}
 use Rattle.lra_poly.proofs.PolyLemmas.{same_polyhedron}
 use Rattle.lra_poly.specs.Outcomes.{Becomes, IfExact, IfFlagged, first_of}
 use Rattle.lra_poly.specs.declared.outcome.Outcome.{Outcome}
@@ -22,7 +22,7 @@ use Rattle.lra_queries.proofs.JoinedSets.{counted_length, first_rows}
 use Rattle.lra_queries.proofs.TakenRows.{TakesRows}
 
 -- ---- one further coordinate
-extended_rows : (p : Polyhedron) (g : Given) → IsPolyhedron p →
+extended_rows : (p : Polyhedron) (g : LinearRow) → IsPolyhedron p →
     SameSet (p.dims + 1) (Extended p.dims g (Con p.rows)) (Con (extended g p))
 extended_rows p g h =
     let both = meet_con (p.dims + 1) (moved (counted (p.dims + 1) 0) p.rows) (g ∷ []) in (
@@ -39,7 +39,8 @@ pub extended_takes : (p : Polyhedron) (start own more ps : Listed ConKind) (firs
     (extended (record { row = row; equal = is_equality k }) p) more
 extended_takes p start own more ps first n row k h en er ed eo ef ep go c dm rm km = record {
   dimensions = dm ∙ eo ∙ ed ∙ ap (λ (d : ℕ). d + 1) en;
-  are = constraints_pushed own more row k c rm km ∙ ap (λ (l : List Given). l ++ (let g : Given = record { row = row; equal = is_equality k } in g) ∷ [])
+  are = constraints_pushed own more row k c rm km
+      ∙ ap (λ (l : List LinearRow). l ++ (let g : LinearRow = record { row = row; equal = is_equality k } in g) ∷ [])
       (go ∙ ap (λ (l : List (List ℤ)). given_by is_equality l start.kinds ++ moved first (constraints ps)) er
       ∙ ap (λ (f : List ℕ). moved f (constraints ps)) (ef ∙ ap (λ (d : ℕ). counted (d + 1) 0) en)
       ∙ ap (moved (counted (p.dims + 1) 0)) ep);
@@ -82,7 +83,7 @@ pub dims_replaced : (dims kept : List ℕ) (n k m : ℕ) → dims ≡ replicate 
 dims_replaced dims kept n k m ed ek en = ek ∙ ap (λ (l : List ℕ). slice_set l k n) ed ∙
     ap (λ (d : ℕ). slice_set (counted d 0) k d) en
 
-related_exact : (p longer new : Polyhedron) (k : ℕ) (g : Given) (kept : List ℕ) (first second all : Outcome) →
+related_exact : (p longer new : Polyhedron) (k : ℕ) (g : LinearRow) (kept : List ℕ) (first second all : Outcome) →
     all ≡ first_of first second → kept ≡ replaced p.dims k → longer.dims ≡ p.dims + 1 →
     IfExact (IsPolyhedronOf (p.dims + 1) (Extended p.dims g (Con p.rows)) longer) first →
     IfExact (IsPolyhedronOf (length kept) (Moved longer.dims kept (Con longer.rows)) new) second →
@@ -102,7 +103,7 @@ related_exact p longer new k g kept first second all ea ek ed a b =
     (subst (λ (l : List ℕ). IfExact (IsPolyhedronOf (length l) (Moved (p.dims + 1) l (Con longer.rows)) new) second) ek
     (subst (λ (d : ℕ). IfExact (IsPolyhedronOf (length kept) (Moved d kept (Con longer.rows)) new) second) ed b))))
 
-related_within : (p longer new : Polyhedron) (k : ℕ) (g : Given) (kept : List ℕ) →
+related_within : (p longer new : Polyhedron) (k : ℕ) (g : LinearRow) (kept : List ℕ) →
     kept ≡ replaced p.dims k → longer.dims ≡ p.dims + 1 →
     IsWithin (p.dims + 1) (Extended p.dims g (Con p.rows)) (Con longer.rows) →
     IsWithin (length kept) (Moved longer.dims kept (Con longer.rows)) (Con new.rows) →
@@ -115,7 +116,7 @@ related_within p longer new k g kept ek ed a b =
     λ x i f. rest x i (moved_within (p.dims + 1) p.dims (replaced p.dims k) (Extended p.dims g (Con p.rows))
     (Con longer.rows) a x i f)
 
-related_strain : (p longer : Polyhedron) (k : ℕ) (g : Given) (kept : List ℕ) (first second all : Outcome) →
+related_strain : (p longer : Polyhedron) (k : ℕ) (g : LinearRow) (kept : List ℕ) (first second all : Outcome) →
     all ≡ first_of first second → kept ≡ replaced p.dims k →
     IfExact (IsPolyhedronOf (p.dims + 1) (Extended p.dims g (Con p.rows)) longer) first →
     IfFlagged (ExtendStrains g p) first → IfFlagged (MapDimsStrains kept longer) second →
@@ -127,7 +128,7 @@ related_strain p longer k g kept first second all ea ek a fa fb =
     (λ loss is s. inr (record { longer = longer; is_longer = is; strains = s })) first second a fa
     (subst (λ (l : List ℕ). IfFlagged (MapDimsStrains l longer) second) ek fb))
 
-pub related_becomes : (p longer new : Polyhedron) (k : ℕ) (g : Given) (kept : List ℕ) (first second all : Outcome) →
+pub related_becomes : (p longer new : Polyhedron) (k : ℕ) (g : LinearRow) (kept : List ℕ) (first second all : Outcome) →
     all ≡ first_of first second → kept ≡ replaced p.dims k →
     Becomes (p.dims + 1) (Extended p.dims g (Con p.rows)) (ExtendStrains g p) longer first →
     Becomes (length kept) (Moved longer.dims kept (Con longer.rows)) (MapDimsStrains kept longer) new second →

@@ -5,24 +5,24 @@ use Rattle.std.specs.Prelude.{◌↔◌, IsTrue, unsigned_abs}
 use Rattle.std.specs.List.{All, Contains, list_all}
 use Rattle.std.proofs.lemmas.Int.{ints}
 use Rattle.std.proofs.lemmas.List.Elements.{All-contains}
-use Rattle.lra_linear.specs.Descriptions.{Given, Con, HoldsWith, equality, inequality, system_of}
-use Rattle.lra_linear.specs.Points.{IsPoint}
-use Rattle.lra_linear.specs.Polyhedra.{HasPoint, IsPolyhedron, Polyhedron, positivity}
-use Rattle.lra_linear.specs.SetOperations.{ValidOn}
-use Rattle.lra_linear.specs.Vectors.{blend, entry, negated, product}
-use Rattle.lra_linear.specs.Widening.{holds_with}
-use Rattle.lra_linear.proofs.Combinations.{generated_row}
-use Rattle.lra_linear.proofs.Descriptions.{FromGiven, gen_generated, generated_gen, system_from, system_has}
-use Rattle.lra_linear.proofs.LinearMaps.{generated_nonneg}
-use Rattle.lra_linear.proofs.Lines.{zeros_length}
-use Rattle.lra_linear.proofs.Membership.{contains_cases, contains_none, all_from, list_all_at, list_all_from}
-use Rattle.lra_linear.proofs.OneSpelling.{positivity_product}
-use Rattle.lra_linear.proofs.Polyhedra.{con_gen, generators_are_generators}
-use Rattle.lra_linear.proofs.Products.{blend_length, dot_linear, dot_same, entry_blend, entry_negated, negated_dot, negated_length, product_comm}
-use Rattle.lra_linear.proofs.Ring.{mul_nonnegative, ring, v, ⊖, ◌⊕◌, ◌⊗◌}
-use Rattle.lra_linear.proofs.SetOperations.{has_vertex, valid_on_rows}
-use Rattle.lra_linear.proofs.Signs.{above_zero, add_nonnegative, between_opposites, cases_sign, not_both, opposite_of_zero, positive_is_nonnegative, times_positive, zero_at_least}
-use Rattle.lra_linear.proofs.Widening.{valid_decides}
+use Rattle.lra_linear_spec.specs.Descriptions.{LinearRow, Con, HoldsWith, equality, inequality, system_of}
+use Rattle.lra_linear_spec.specs.Points.{IsPoint}
+use Rattle.lra_linear_spec.specs.Polyhedra.{HasPoint, IsPolyhedron, Polyhedron, positivity}
+use Rattle.lra_linear_spec.specs.SetOperations.{ValidOn}
+use Rattle.lra_linear_spec.specs.Vectors.{blend, entry, negated, product}
+use Rattle.lra_linear_spec.specs.Widening.{holds_with}
+use Rattle.lra_linear_spec.proofs.Combinations.{generated_row}
+use Rattle.lra_linear_spec.proofs.Descriptions.{FromGiven, gen_generated, generated_gen, system_from, system_has}
+use Rattle.lra_linear_spec.proofs.LinearMaps.{generated_nonneg}
+use Rattle.lra_linear_spec.proofs.Lines.{zeros_length}
+use Rattle.lra_linear_spec.proofs.Membership.{contains_cases, contains_none, all_from, list_all_at, list_all_from}
+use Rattle.lra_linear_spec.proofs.OneSpelling.{positivity_product}
+use Rattle.lra_linear_spec.proofs.Polyhedra.{con_gen, generators_are_generators}
+use Rattle.lra_linear_spec.proofs.Products.{blend_length, dot_linear, dot_same, entry_blend, entry_negated, negated_dot, negated_length, product_comm}
+use Rattle.lra_linear_spec.proofs.Ring.{mul_nonnegative, ring, v, ⊖, ◌⊕◌, ◌⊗◌}
+use Rattle.lra_linear_spec.proofs.SetOperations.{has_vertex, valid_on_rows}
+use Rattle.lra_linear_spec.proofs.Signs.{above_zero, add_nonnegative, between_opposites, cases_sign, not_both, opposite_of_zero, positive_is_nonnegative, times_positive, zero_at_least}
+use Rattle.lra_linear_spec.proofs.Widening.{valid_decides}
 use Rattle.lra_duality.proofs.PolyhedronLemmas.{falsity_is_empty}
 use Rattle.lra_queries.specs.declared.relation.Missed.{Missed}
 use Rattle.lra_queries.specs.declared.relation.Relation.{Relation}
@@ -52,12 +52,12 @@ all_true test xs h = list_all_from test xs (λ x k. All-contains (λ y. IsTrue (
 true_all : {A : Type 0} (test : A → Bool) (xs : List A) → list_all test xs ≡ true → All (λ x. IsTrue (test x)) xs
 true_all test xs h = all_from (λ x. IsTrue (test x)) xs (λ x k. list_all_at test xs h x k)
 
-pub valid_where : (p : Polyhedron) → IsPolyhedron p → (r : Given) →
+pub valid_where : (p : Polyhedron) → IsPolyhedron p → (r : LinearRow) →
     All (λ g. IsTrue (holds_with r g)) p.generators ↔ ValidOn p.dims (Con p.rows) r
 valid_where p (inl none) r = (
   λ h x i c. absurd (falsity_is_empty p.dims p.rows none.0 x i c),
   λ v. all_from (λ g. IsTrue (holds_with r g)) p.generators
-      (λ g k. absurd (contains_none g (subst (λ (l : List Given). Contains l g) none.1 k))),
+      (λ g k. absurd (contains_none g (subst (λ (l : List LinearRow). Contains l g) none.1 k))),
 )
 valid_where p (inr h) r = (
   λ a. (valid_decides p h r).0 (all_true (holds_with r) p.generators a),
@@ -65,7 +65,7 @@ valid_where p (inr h) r = (
 )
 
 -- ---- the points of a polyhedron
-point_inside : (p : Polyhedron) (h : HasPoint p) (g : Given) → Contains p.generators g → pos 0 <ℤ entry g.row 0 →
+point_inside : (p : Polyhedron) (h : HasPoint p) (g : LinearRow) → Contains p.generators g → pos 0 <ℤ entry g.row 0 →
     IsPoint p.dims g.row × Con p.rows g.row
 point_inside p h g k d =
     let m : Contains (system_of p.generators) g.row = system_has p.generators g k in
@@ -79,21 +79,21 @@ point_inside p h g k d =
 pub misses_where : (p : Polyhedron) → IsPolyhedron p → (form : List ℤ) →
     ((x : List ℤ) → IsPoint p.dims x → Con p.rows x → product form x ≢ pos 0) → All (MissesZero form) p.generators
 misses_where p (inl none) form n = all_from (MissesZero form) p.generators
-    (λ g k. absurd (contains_none g (subst (λ (l : List Given). Contains l g) none.1 k)))
+    (λ g k. absurd (contains_none g (subst (λ (l : List LinearRow). Contains l g) none.1 k)))
 misses_where p (inr h) form n = all_from (MissesZero form) p.generators
     (λ g k both. let q = point_inside p h g k both.0 in n g.row q.0 q.1 both.1)
 
 -- ---- a form that is above 0 at each point of a description, and doesn't fall along its rays and lines
 -- at least each divisor
-most_divisor : List Given → ℕ
+most_divisor : List LinearRow → ℕ
 most_divisor [] = 0
 most_divisor (g ∷ gs) = unsigned_abs (entry g.row 0) + most_divisor gs
 
-divisor_at_most : (list : List Given) (g : Given) → Contains list g → entry g.row 0 ≤ℤ pos (most_divisor list)
+divisor_at_most : (list : List LinearRow) (g : LinearRow) → Contains list g → entry g.row 0 ≤ℤ pos (most_divisor list)
 unfolding most_divisor
 divisor_at_most [] g k = absurd (contains_none g k)
 divisor_at_most (f ∷ list) g k = elim (contains_cases f g list k) [
-  | inl e ↦ subst (λ (t : Given). entry t.row 0 ≤ℤ pos (unsigned_abs (entry f.row 0) + most_divisor list)) e
+  | inl e ↦ subst (λ (t : LinearRow). entry t.row 0 ≤ℤ pos (unsigned_abs (entry f.row 0) + most_divisor list)) e
       (own (entry f.row 0) (most_divisor list))
   | inr m ↦ later (entry g.row 0) (unsigned_abs (entry f.row 0)) (most_divisor list) (divisor_at_most list g m)
 ]
@@ -182,7 +182,7 @@ above_on_all p (inr h) form e above missed x i c =
         no_level : (z y : ℤ) → y ≡ neg_ℤ z → z ≡ pos 0 → pos 0 <ℤ y → ⊥
         no_level z y e f h = omega (arith, ints, e, f, h)
 
-        of_line : (g : Given) → Contains p.generators g → g.equal ≡ true → pos 0 <ℤ entry (negated g.row) 0 → ⊥
+        of_line : (g : LinearRow) → Contains p.generators g → g.equal ≡ true → pos 0 <ℤ entry (negated g.row) 0 → ⊥
         of_line g m l up = elim (generators_are_generators p (inr h) g m) [
           | inl point ↦ (let z : true ≡ false = sym l ∙ point.0 in cc)
           | inr level ↦ no_level (entry g.row 0) (entry (negated g.row) 0) (entry_negated g.row 0) level up
@@ -207,7 +207,7 @@ turned_back z y e h = omega (arith, ints, e, h)
 turned_zero : (z y : ℤ) → y ≡ neg_ℤ z → y ≡ pos 0 → z ≡ pos 0
 turned_zero z y e h = omega (arith, ints, e, h)
 
-misses_opposite : (form : List ℤ) (list : List Given) → All (MissesZero form) list → All (MissesZero (negated form)) list
+misses_opposite : (form : List ℤ) (list : List LinearRow) → All (MissesZero form) list → All (MissesZero (negated form)) list
 misses_opposite form list missed = all_from (MissesZero (negated form)) list (λ g k both.
     All-contains (MissesZero form) list g missed k
     (both.0, turned_zero (product form g.row) (product (negated form) g.row) (negated_dot form (entry g.row)) both.1))
@@ -228,7 +228,7 @@ holds_sum true s t u w hs ht e f =
 holds_sum false s t u w hs ht e f =
     add_nonnegative (s *ℤ u) (t *ℤ w) (mul_nonnegative s u hs e) (mul_nonnegative t w ht f)
 
-con_blend : (rows : List Given) (s t : ℤ) (x y : List ℤ) → pos 0 ≤ℤ s → pos 0 ≤ℤ t → length x ≡ length y →
+con_blend : (rows : List LinearRow) (s t : ℤ) (x y : List ℤ) → pos 0 ≤ℤ s → pos 0 ≤ℤ t → length x ≡ length y →
     Con rows x → Con rows y → Con rows (blend s t x y)
 con_blend rows s t x y hs ht e cx cy g k =
     subst (λ (z : ℤ). HoldsWith g.equal z) (sym (product_blend s t g.row x y e))
@@ -320,7 +320,7 @@ one_true true b h = inl refl
 one_true false true h = inr refl
 one_true false false h = absurd (h (λ t. let k : false ≡ true = t in cc) (λ t. let k : false ≡ true = t in cc))
 
-pub related : (p : Polyhedron) → IsPolyhedron p → (g : Given) → length g.row ≡ suc p.dims → (m : Missed) →
+pub related : (p : Polyhedron) → IsPolyhedron p → (g : LinearRow) → length g.row ≡ suc p.dims → (m : Missed) →
     AreMissed g.row p.generators m → (r : Relation) →
     IsTrue r.saturated_on_all ↔ (IsTrue m.below × IsTrue m.above) →
     IsTrue r.saturated_nowhere ↔ (IsTrue m.zero × (IsTrue m.below ⊎ IsTrue m.above)) →
@@ -355,7 +355,7 @@ related p h g e m a r flat unmet by_inequality by_equality = by_kind g.equal ref
     by_kind : (b : Bool) → g.equal ≡ b → IsRelation p g r
     by_kind false k =
         let q : record { row = g.row; equal = g.equal } ≡ inequality form =
-        ap (λ (b : Bool). (let t : Given = record { row = g.row; equal = b } in t)) k in
+        ap (λ (b : Bool). (let t : LinearRow = record { row = g.row; equal = b } in t)) k in
         let at_all : IsTrue r.holds_on_all ↔ ValidOn p.dims (Con p.rows) (inequality form) = (
           λ t. (valid_where p h (inequality form)).0 (a.below.0 (sym (by_inequality k).0 ∙ t)),
           λ u. (by_inequality k).0 ∙ a.below.1 ((valid_where p h (inequality form)).1 u),
@@ -367,19 +367,19 @@ related p h g e m a r flat unmet by_inequality by_equality = by_kind g.equal ref
               (by_inequality k).1.1 (a.zero.1 both.0, a.above.1 both.1),
         ) in
         record {
-          on_all = subst (λ (t : Given). IsTrue r.holds_on_all ↔ ValidOn p.dims (Con p.rows) t) (sym q) at_all;
-          nowhere = subst (λ (t : Given). IsTrue r.holds_nowhere ↔ HoldsNowhere p t) (sym q) at_none;
+          on_all = subst (λ (t : LinearRow). IsTrue r.holds_on_all ↔ ValidOn p.dims (Con p.rows) t) (sym q) at_all;
+          nowhere = subst (λ (t : LinearRow). IsTrue r.holds_nowhere ↔ HoldsNowhere p t) (sym q) at_none;
           all_saturated = all_zero;
           none_saturated = none_zero;
         }
     by_kind true k =
         let q : record { row = g.row; equal = g.equal } ≡ equality form =
-        ap (λ (b : Bool). (let t : Given = record { row = g.row; equal = b } in t)) k in
+        ap (λ (b : Bool). (let t : LinearRow = record { row = g.row; equal = b } in t)) k in
         record {
-          on_all = subst (λ (t : Given). IsTrue r.holds_on_all ↔ ValidOn p.dims (Con p.rows) t) (sym q)
+          on_all = subst (λ (t : LinearRow). IsTrue r.holds_on_all ↔ ValidOn p.dims (Con p.rows) t) (sym q)
               (subst (λ (b : Bool). IsTrue b ↔ ValidOn p.dims (Con p.rows) (equality form)) (sym (by_equality k).0)
               all_zero);
-          nowhere = subst (λ (t : Given). IsTrue r.holds_nowhere ↔ HoldsNowhere p t) (sym q)
+          nowhere = subst (λ (t : LinearRow). IsTrue r.holds_nowhere ↔ HoldsNowhere p t) (sym q)
               (subst (λ (b : Bool). IsTrue b ↔ HoldsNowhere p (equality form)) (sym (by_equality k).1) none_zero);
           all_saturated = all_zero;
           none_saturated = none_zero;

@@ -7,28 +7,28 @@ use Rattle.std.specs.Int.{◌∣◌}
 use Rattle.std.specs.List.{All, Contains}
 use Rattle.std.proofs.lemmas.Int.{ints}
 use Rattle.std.proofs.lemmas.List.Elements.{All-contains}
-use Rattle.lra_linear.specs.Descriptions.{Given, Con, equality, given_as, inequality, system_of}
-use Rattle.lra_linear.specs.Echelon.{pivot}
-use Rattle.lra_linear.specs.Points.{IsPoint, IsWithin}
-use Rattle.lra_linear.specs.Polyhedra.{HasPoint, IsPolyhedron, Polyhedron, positivity}
-use Rattle.lra_linear.specs.Vectors.{blend, cleared, entry, product}
-use Rattle.lra_linear.proofs.Descriptions.{FromGiven, con_none, gen_generated, system_from, system_has}
-use Rattle.lra_linear.proofs.LinearMaps.{generated_nonneg}
-use Rattle.lra_linear.proofs.Lines.{entry_zeros, zeros_length}
-use Rattle.lra_linear.proofs.Membership.{all_from, contains_cases, contains_head, contains_none, contains_tail}
-use Rattle.lra_linear.proofs.OneSpelling.{far, given_from, given_has, positivity_product}
-use Rattle.lra_linear.proofs.Pivots.{echelon_positive}
-use Rattle.lra_linear.proofs.Polyhedra.{con_gen, generators_are_generators}
-use Rattle.lra_linear.proofs.Products.{entry_past, product_comm, row_same}
-use Rattle.lra_linear.proofs.Ring.{mul_nonnegative, ring, v, ⊖, ◌⊕◌, ◌⊗◌}
-use Rattle.lra_linear.proofs.SetOperations.{has_vertex, product_set, valid_on_rows}
+use Rattle.lra_linear_spec.specs.Descriptions.{LinearRow, Con, equality, rows_as, inequality, system_of}
+use Rattle.lra_linear_spec.specs.Echelon.{pivot}
+use Rattle.lra_linear_spec.specs.Points.{IsPoint, IsWithin}
+use Rattle.lra_linear_spec.specs.Polyhedra.{HasPoint, IsPolyhedron, Polyhedron, positivity}
+use Rattle.lra_linear_spec.specs.Vectors.{blend, cleared, entry, product}
+use Rattle.lra_linear_spec.proofs.Descriptions.{FromGiven, con_none, gen_generated, system_from, system_has}
+use Rattle.lra_linear_spec.proofs.LinearMaps.{generated_nonneg}
+use Rattle.lra_linear_spec.proofs.Lines.{entry_zeros, zeros_length}
+use Rattle.lra_linear_spec.proofs.Membership.{all_from, contains_cases, contains_head, contains_none, contains_tail}
+use Rattle.lra_linear_spec.proofs.OneSpelling.{far, given_from, given_has, positivity_product}
+use Rattle.lra_linear_spec.proofs.Pivots.{echelon_positive}
+use Rattle.lra_linear_spec.proofs.Polyhedra.{con_gen, generators_are_generators}
+use Rattle.lra_linear_spec.proofs.Products.{entry_past, product_comm, row_same}
+use Rattle.lra_linear_spec.proofs.Ring.{mul_nonnegative, ring, v, ⊖, ◌⊕◌, ◌⊗◌}
+use Rattle.lra_linear_spec.proofs.SetOperations.{has_vertex, product_set, valid_on_rows}
 use Rattle.std.proofs.lemmas.List.Elements.{Contains-append_cases, Contains-append_left, Contains-append_right}
 use Rattle.lra_duality.proofs.PolyhedronLemmas.{falsity_is_empty, given_width}
-use Rattle.lra_linear.specs.declared.ConKind.{ConKind}
-use Rattle.lra_linear.specs.declared.GenKind.{GenKind}
-use Rattle.lra_linear.specs.declared.GenKind.TheVariants.{Point, Ray, Line}
-use Rattle.lra_linear.specs.Kinds.{is_equality, is_line}
-use Rattle.lra_linear.proofs.Signs.{add_nonnegative, cases_sign, times_positive}
+use Rattle.lra_linear_spec.specs.declared.ConKind.{ConKind}
+use Rattle.lra_linear_spec.specs.declared.GenKind.{GenKind}
+use Rattle.lra_linear_spec.specs.declared.GenKind.TheVariants.{Point, Ray, Line}
+use Rattle.lra_linear_spec.specs.Kinds.{is_equality, is_line}
+use Rattle.lra_linear_spec.proofs.Signs.{add_nonnegative, cases_sign, times_positive}
 use Rattle.lra_pair.proofs.OwnRows.{none_of}
 use Rattle.lra_sys.specs.Listed.{FitKinds, FitsKind, Listed, constraints, generators, given_by}
 use Rattle.lra_queries.proofs.RelationLemmas.{blend_product}
@@ -107,8 +107,8 @@ no_equality p h all c k = zero_above (entry c (pivot c)) (echelon_positive h.equ
     h.constraints_canonical.pivots h.constraints_canonical.echelon c k) (each (pivot c))
   where
     has : Contains p.rows (equality c)
-    has = subst (λ (l : List Given). Contains l (equality c)) (sym h.rows_are)
-        (Contains-append_left (given_as true h.equalities) (given_as false h.inequalities) (equality c)
+    has = subst (λ (l : List LinearRow). Contains l (equality c)) (sym h.rows_are)
+        (Contains-append_left (rows_as true h.equalities) (rows_as false h.inequalities) (equality c)
         (given_has true h.equalities c k))
 
     holds : (x : List ℤ) → IsPoint p.dims x → product c x ≡ pos 0
@@ -131,8 +131,8 @@ no_inequality p h all c k = (h.shown c k).1 (row_same c (positivity p.dims)
     (wide ∙ sym (ap suc (zeros_length p.dims))) same)
   where
     has : Contains p.rows (inequality c)
-    has = subst (λ (l : List Given). Contains l (inequality c)) (sym h.rows_are)
-        (Contains-append_right (given_as true h.equalities) (given_as false h.inequalities) (inequality c)
+    has = subst (λ (l : List LinearRow). Contains l (inequality c)) (sym h.rows_are)
+        (Contains-append_right (rows_as true h.equalities) (rows_as false h.inequalities) (inequality c)
         (given_has false h.inequalities c k))
 
     wide : length c ≡ suc p.dims
@@ -166,27 +166,27 @@ universal p (inl none) u = absurd (falsity_is_empty p.dims p.rows none.0 (positi
     (u.0 (positivity p.dims) (origin_is_point p.dims) (con_none (positivity p.dims))))
 universal p (inr h) u =
     h.rows_are
-    ∙ ap (λ (es : List (List ℤ)). given_as true es ++ given_as false h.inequalities)
+    ∙ ap (λ (es : List (List ℤ)). rows_as true es ++ rows_as false h.inequalities)
     (no_members h.equalities (no_equality p h u.0))
-    ∙ ap (λ (is : List (List ℤ)). given_as false is) (no_members h.inequalities (no_inequality p h u.0))
+    ∙ ap (λ (is : List (List ℤ)). rows_as false is) (no_members h.inequalities (no_inequality p h u.0))
 
 pub without_rows : (p : Polyhedron) → p.rows ≡ [] → IsUniverse p
 without_rows p e = (
-  λ x i c. subst (λ (l : List Given). Con l x) (sym e) c,
+  λ x i c. subst (λ (l : List LinearRow). Con l x) (sym e) c,
   λ x i c. con_none x,
 )
 
 -- ---- a bound of each form where there are points alone
-most_value : List ℤ → List Given → ℕ
+most_value : List ℤ → List LinearRow → ℕ
 most_value form [] = 0
 most_value form (g ∷ gs) = unsigned_abs (product form g.row) + most_value form gs
 
-value_at_most : (form : List ℤ) (list : List Given) (g : Given) → Contains list g →
+value_at_most : (form : List ℤ) (list : List LinearRow) (g : LinearRow) → Contains list g →
     product form g.row ≤ℤ pos (most_value form list)
 unfolding most_value
 value_at_most form [] g k = absurd (contains_none g k)
 value_at_most form (f ∷ list) g k = elim (contains_cases f g list k) [
-  | inl e ↦ subst (λ (t : Given). product form t.row ≤ℤ
+  | inl e ↦ subst (λ (t : LinearRow). product form t.row ≤ℤ
       pos (unsigned_abs (product form f.row) + most_value form list)) e
       (own (product form f.row) (most_value form list))
   | inr m ↦ later (product form g.row) (unsigned_abs (product form f.row)) (most_value form list)
@@ -235,7 +235,7 @@ as_nonneg m d f h = turned (m *ℤ d) f h
     turned t f h = omega (arith, ints, h)
 
 pub points_bound : (p : Polyhedron) → IsPolyhedron p →
-    ((g : Given) → Contains p.generators g → pos 0 <ℤ entry g.row 0) → IsBounded p
+    ((g : LinearRow) → Contains p.generators g → pos 0 <ℤ entry g.row 0) → IsBounded p
 points_bound p (inl none) points form e = record {
   most = pos 0;
   is_most = λ x i c. absurd (falsity_is_empty p.dims p.rows none.0 x i c);
@@ -253,7 +253,7 @@ points_bound p (inr h) points form e = record {
     most : ℤ
     most = pos (most_value form p.generators)
 
-    no_line : (g : Given) → Contains p.generators g → g.equal ≡ true → ⊥
+    no_line : (g : LinearRow) → Contains p.generators g → g.equal ≡ true → ⊥
     no_line g k l = elim (generators_are_generators p (inr h) g k) [
       | inl point ↦ (let z : true ≡ false = sym l ∙ point.0 in cc)
       | inr level ↦ zero_above (entry g.row 0) (points g k) level
@@ -310,11 +310,11 @@ self_zero (c ∷ cs) h (suc j) = self_zero cs (right (c *ℤ c) (product cs cs) 
     right a b k h = omega (arith, ints, k, h)
 
 -- no generator is a row of zeros
-zero_generator : (p : Polyhedron) (h : HasPoint p) (g : Given) → Contains p.generators g →
+zero_generator : (p : Polyhedron) (h : HasPoint p) (g : LinearRow) → Contains p.generators g →
     ((j : ℕ) → entry g.row j ≡ pos 0) → ⊥
-zero_generator p h g k zero_row = elim (Contains-append_cases (given_as false h.points ++ given_as false h.rays)
-    (given_as true h.lines) g (subst (λ (l : List Given). Contains l g) h.generators_are k)) [
-      | inl a ↦ elim (Contains-append_cases (given_as false h.points) (given_as false h.rays) g a) [
+zero_generator p h g k zero_row = elim (Contains-append_cases (rows_as false h.points ++ rows_as false h.rays)
+    (rows_as true h.lines) g (subst (λ (l : List LinearRow). Contains l g) h.generators_are k)) [
+      | inl a ↦ elim (Contains-append_cases (rows_as false h.points) (rows_as false h.rays) g a) [
         | inl b ↦ zero_above (entry g.row 0) (h.divisors g.row (given_from false h.points g b).1) (zero_row 0)
         | inr b ↦ two_one (h.generators_canonical.lowest g.row
             (Contains-append_right h.points h.rays g.row (given_from false h.rays g b).1) 2
@@ -330,10 +330,10 @@ zero_generator p h g k zero_row = elim (Contains-append_cases (given_as false h.
     two_one : (let n : ℕ = 2 in n) ≡ 1 → ⊥
     two_one e = omega (arith, e)
 
-pub bounds_points : (p : Polyhedron) → IsPolyhedron p → IsBounded p → (g : Given) → Contains p.generators g →
+pub bounds_points : (p : Polyhedron) → IsPolyhedron p → IsBounded p → (g : LinearRow) → Contains p.generators g →
     pos 0 <ℤ entry g.row 0
 bounds_points p (inl none) bounds g k =
-    absurd (contains_none g (subst (λ (l : List Given). Contains l g) none.1 k))
+    absurd (contains_none g (subst (λ (l : List LinearRow). Contains l g) none.1 k))
 bounds_points p (inr h) bounds g k = elim (generators_are_generators p (inr h) g k) [
   | inl point ↦ point.1
   | inr level ↦ absurd (zero_generator p h g k (self_zero g.row (low (bounds g.row wide) level)))
@@ -384,28 +384,28 @@ universe_told p list kinds b h e ek n is = (
 
 -- kinds that fit are points exactly where the divisors are above 0
 points_above : (rows : List (List ℤ)) (kinds : List GenKind) → FitKinds rows kinds → All (λ k. k ≡ Point) kinds →
-    (g : Given) → Contains (given_by is_line rows kinds) g → pos 0 <ℤ entry g.row 0
+    (g : LinearRow) → Contains (given_by is_line rows kinds) g → pos 0 <ℤ entry g.row 0
 points_above [] kinds fits all g k = absurd (contains_none g k)
 points_above (r ∷ rows) [] fits all g k = absurd (contains_none g k)
 points_above (r ∷ rows) (x ∷ kinds) fits all g k =
-    elim (contains_cases (let t : Given = record { row = r; equal = is_line x } in t) g (given_by is_line rows kinds) k) [
-      | inl e ↦ subst (λ (t : Given). pos 0 <ℤ entry t.row 0) e
+    elim (contains_cases (let t : LinearRow = record { row = r; equal = is_line x } in t) g (given_by is_line rows kinds) k) [
+      | inl e ↦ subst (λ (t : LinearRow). pos 0 <ℤ entry t.row 0) e
           (subst (λ (y : GenKind). FitsKind y r) (All-contains (λ y. y ≡ Point) (x ∷ kinds) x all (contains_head x kinds)) fits.0)
       | inr m ↦ points_above rows kinds fits.1
           (all_from (λ y. y ≡ Point) kinds (λ y i. All-contains (λ z. z ≡ Point) (x ∷ kinds) y all (contains_tail x y kinds i))) g m
     ]
 
 above_points : (rows : List (List ℤ)) (kinds : List GenKind) → length kinds ≡ length rows → FitKinds rows kinds →
-    ((g : Given) → Contains (given_by is_line rows kinds) g → pos 0 <ℤ entry g.row 0) →
+    ((g : LinearRow) → Contains (given_by is_line rows kinds) g → pos 0 <ℤ entry g.row 0) →
     (k : GenKind) → Contains kinds k → k ≡ Point
 above_points [] [] n fits above k i = absurd (contains_none k i)
 above_points [] (x ∷ kinds) n fits above k i = absurd (omega (arith, n))
 above_points (r ∷ rows) [] n fits above k i = absurd (contains_none k i)
 above_points (r ∷ rows) (x ∷ kinds) n fits above k i = elim (contains_cases x k kinds i) [
   | inl e ↦ sym e ∙ of_kind x fits.0 (above (record { row = r; equal = is_line x })
-      (contains_head (let t : Given = record { row = r; equal = is_line x } in t) (given_by is_line rows kinds)))
+      (contains_head (let t : LinearRow = record { row = r; equal = is_line x } in t) (given_by is_line rows kinds)))
   | inr m ↦ above_points rows kinds (omega (arith, n)) fits.1
-      (λ g j. above g (contains_tail (let t : Given = record { row = r; equal = is_line x } in t) g
+      (λ g j. above g (contains_tail (let t : LinearRow = record { row = r; equal = is_line x } in t) g
       (given_by is_line rows kinds) j)) k m
 ]
   where
@@ -422,9 +422,9 @@ pub bounded_told : (p : Polyhedron) (list : Listed GenKind) (kinds : List GenKin
     FitKinds list.rows list.kinds → IsTrue b ↔ All (λ k. k ≡ Point) kinds → IsTrue b ↔ IsBounded p
 bounded_told p list kinds b h e ek n fits is = (
   λ t. points_bound p h (λ g k. points_above list.rows list.kinds fits
-      (subst (All (λ k. k ≡ Point)) ek (is.0 t)) g (subst (λ (l : List Given). Contains l g) (sym e) k)),
+      (subst (All (λ k. k ≡ Point)) ek (is.0 t)) g (subst (λ (l : List LinearRow). Contains l g) (sym e) k)),
   λ u. is.1 (all_from (λ k. k ≡ Point) kinds (λ k i. above_points list.rows list.kinds
       (ap length (sym ek) ∙ n) fits
-      (λ g j. bounds_points p h u g (subst (λ (l : List Given). Contains l g) e j)) k
+      (λ g j. bounds_points p h u g (subst (λ (l : List LinearRow). Contains l g) e j)) k
       (subst (λ (ks : List GenKind). Contains ks k) ek i))),
 )

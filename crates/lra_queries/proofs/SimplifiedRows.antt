@@ -5,14 +5,14 @@ use Rattle.std.specs.Prelude.{unwrap_or}
 use Rattle.std.specs.List.{Contains}
 use Rattle.std.proofs.lemmas.List.{append-nil, append_assoc, drop_all}
 use Rattle.std.proofs.lemmas.List.Elements.{Contains-append_cases, Contains-append_left, Contains-append_right}
-use Rattle.lra_linear.specs.Descriptions.{Con, Given, Holds}
-use Rattle.lra_linear.specs.Kinds.{is_equality}
-use Rattle.lra_linear.specs.Points.{SameSet}
-use Rattle.lra_linear.specs.Polyhedra.{Polyhedron}
-use Rattle.lra_linear.specs.SetOperations.{Meet}
-use Rattle.lra_linear.specs.Strain.{Loss}
-use Rattle.lra_linear.specs.declared.ConKind.{ConKind}
-use Rattle.lra_linear.proofs.Membership.{contains_cases, contains_middle, contains_tail, split_none}
+use Rattle.lra_linear_spec.specs.Descriptions.{Con, LinearRow, Holds}
+use Rattle.lra_linear_spec.specs.Kinds.{is_equality}
+use Rattle.lra_linear_spec.specs.Points.{SameSet}
+use Rattle.lra_linear_spec.specs.Polyhedra.{Polyhedron}
+use Rattle.lra_linear_spec.specs.SetOperations.{Meet}
+use Rattle.lra_linear_spec.specs.Strain.{Loss}
+use Rattle.lra_linear_spec.specs.declared.ConKind.{ConKind}
+use Rattle.lra_linear_spec.proofs.Membership.{contains_cases, contains_middle, contains_tail, split_none}
 use Rattle.lra_poly.specs.Outcomes.{IfExact, IfFlagged, first_of}
 use Rattle.lra_poly.specs.declared.outcome.Outcome.{Outcome}
 use Rattle.lra_poly.specs.declared.outcome.Outcome.TheVariants.{Exact, Flagged}
@@ -46,49 +46,49 @@ last_split (z ∷ xs) x (w ∷ front) y back e = elim (last_split xs x front y b
     same = ap (λ l. get_or l 0 z) e
 
 -- ---- constraints that hold
-holds_fewer : (more fewer : List Given) (x : List ℤ) → ((t : Given) → Contains fewer t → Contains more t) →
+holds_fewer : (more fewer : List LinearRow) (x : List ℤ) → ((t : LinearRow) → Contains fewer t → Contains more t) →
     Con more x → Con fewer x
 holds_fewer more fewer x sub c t k = c t (sub t k)
 
-wider : (front : List Given) (g : Given) (back : List Given) (t : Given) → Contains (front ++ back) t →
+wider : (front : List LinearRow) (g : LinearRow) (back : List LinearRow) (t : LinearRow) → Contains (front ++ back) t →
     Contains (front ++ g ∷ back) t
 wider front g back t k = contains_middle front g back t (contains_tail g t (front ++ back) k)
 
-wider_behind : (front back : List Given) (g : Given) (later : List Given) (t : Given) →
+wider_behind : (front back : List LinearRow) (g : LinearRow) (later : List LinearRow) (t : LinearRow) →
     Contains (front ++ (back ++ later)) t → Contains (front ++ (back ++ g ∷ later)) t
 wider_behind front back g later t k = elim (Contains-append_cases front (back ++ later) t k) [
   | inl a ↦ Contains-append_left front (back ++ g ∷ later) t a
   | inr b ↦ Contains-append_right front (back ++ g ∷ later) t (wider back g later t b)
 ]
 
-holds_between : (front : List Given) (g : Given) (back : List Given) (x : List ℤ) → Con (front ++ back) x →
+holds_between : (front : List LinearRow) (g : LinearRow) (back : List LinearRow) (x : List ℤ) → Con (front ++ back) x →
     Holds g x → Con (front ++ g ∷ back) x
 holds_between front g back x c here t k = elim (Contains-append_cases front (g ∷ back) t k) [
   | inl a ↦ c t (Contains-append_left front back t a)
   | inr b ↦ elim (contains_cases g t back b) [
-    | inl e ↦ subst (λ (r : Given). Holds r x) e here
+    | inl e ↦ subst (λ (r : LinearRow). Holds r x) e here
     | inr d ↦ c t (Contains-append_right front back t d)
   ]
 ]
 
 -- ---- as far as one has come: these are kept, and those come later
-abbrev EachSoFar : (List Given → Given → List Given → Type 0) → List Given → List Given → Type 0
-EachSoFar Q kept later = (front : List Given) (g : Given) (back : List Given) → kept ≡ front ++ g ∷ back →
+abbrev EachSoFar : (List LinearRow → LinearRow → List LinearRow → Type 0) → List LinearRow → List LinearRow → Type 0
+EachSoFar Q kept later = (front : List LinearRow) (g : LinearRow) (back : List LinearRow) → kept ≡ front ++ g ∷ back →
     Q front g (back ++ later)
 
-abbrev NeededAmong : ℕ → List Given → List Given → Given → List Given → Type 0
+abbrev NeededAmong : ℕ → List LinearRow → List LinearRow → LinearRow → List LinearRow → Type 0
 NeededAmong n context front g back = ¬ (IsGiven n context (front ++ back) g)
 
-pub record StrainedSoFar (p context : Polyhedron) (kept later : List Given) (loss : Loss) : Type 0 where
-  pub front : List Given
-  pub tried : Given
-  pub back : List Given
+pub record StrainedSoFar (p context : Polyhedron) (kept later : List LinearRow) (loss : Loss) : Type 0 where
+  pub front : List LinearRow
+  pub tried : LinearRow
+  pub back : List LinearRow
   pub are : kept ≡ front ++ tried ∷ back
   pub strains : OwnTrialStrains p context front tried (back ++ later) loss
 
-pub record IsSoFar (p context : Polyhedron) (kept later : List Given) (o : Outcome) : Type 0 where
+pub record IsSoFar (p context : Polyhedron) (kept later : List LinearRow) (o : Outcome) : Type 0 where
   pub same : SameSet p.dims (Meet (Con context.rows) (Con (kept ++ later))) (Meet (Con context.rows) (Con p.rows))
-  pub earlier : List Given
+  pub earlier : List LinearRow
   pub are : p.rows ≡ earlier ++ later
   pub own : IsSublist kept earlier
   pub each : EachSoFar (IsNeededOrStrains p context) kept later
@@ -106,14 +106,14 @@ so_far_first p context = record {
   flagged = tt;
 }
 
-each_last : (Q : List Given → Given → List Given → Type 0) (kept : List Given) → EachSoFar Q kept [] →
-    (front : List Given) (g : Given) (back : List Given) → kept ≡ front ++ g ∷ back → Q front g back
-each_last Q kept f front g back e = subst (λ (l : List Given). Q front g l) (append-nil back) (f front g back e)
+each_last : (Q : List LinearRow → LinearRow → List LinearRow → Type 0) (kept : List LinearRow) → EachSoFar Q kept [] →
+    (front : List LinearRow) (g : LinearRow) (back : List LinearRow) → kept ≡ front ++ g ∷ back → Q front g back
+each_last Q kept f front g back e = subst (λ (l : List LinearRow). Q front g l) (append-nil back) (f front g back e)
 
-pub so_far_last : (p context : Polyhedron) (kept : List Given) (o : Outcome) → IsSoFar p context kept [] o →
+pub so_far_last : (p context : Polyhedron) (kept : List LinearRow) (o : Outcome) → IsSoFar p context kept [] o →
     IsSimplified p context kept o
 so_far_last p context kept o s = record {
-  same = subst (λ (l : List Given). SameSet p.dims (Meet (Con context.rows) (Con l)) (Meet (Con context.rows) (Con p.rows)))
+  same = subst (λ (l : List LinearRow). SameSet p.dims (Meet (Con context.rows) (Con l)) (Meet (Con context.rows) (Con p.rows)))
       (append-nil kept) s.same;
   own = subst (IsSublist kept) (sym (s.are ∙ append-nil s.earlier)) s.own;
   each = each_last (IsNeededOrStrains p context) kept s.each;
@@ -124,24 +124,24 @@ so_far_last p context kept o s = record {
     tried = t.tried;
     back = t.back;
     are = t.are;
-    strains = subst (λ (l : List Given). OwnTrialStrains p context t.front t.tried l loss) (append-nil t.back) t.strains;
+    strains = subst (λ (l : List LinearRow). OwnTrialStrains p context t.front t.tried l loss) (append-nil t.back) t.strains;
   }) s.flagged;
 }
 
 -- ---- one that is given is left out
-each_left : (Q : List Given → Given → List Given → Type 0) (kept : List Given) (g : Given) (later : List Given) →
-    ((front : List Given) (h : Given) (back : List Given) → Q front h (back ++ g ∷ later) → Q front h (back ++ later)) →
+each_left : (Q : List LinearRow → LinearRow → List LinearRow → Type 0) (kept : List LinearRow) (g : LinearRow) (later : List LinearRow) →
+    ((front : List LinearRow) (h : LinearRow) (back : List LinearRow) → Q front h (back ++ g ∷ later) → Q front h (back ++ later)) →
     EachSoFar Q kept (g ∷ later) → EachSoFar Q kept later
 each_left Q kept g later fewer f front h back e = fewer front h back (f front h back e)
 
-needed_left : (n : ℕ) (context : List Given) (g : Given) (later front : List Given) (h : Given) (back : List Given) →
+needed_left : (n : ℕ) (context : List LinearRow) (g : LinearRow) (later front : List LinearRow) (h : LinearRow) (back : List LinearRow) →
     NeededAmong n context front h (back ++ g ∷ later) → NeededAmong n context front h (back ++ later)
 needed_left n context g later front h back needed valid = needed (λ x i m. valid x i (
   m.0,
   holds_fewer (front ++ (back ++ g ∷ later)) (front ++ (back ++ later)) x (wider_behind front back g later) m.1,
 ))
 
-strain_left : (p context : Polyhedron) (g : Given) (later front : List Given) (h : Given) (back : List Given)
+strain_left : (p context : Polyhedron) (g : LinearRow) (later front : List LinearRow) (h : LinearRow) (back : List LinearRow)
     (loss : Loss) → OwnTrialStrains p context front h (back ++ g ∷ later) loss →
     OwnTrialStrains p context front h (back ++ later) loss
 strain_left p context g later front h back loss t = record {
@@ -153,7 +153,7 @@ strain_left p context g later front h back loss t = record {
   strains = t.strains;
 }
 
-pub one_left : (p context : Polyhedron) (kept : List Given) (g : Given) (later : List Given) (o : Outcome) →
+pub one_left : (p context : Polyhedron) (kept : List LinearRow) (g : LinearRow) (later : List LinearRow) (o : Outcome) →
     IsSoFar p context kept (g ∷ later) o → IsGiven p.dims context.rows (kept ++ later) g →
     IsSoFar p context kept later o
 one_left p context kept g later o s given = record {
@@ -183,16 +183,16 @@ one_left p context kept g later o s given = record {
 }
 
 -- ---- one that isn't is kept
-each_kept : (Q : List Given → Given → List Given → Type 0) (kept : List Given) (g : Given) (later : List Given) →
+each_kept : (Q : List LinearRow → LinearRow → List LinearRow → Type 0) (kept : List LinearRow) (g : LinearRow) (later : List LinearRow) →
     EachSoFar Q kept (g ∷ later) → Q kept g later → EachSoFar Q (kept ++ g ∷ []) later
 each_kept Q kept g later f here front h back e = elim (last_split kept g front h back e) [
-  | inl l ↦ subst (λ (b : List Given). Q front h (b ++ later)) (sym l.0)
-      (subst (λ (k : List Given). Q k h later) (sym l.1) (subst (λ (r : Given). Q kept r later) (sym l.2) here))
-  | inr i ↦ subst (λ (b : List Given). Q front h (b ++ later)) (sym i.1)
+  | inl l ↦ subst (λ (b : List LinearRow). Q front h (b ++ later)) (sym l.0)
+      (subst (λ (k : List LinearRow). Q k h later) (sym l.1) (subst (λ (r : LinearRow). Q kept r later) (sym l.2) here))
+  | inr i ↦ subst (λ (b : List LinearRow). Q front h (b ++ later)) (sym i.1)
       (subst (Q front h) (sym (append_assoc i.0 (g ∷ []) later)) (f front h i.0 i.2))
 ]
 
-own_trial : (p context : Polyhedron) (kept : List Given) (g : Given) (later : List Given) (o : Outcome) →
+own_trial : (p context : Polyhedron) (kept : List LinearRow) (g : LinearRow) (later : List LinearRow) (o : Outcome) →
     IsSoFar p context kept (g ∷ later) o → (loss : Loss) →
     TrialStrains p.dims (context.rows ++ (kept ++ later)) g loss → OwnTrialStrains p context kept g later loss
 own_trial p context kept g later o s loss t = record {
@@ -204,29 +204,29 @@ own_trial p context kept g later o s loss t = record {
   strains = t;
 }
 
-needed_or_strains : (p context : Polyhedron) (kept : List Given) (g : Given) (later : List Given) (o told : Outcome) →
+needed_or_strains : (p context : Polyhedron) (kept : List LinearRow) (g : LinearRow) (later : List LinearRow) (o told : Outcome) →
     IsSoFar p context kept (g ∷ later) o → TellsGiven p.dims context.rows (kept ++ later) g (Some told) →
     IsNeededOrStrains p context kept g later
 needed_or_strains p context kept g later o Exact s t = inl t.0
 needed_or_strains p context kept g later o (Flagged loss) s t =
     inr (loss, own_trial p context kept g later o s loss t.1)
 
-strained_more : (p context : Polyhedron) (kept : List Given) (g : Given) (later : List Given) (loss : Loss) →
+strained_more : (p context : Polyhedron) (kept : List LinearRow) (g : LinearRow) (later : List LinearRow) (loss : Loss) →
     StrainedSoFar p context kept (g ∷ later) loss → StrainedSoFar p context (kept ++ g ∷ []) later loss
 strained_more p context kept g later loss s = record {
   front = s.front;
   tried = s.tried;
   back = s.back ++ g ∷ [];
-  are = ap (λ (l : List Given). l ++ g ∷ []) s.are ∙ append_assoc s.front (s.tried ∷ s.back) (g ∷ []);
-  strains = subst (λ (l : List Given). OwnTrialStrains p context s.front s.tried l loss)
+  are = ap (λ (l : List LinearRow). l ++ g ∷ []) s.are ∙ append_assoc s.front (s.tried ∷ s.back) (g ∷ []);
+  strains = subst (λ (l : List LinearRow). OwnTrialStrains p context s.front s.tried l loss)
       (sym (append_assoc s.back (g ∷ []) later)) s.strains;
 }
 
-pub one_kept : (p context : Polyhedron) (kept : List Given) (g : Given) (later : List Given) (o told : Outcome) →
+pub one_kept : (p context : Polyhedron) (kept : List LinearRow) (g : LinearRow) (later : List LinearRow) (o told : Outcome) →
     IsSoFar p context kept (g ∷ later) o → TellsGiven p.dims context.rows (kept ++ later) g (Some told) →
     IsSoFar p context (kept ++ g ∷ []) later (first_of o told)
 one_kept p context kept g later o told s t = record {
-  same = subst (λ (l : List Given). SameSet p.dims (Meet (Con context.rows) (Con l)) (Meet (Con context.rows) (Con p.rows)))
+  same = subst (λ (l : List LinearRow). SameSet p.dims (Meet (Con context.rows) (Con l)) (Meet (Con context.rows) (Con p.rows)))
       (sym (append_assoc kept (g ∷ []) later)) s.same;
   earlier = s.earlier ++ g ∷ [];
   are = s.are ∙ sym (append_assoc s.earlier (g ∷ []) later);
@@ -253,66 +253,66 @@ one_kept p context kept g later o told s t = record {
 drop_at : {K : Type 0} (equal : K → Bool) (rows : List (List ℤ)) (kinds : List K) (i : ℕ) (r : List ℤ) (k : K) →
     slice_get rows i ≡ Some r → slice_get kinds i ≡ Some k →
     drop i (given_by equal rows kinds) ≡
-    (let g : Given = record { row = r; equal = equal k } in g) ∷ drop (suc i) (given_by equal rows kinds)
+    (let g : LinearRow = record { row = r; equal = equal k } in g) ∷ drop (suc i) (given_by equal rows kinds)
 drop_at equal [] kinds i r k er ek = cc
 drop_at equal (x ∷ rows) [] i r k er ek = cc
 drop_at equal (x ∷ rows) (d ∷ kinds) zero r k er ek =
-    ap (λ (y : List ℤ). (let g : Given = record { row = y; equal = equal d } in g) ∷ given_by equal rows kinds)
-    (ap (λ (o : Option (List ℤ)). unwrap_or o x) er) ∙ ap (λ e. (let g : Given = record { row = r; equal = equal e } in g) ∷ given_by equal rows kinds)
+    ap (λ (y : List ℤ). (let g : LinearRow = record { row = y; equal = equal d } in g) ∷ given_by equal rows kinds)
+    (ap (λ (o : Option (List ℤ)). unwrap_or o x) er) ∙ ap (λ e. (let g : LinearRow = record { row = r; equal = equal e } in g) ∷ given_by equal rows kinds)
     (ap (λ o. unwrap_or o d) ek)
 drop_at equal (x ∷ rows) (d ∷ kinds) (suc i) r k er ek = drop_at equal rows kinds i r k er ek
 
 pub at_place : (list : Listed ConKind) (i : ℕ) (r : List ℤ) (k : ConKind) → slice_get list.rows i ≡ Some r →
     slice_get list.kinds i ≡ Some k →
     drop i (constraints list) ≡
-    (let g : Given = record { row = r; equal = is_equality k } in g) ∷ drop (i + 1) (constraints list)
+    (let g : LinearRow = record { row = r; equal = is_equality k } in g) ∷ drop (i + 1) (constraints list)
 at_place list i r k er ek = drop_at is_equality list.rows list.kinds i r k er ek
-    ∙ ap (λ (j : ℕ). (let g : Given = record { row = r; equal = is_equality k } in g) ∷ drop j (constraints list))
+    ∙ ap (λ (j : ℕ). (let g : LinearRow = record { row = r; equal = is_equality k } in g) ∷ drop j (constraints list))
     (sym (add-one i))
 
-pub one_pushed : (list old new : Listed ConKind) (own : List Given) (i j : ℕ) (r : List ℤ) (k : ConKind) →
+pub one_pushed : (list old new : Listed ConKind) (own : List LinearRow) (i j : ℕ) (r : List ℤ) (k : ConKind) →
     slice_get list.rows i ≡ Some r → slice_get list.kinds i ≡ Some k → length old.kinds ≡ length old.rows →
     new.rows ≡ old.rows ++ r ∷ [] → new.kinds ≡ old.kinds ++ k ∷ [] →
     constraints old ++ drop i (constraints list) ≡ own ++ drop j (constraints list) →
     constraints new ++ drop (i + 1) (constraints list) ≡ own ++ drop j (constraints list)
 one_pushed list old new own i j r k er ek c nr nk e =
-    ap (λ (l : List Given). l ++ drop (i + 1) (constraints list)) (constraints_pushed old new r k c nr nk)
+    ap (λ (l : List LinearRow). l ++ drop (i + 1) (constraints list)) (constraints_pushed old new r k c nr nk)
     ∙ append_assoc (constraints old) (record { row = r; equal = is_equality k } ∷ []) (drop (i + 1) (constraints list))
-    ∙ ap (λ (l : List Given). constraints old ++ l) (sym (at_place list i r k er ek)) ∙ e
+    ∙ ap (λ (l : List LinearRow). constraints old ++ l) (sym (at_place list i r k er ek)) ∙ e
 
-pub all_pushed : (list all : Listed ConKind) (own : List Given) (i j : ℕ) → length list.kinds ≡ length list.rows →
+pub all_pushed : (list all : Listed ConKind) (own : List LinearRow) (i j : ℕ) → length list.kinds ≡ length list.rows →
     length list.rows ≤ i → constraints all ++ drop i (constraints list) ≡ own ++ drop j (constraints list) →
     constraints all ≡ own ++ drop j (constraints list)
 all_pushed list all own i j n h e =
     let c = given_length is_equality list.rows list.kinds n in
     sym (append-nil (constraints all))
-    ∙ ap (λ (l : List Given). constraints all ++ l) (sym (drop_all i (constraints list) (omega (arith, c, h)))) ∙ e
+    ∙ ap (λ (l : List LinearRow). constraints all ++ l) (sym (drop_all i (constraints list) (omega (arith, c, h)))) ∙ e
 
 pub at_first : (p context : Polyhedron) (list kept : Listed ConKind) → constraints list ≡ p.rows → kept.rows ≡ [] →
     IsSoFar p context (constraints kept) (constraints list) Exact
 at_first p context list kept el ek =
-    subst (λ (l : List Given). IsSoFar p context (constraints kept) l Exact) (sym el)
+    subst (λ (l : List LinearRow). IsSoFar p context (constraints kept) l Exact) (sym el)
     (subst (λ (l : List (List ℤ)). IsSoFar p context (given_by is_equality l kept.kinds) p.rows Exact) (sym ek)
     (so_far_first p context))
 
 -- the one at the place, and those behind it
-pub told_at : (n : ℕ) (context : List Given) (list kept others : Listed ConKind) (i : ℕ) (r : List ℤ) (k : ConKind)
+pub told_at : (n : ℕ) (context : List LinearRow) (list kept others : Listed ConKind) (i : ℕ) (r : List ℤ) (k : ConKind)
     (told : Option Outcome) → slice_get list.rows i ≡ Some r → slice_get list.kinds i ≡ Some k →
     constraints others ≡ constraints kept ++ drop (i + 1) (constraints list) →
     TellsGiven n context (constraints others) (record { row = r; equal = is_equality k }) told →
-    (g : Given) (later : List Given) → drop i (constraints list) ≡ g ∷ later →
+    (g : LinearRow) (later : List LinearRow) → drop i (constraints list) ≡ g ∷ later →
     TellsGiven n context (constraints kept ++ later) g told
 told_at n context list kept others i r k told er ek eo t g later e =
     let same = sym (at_place list i r k er ek) ∙ e in
-    subst (λ (h : Given). TellsGiven n context (constraints kept ++ later) h told)
-    (ap (λ (l : List Given). get_or l 0 g) same)
-    (subst (λ (l : List Given). TellsGiven n context (constraints kept ++ l) (record { row = r; equal = is_equality k }) told)
+    subst (λ (h : LinearRow). TellsGiven n context (constraints kept ++ later) h told)
+    (ap (λ (l : List LinearRow). get_or l 0 g) same)
+    (subst (λ (l : List LinearRow). TellsGiven n context (constraints kept ++ l) (record { row = r; equal = is_equality k }) told)
     (ap behind same)
-    (subst (λ (l : List Given). TellsGiven n context l (record { row = r; equal = is_equality k }) told) eo t))
+    (subst (λ (l : List LinearRow). TellsGiven n context l (record { row = r; equal = is_equality k }) told) eo t))
 
 -- a place that there is has a row and a kind
 pub row_at : (list : Listed ConKind) (i : ℕ) → length list.kinds ≡ length list.rows → i < length list.rows →
-    (g : Given) × (drop i (constraints list) ≡ g ∷ drop (i + 1) (constraints list))
+    (g : LinearRow) × (drop i (constraints list) ≡ g ∷ drop (i + 1) (constraints list))
 row_at list i n h =
     let r = some_at list.rows i h in
     let k = some_at list.kinds i (omega (arith, n, h)) in
@@ -327,32 +327,32 @@ row_at list i n h =
 pub place_left : (p context : Polyhedron) (list kept : Listed ConKind) (i n : ℕ) (o : Outcome) → n ≡ p.dims →
     length list.kinds ≡ length list.rows → i < length list.rows →
     IsSoFar p context (constraints kept) (drop i (constraints list)) o →
-    ((g : Given) (later : List Given) → drop i (constraints list) ≡ g ∷ later →
+    ((g : LinearRow) (later : List LinearRow) → drop i (constraints list) ≡ g ∷ later →
     TellsGiven n context.rows (constraints kept ++ later) g None) →
     IsSoFar p context (constraints kept) (drop (i + 1) (constraints list)) o
 place_left p context list kept i n o en c h s t =
     let here = row_at list i c h in
     one_left p context (constraints kept) here.0 (drop (i + 1) (constraints list)) o
-    (subst (λ (l : List Given). IsSoFar p context (constraints kept) l o) here.1 s)
+    (subst (λ (l : List LinearRow). IsSoFar p context (constraints kept) l o) here.1 s)
     (subst (λ (m : ℕ). IsGiven m context.rows (constraints kept ++ drop (i + 1) (constraints list)) here.0) en
     (t here.0 (drop (i + 1) (constraints list)) here.1))
 
 pub place_kept : (p context : Polyhedron) (list kept more : Listed ConKind) (i n : ℕ) (r : List ℤ) (k : ConKind)
     (o told all : Outcome) → n ≡ p.dims → slice_get list.rows i ≡ Some r →
     slice_get list.kinds i ≡ Some k → IsSoFar p context (constraints kept) (drop i (constraints list)) o →
-    ((g : Given) (later : List Given) → drop i (constraints list) ≡ g ∷ later →
+    ((g : LinearRow) (later : List LinearRow) → drop i (constraints list) ≡ g ∷ later →
     TellsGiven n context.rows (constraints kept ++ later) g (Some told)) →
     length kept.kinds ≡ length kept.rows → more.rows ≡ kept.rows ++ r ∷ [] → more.kinds ≡ kept.kinds ++ k ∷ [] →
     all ≡ first_of o told → IsSoFar p context (constraints more) (drop (i + 1) (constraints list)) all
 place_kept p context list kept more i n r k o told all en er ek s t c mr mk ea =
-    let g : Given = record { row = r; equal = is_equality k } in
+    let g : LinearRow = record { row = r; equal = is_equality k } in
     let later = drop (i + 1) (constraints list) in
     let here = at_place list i r k er ek in
     subst (IsSoFar p context (constraints more) later) (sym ea)
-    (subst (λ (l : List Given). IsSoFar p context l later (first_of o told))
+    (subst (λ (l : List LinearRow). IsSoFar p context l later (first_of o told))
     (sym (constraints_pushed kept more r k c mr mk))
     (one_kept p context (constraints kept) g later o told
-    (subst (λ (l : List Given). IsSoFar p context (constraints kept) l o) here s)
+    (subst (λ (l : List LinearRow). IsSoFar p context (constraints kept) l o) here s)
     (subst (λ (m : ℕ). TellsGiven m context.rows (constraints kept ++ later) g (Some told)) en (t g later here))))
 
 pub all_told : (p context : Polyhedron) (list kept : Listed ConKind) (i : ℕ) (o : Outcome) →
@@ -361,5 +361,5 @@ pub all_told : (p context : Polyhedron) (list kept : Listed ConKind) (i : ℕ) (
 all_told p context list kept i o n h s =
     let c = given_length is_equality list.rows list.kinds n in
     so_far_last p context (constraints kept) o
-    (subst (λ (l : List Given). IsSoFar p context (constraints kept) l o)
+    (subst (λ (l : List LinearRow). IsSoFar p context (constraints kept) l o)
     (drop_all i (constraints list) (omega (arith, c, h))) s)

@@ -7,14 +7,14 @@ use Rattle.std.proofs.lemmas.Int.{ints}
 use Rattle.std.specs.List.{All}
 use Rattle.std.proofs.lemmas.List.{take_all}
 use Rattle.std.proofs.lemmas.List.Elements.{All-cons, All-tail}
-use Rattle.lra_linear.specs.Range.{InRange}
-use Rattle.lra_linear.proofs.Lines.{zeros_length}
-use Rattle.lra_linear.specs.Descriptions.{equality, inequality}
-use Rattle.lra_linear.specs.OperationStrain.{unit_row}
-use Rattle.lra_linear.specs.Polyhedra.{falsity}
-use Rattle.lra_linear.specs.Vectors.{entry, negated, zeros}
-use Rattle.lra_linear.proofs.LowestTerms.{signed_quotient_is}
-use Rattle.lra_linear.proofs.Ring.{ring, v, ◌⊕◌, ◌⊗◌}
+use Rattle.lra_linear_spec.specs.Range.{InRange}
+use Rattle.lra_linear_spec.proofs.Lines.{zeros_length}
+use Rattle.lra_linear_spec.specs.Descriptions.{equality, inequality}
+use Rattle.lra_linear_spec.specs.OperationStrain.{unit_row}
+use Rattle.lra_linear_spec.specs.Polyhedra.{falsity}
+use Rattle.lra_linear_spec.specs.Vectors.{entry, negated, zeros}
+use Rattle.lra_linear_spec.proofs.LowestTerms.{signed_quotient_is}
+use Rattle.lra_linear_spec.proofs.Ring.{ring, v, ◌⊕◌, ◌⊗◌}
 use Rattle.lra_row.specs.Rows.{IsRowGcd}
 use Rattle.lra_row.proofs.Ratio.{euclid, rem_bounds}
 use Rattle.lra_row.proofs.RowLemmas.{divided, divided_in_range, lowest_divided, lowest_same, quotient_signed}

@@ -4,20 +4,20 @@ use Rattle.std.proofs.Common.{◌+◌, ◌≤◌, get_or, take}
 use Rattle.std.proofs.Common.{ℤ, pos, neg_ℤ, ◌+ℤ◌, ◌*ℤ◌, ◌<ℤ◌, ◌≤ℤ◌, inl, inr, arith}
 use Rattle.std.specs.Prelude.{◌↔◌}
 use Rattle.std.proofs.lemmas.Int.{ints}
-use Rattle.lra_linear.specs.Descriptions.{Con, Given, equality, inequality}
-use Rattle.lra_linear.specs.LowestTerms.{IsPrimitive}
-use Rattle.lra_linear.specs.Points.{IsPoint, IsWithin}
-use Rattle.lra_linear.specs.Polyhedra.{falsity}
-use Rattle.lra_linear.specs.Vectors.{entry, product}
-use Rattle.lra_linear.proofs.Descriptions.{con_cons, con_head, con_none, con_tail}
-use Rattle.lra_linear.proofs.Lines.{entry_zeros}
-use Rattle.lra_linear.proofs.OneSpelling.{falsity_never}
-use Rattle.lra_linear.proofs.Products.{dot_same, dot_scale, product_comm}
-use Rattle.lra_linear.proofs.Ring.{mul_nonnegative, ring, v, ⊖, ◌⊕◌, ◌⊗◌}
-use Rattle.lra_linear.proofs.Signs.{cases_sign, no_product}
+use Rattle.lra_linear_spec.specs.Descriptions.{Con, LinearRow, equality, inequality}
+use Rattle.lra_linear_spec.specs.LowestTerms.{IsPrimitive}
+use Rattle.lra_linear_spec.specs.Points.{IsPoint, IsWithin}
+use Rattle.lra_linear_spec.specs.Polyhedra.{falsity}
+use Rattle.lra_linear_spec.specs.Vectors.{entry, product}
+use Rattle.lra_linear_spec.proofs.Descriptions.{con_cons, con_head, con_none, con_tail}
+use Rattle.lra_linear_spec.proofs.Lines.{entry_zeros}
+use Rattle.lra_linear_spec.proofs.OneSpelling.{falsity_never}
+use Rattle.lra_linear_spec.proofs.Products.{dot_same, dot_scale, product_comm}
+use Rattle.lra_linear_spec.proofs.Ring.{mul_nonnegative, ring, v, ⊖, ◌⊕◌, ◌⊗◌}
+use Rattle.lra_linear_spec.proofs.Signs.{cases_sign, no_product}
 use Rattle.std.proofs.lemmas.List.{get_or_default, length-append, take_all}
-use Rattle.lra_linear.specs.Kinds.{is_equality}
-use Rattle.lra_linear.specs.declared.ConKind.{ConKind}
+use Rattle.lra_linear_spec.specs.Kinds.{is_equality}
+use Rattle.lra_linear_spec.specs.declared.ConKind.{ConKind}
 use Rattle.lra_sys.specs.Listed.{Listed, constraints, given_by}
 use Rattle.lra_sys.proofs.GivenRows.{constraints_pushed, given_more}
 use Rattle.lra_queries.specs.Tightened.{AreTightened, IsTightened}
@@ -154,7 +154,7 @@ no_store_tightened n c q cs ds d some each low above = record {
     one : (c y : ℤ) → (c *ℤ pos 1) +ℤ y ≡ pos 0 → c +ℤ y ≡ pos 0
     one c y h = omega (arith, ints, h)
 
-pub as_it_is : (n : ℕ) (g : Given) → IsPrimitive (drop 1 g.row) ⊎ ((j : ℕ) → entry (drop 1 g.row) j ≡ pos 0) →
+pub as_it_is : (n : ℕ) (g : LinearRow) → IsPrimitive (drop 1 g.row) ⊎ ((j : ℕ) → entry (drop 1 g.row) j ≡ pos 0) →
     IsTightened n g g
 as_it_is n g tight = record {
   stores = λ s w. (λ h. h, λ h. h);
@@ -163,21 +163,21 @@ as_it_is n g tight = record {
 }
 
 -- ---- lists
-pub tightened_more : (n : ℕ) (gs ts : List Given) (g t : Given) → AreTightened n gs ts → IsTightened n g t →
+pub tightened_more : (n : ℕ) (gs ts : List LinearRow) (g t : LinearRow) → AreTightened n gs ts → IsTightened n g t →
     AreTightened n (gs ++ g ∷ []) (ts ++ t ∷ [])
 tightened_more n [] [] g t all one = (one, tt)
 tightened_more n [] (u ∷ ts) g t all one = absurd all
 tightened_more n (h ∷ gs) [] g t all one = absurd all
 tightened_more n (h ∷ gs) (u ∷ ts) g t all one = (all.0, tightened_more n gs ts g t all.1 one)
 
-pub tightened_within : (n : ℕ) (gs ts : List Given) → AreTightened n gs ts → IsWithin n (Con ts) (Con gs)
+pub tightened_within : (n : ℕ) (gs ts : List LinearRow) → AreTightened n gs ts → IsWithin n (Con ts) (Con gs)
 tightened_within n [] [] all x i h = con_none x
 tightened_within n [] (u ∷ ts) all x i h = absurd all
 tightened_within n (g ∷ gs) [] all x i h = absurd all
 tightened_within n (g ∷ gs) (t ∷ ts) all x i h =
     con_cons g gs x (all.0.within x i (con_head t ts x h)) (tightened_within n gs ts all.1 x i (con_tail t ts x h))
 
-pub tightened_stores : (n : ℕ) (gs ts : List Given) → AreTightened n gs ts → (s : List ℤ) → length s ≡ n →
+pub tightened_stores : (n : ℕ) (gs ts : List LinearRow) → AreTightened n gs ts → (s : List ℤ) → length s ≡ n →
     (Con gs (pos 1 ∷ s) ↔ Con ts (pos 1 ∷ s))
 tightened_stores n [] [] all s w = (λ h. con_none (pos 1 ∷ s), λ h. con_none (pos 1 ∷ s))
 tightened_stores n [] (u ∷ ts) all s w = absurd all
@@ -200,11 +200,11 @@ pub one_tightened : (n : ℕ) (rows : List (List ℤ)) (kinds : List ConKind) (i
     (record { row = t; equal = is_equality k }) →
     AreTightened n (given_by is_equality (take (i + 1) rows) (take (i + 1) kinds)) (constraints new)
 one_tightened n rows kinds i r d old new t k c h e m er ek all dims same one =
-    subst (λ (l : List Given). AreTightened n l (constraints new))
+    subst (λ (l : List LinearRow). AreTightened n l (constraints new))
     (sym (given_more is_equality rows kinds i r (get_or kinds i d) (sym c) h e
     (get_or_default kinds i d (get_or kinds i d) (omega (arith, h, c)))))
     (subst (AreTightened n (given_by is_equality (take i rows) (take i kinds) ++
-    (let g : Given = record { row = r; equal = is_equality (get_or kinds i d) } in g) ∷ []))
+    (let g : LinearRow = record { row = r; equal = is_equality (get_or kinds i d) } in g) ∷ []))
     (sym (constraints_pushed old new t k m er ek))
     (tightened_more n (given_by is_equality (take i rows) (take i kinds)) (constraints old)
     (record { row = r; equal = is_equality (get_or kinds i d) }) (record { row = t; equal = is_equality k }) all
@@ -222,6 +222,6 @@ pub all_tightened : (n : ℕ) (list all : Listed ConKind) (rows : List (List ℤ
     AreTightened n (constraints list) (constraints all)
 all_tightened n list all rows kinds i er ek c h =
     let s = ap length er in
-    λ t. subst (λ (l : List Given). AreTightened n l (constraints all))
+    λ t. subst (λ (l : List LinearRow). AreTightened n l (constraints all))
     (ap (λ (l : List (List ℤ)). given_by is_equality l (take i kinds)) (take_all i rows h ∙ er)
     ∙ ap (given_by is_equality list.rows) (take_all i kinds (omega (arith, h, c, s)) ∙ ek)) t

@@ -1,8 +1,8 @@
 -- The least box around a polyhedron: of each coordinate the least and the greatest value.
 use Rattle.std.specs.Prelude.{◌≡◌, ℕ, suc, ℤ, List, length, IfSome, Option, None, Some, slice_get}
-use Rattle.lra_linear.specs.OperationStrain.{unit_row}
-use Rattle.lra_linear.specs.Polyhedra.{Polyhedron}
-use Rattle.lra_linear.specs.Range.{InRange}
+use Rattle.lra_linear_spec.specs.OperationStrain.{unit_row}
+use Rattle.lra_linear_spec.specs.Polyhedra.{Polyhedron}
+use Rattle.lra_linear_spec.specs.Range.{InRange}
 use Rattle.lra_duality.specs.Maxima.{IsGreatestValue, IsUnbounded}
 use Rattle.lra_queries.specs.Minima.{IsLeastValue, IsUnboundedBelow}
 use Rattle.lra_queries.specs.declared.boxes.Extent.{Extent}

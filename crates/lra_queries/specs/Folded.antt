@@ -1,11 +1,11 @@
 -- Dimensions folded into others: the hull of the points along the ones and along the others.
 use Rattle.std.specs.Prelude.{◌⊎◌, ℕ, List, length}
-use Rattle.lra_linear.specs.Descriptions.{Con}
-use Rattle.lra_linear.specs.OperationStrain.{HullStrains}
-use Rattle.lra_linear.specs.Points.{PointSet}
-use Rattle.lra_linear.specs.Polyhedra.{IsPolyhedronOf, Polyhedron}
-use Rattle.lra_linear.specs.SetOperations.{Hull, Union}
-use Rattle.lra_linear.specs.Strain.{Loss}
+use Rattle.lra_linear_spec.specs.Descriptions.{Con}
+use Rattle.lra_linear_spec.specs.OperationStrain.{HullStrains}
+use Rattle.lra_linear_spec.specs.Points.{PointSet}
+use Rattle.lra_linear_spec.specs.Polyhedra.{IsPolyhedronOf, Polyhedron}
+use Rattle.lra_linear_spec.specs.SetOperations.{Hull, Union}
+use Rattle.lra_linear_spec.specs.Strain.{Loss}
 use Rattle.lra_queries.specs.Moved.{MapDimsStrains, Moved}
 
 abbrev pub Folded : Polyhedron → List ℕ → List ℕ → PointSet

@@ -1,13 +1,13 @@
 -- The least value of a form on a polyhedron: with its sign turned, the greatest value of the form's opposite.
 use Rattle.std.specs.Prelude.{ℤ, pos, neg_ℤ, ◌*ℤ◌, ◌<ℤ◌, ◌≤ℤ◌, ⊤, List, [], ◌∷◌}
-use Rattle.lra_linear.specs.declared.Excess as E
-use Rattle.lra_linear.specs.Descriptions.{Given, Con}
-use Rattle.lra_linear.specs.LowestTerms.{IsPrimitive}
-use Rattle.lra_linear.specs.OperationStrain.{MaximiseStrains}
-use Rattle.lra_linear.specs.Points.{IsPoint, IsEmptySet}
-use Rattle.lra_linear.specs.Polyhedra.{Polyhedron}
-use Rattle.lra_linear.specs.Range.{InRange}
-use Rattle.lra_linear.specs.Vectors.{entry, negated, product}
+use Rattle.lra_linear_spec.specs.declared.Excess as E
+use Rattle.lra_linear_spec.specs.Descriptions.{LinearRow, Con}
+use Rattle.lra_linear_spec.specs.LowestTerms.{IsPrimitive}
+use Rattle.lra_linear_spec.specs.OperationStrain.{MaximiseStrains}
+use Rattle.lra_linear_spec.specs.Points.{IsPoint, IsEmptySet}
+use Rattle.lra_linear_spec.specs.Polyhedra.{Polyhedron}
+use Rattle.lra_linear_spec.specs.Range.{InRange}
+use Rattle.lra_linear_spec.specs.Vectors.{entry, negated, product}
 use Rattle.lra_duality.specs.Maxima.{HasValue, IsMaximum}
 use Rattle.lra_duality.specs.declared.maximum.Maximum.{Maximum}
 use Rattle.lra_duality.specs.declared.maximum.Maximum.TheVariants as greatest
@@ -46,7 +46,7 @@ turned (Wide place) = greatest.Wide place
 turned (Unbounded place) = greatest.Unbounded place
 turned (At num den place) = greatest.At (neg_ℤ num) den place
 
-abbrev pub IsMinimum : List ℤ → List Given → Minimum → Type 0
+abbrev pub IsMinimum : List ℤ → List LinearRow → Minimum → Type 0
 IsMinimum form generators m = IsMaximum (negated form) generators (turned m)
 
 -- a value that is told is of numbers in the range

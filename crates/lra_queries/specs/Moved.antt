@@ -1,11 +1,11 @@
 -- Dimensions moved: each new dimension is, in turn, one of the old ones.
 use Rattle.std.specs.Prelude.{ℕ, suc, ℤ, List, ◌∷◌, length, map}
-use Rattle.lra_linear.specs.Descriptions.{Con, Given}
-use Rattle.lra_linear.specs.OperationStrain.{GeneratorsStrain}
-use Rattle.lra_linear.specs.Points.{IsPoint, PointSet, SamePoint}
-use Rattle.lra_linear.specs.Polyhedra.{Polyhedron}
-use Rattle.lra_linear.specs.Strain.{Loss}
-use Rattle.lra_linear.specs.Vectors.{entry}
+use Rattle.lra_linear_spec.specs.Descriptions.{Con, LinearRow}
+use Rattle.lra_linear_spec.specs.OperationStrain.{GeneratorsStrain}
+use Rattle.lra_linear_spec.specs.Points.{IsPoint, PointSet, SamePoint}
+use Rattle.lra_linear_spec.specs.Polyhedra.{Polyhedron}
+use Rattle.lra_linear_spec.specs.Strain.{Loss}
+use Rattle.lra_linear_spec.specs.Vectors.{entry}
 
 -- the row with its column 0, then the columns of these dimensions
 abbrev pub chosen : List ℕ → List ℤ → List ℤ
@@ -19,7 +19,7 @@ pub record Moved (n : ℕ) (dims : List ℕ) (P : PointSet) (x : List ℤ) : Typ
   pub same : SamePoint x (chosen dims from)
 
 -- the generators moved, which are taken in
-abbrev pub moved : List ℕ → List Given → List Given
+abbrev pub moved : List ℕ → List LinearRow → List LinearRow
 moved dims generators = map (λ g. record { row = chosen dims g.row; equal = g.equal }) generators
 
 abbrev pub MapDimsStrains : List ℕ → Polyhedron → Loss → Type 0

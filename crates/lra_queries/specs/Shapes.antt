@@ -1,11 +1,11 @@
 -- What a polyhedron is as a whole: all points, or bounded; how many dimensions it has.
 use Rattle.std.specs.Prelude.{◌≡◌, ◌↔◌, ◌+◌, ℕ, suc, ℤ, pos, List, [], length}
-use Rattle.lra_linear.specs.Descriptions.{Con, equality}
-use Rattle.lra_linear.specs.Echelon.{IsEchelon, Spanned}
-use Rattle.lra_linear.specs.Points.{IsPoint, SameSet}
-use Rattle.lra_linear.specs.Polyhedra.{Polyhedron}
-use Rattle.lra_linear.specs.SetOperations.{ValidOn}
-use Rattle.lra_linear.specs.Vectors.{entry}
+use Rattle.lra_linear_spec.specs.Descriptions.{Con, equality}
+use Rattle.lra_linear_spec.specs.Echelon.{IsEchelon, Spanned}
+use Rattle.lra_linear_spec.specs.Points.{IsPoint, SameSet}
+use Rattle.lra_linear_spec.specs.Polyhedra.{Polyhedron}
+use Rattle.lra_linear_spec.specs.SetOperations.{ValidOn}
+use Rattle.lra_linear_spec.specs.Vectors.{entry}
 use Rattle.lra_duality.specs.Maxima.{IsAtMost}
 
 -- each point is in it

@@ -1,18 +1,18 @@
 -- Constraints rounded to whole points. A store of whole numbers s is the point with the divisor 1.
 use Rattle.std.specs.Prelude.{◌≡◌, ◌↔◌, ◌⊎◌, ℕ, ℤ, pos, List, ◌∷◌, [], length, drop}
-use Rattle.lra_linear.specs.Descriptions.{Given, Holds}
-use Rattle.lra_linear.specs.LowestTerms.{IsPrimitive}
-use Rattle.lra_linear.specs.Points.{IsWithin}
-use Rattle.lra_linear.specs.Vectors.{entry}
+use Rattle.lra_linear_spec.specs.Descriptions.{LinearRow, Holds}
+use Rattle.lra_linear_spec.specs.LowestTerms.{IsPrimitive}
+use Rattle.lra_linear_spec.specs.Points.{IsWithin}
+use Rattle.lra_linear_spec.specs.Vectors.{entry}
 
 -- the same stores, and no further points; only 1 divides each coefficient, or all are 0
-pub record IsTightened (n : ℕ) (g t : Given) : Type 0 where
+pub record IsTightened (n : ℕ) (g t : LinearRow) : Type 0 where
   pub stores : (s : List ℤ) → length s ≡ n → (Holds g (pos 1 ∷ s) ↔ Holds t (pos 1 ∷ s))
   pub within : IsWithin n (Holds t) (Holds g)
   pub tight : IsPrimitive (drop 1 t.row) ⊎ ((j : ℕ) → entry (drop 1 t.row) j ≡ pos 0)
 
 -- each in its turn
-abbrev pub AreTightened : ℕ → List Given → List Given → Type 0
+abbrev pub AreTightened : ℕ → List LinearRow → List LinearRow → Type 0
 AreTightened n [] [] = Unit {0}
 AreTightened n [] (t ∷ ts) = ⊥
 AreTightened n (g ∷ gs) [] = ⊥

@@ -1,15 +1,15 @@
 //! Constraints without those that a context gives.
 
 ghost use Rattle.std.specs.Prelude.{◌≡◌, ◌∷◌, ◌++◌, ◌<◌, ◌≤◌, List, [], suc, drop, length, IfOk};
-ghost use Rattle.lra_linear.specs.Descriptions.{Given};
-ghost use Rattle.lra_linear.specs.Kinds.{is_equality};
-ghost use Rattle.lra_linear.specs.declared.Cause.TheVariants as of_cause;
+ghost use Rattle.lra_linear_spec.specs.Descriptions.{LinearRow};
+ghost use Rattle.lra_linear_spec.specs.Kinds.{is_equality};
+ghost use Rattle.lra_linear_spec.specs.declared.Cause.TheVariants as of_cause;
 ghost use Rattle.lra_sys.specs.Listed.{constraints};
 ghost use Rattle.lra_queries.specs.Simplified.{IsSimplified, TellsGiven};
 
 use crate::relation::relate;
 use lra_cone::Loss;
-use lra_linear::{Cause, ConKind, Excess};
+use lra_linear_spec::{Cause, ConKind, Excess};
 use lra_poly::{Outcome, Poly};
 use lra_row::Row;
 use lra_sys::{ConSys, TOO_MANY_DIMENSIONS};
@@ -96,7 +96,7 @@ fn try_at(
     requires kept { kept.now.dims ≡ context.now.dims }
     requires list { list.now.dims ≡ context.now.dims }
     requires place { place < length list.now.rows }
-    ensures { IfOk result (λ told. (g : Given) (later : List Given) →
+    ensures { IfOk result (λ told. (g : LinearRow) (later : List LinearRow) →
         drop place (constraints list.now) ≡ g ∷ later →
         TellsGiven context.now.dims context.now.rows (constraints kept.now ++ later) g told) }
 {

@@ -1,8 +1,8 @@
 //! Polyhedra side by side.
 
 ghost use Rattle.std.specs.Prelude.{◌≡◌, ◌<◌, ◌+◌, ◌++◌, length, replicate, IfOk};
-ghost use Rattle.lra_linear.specs.Descriptions.{Con};
-ghost use Rattle.lra_linear.specs.Kinds.{is_equality};
+ghost use Rattle.lra_linear_spec.specs.Descriptions.{Con};
+ghost use Rattle.lra_linear_spec.specs.Kinds.{is_equality};
 ghost use Rattle.lra_poly.specs.Outcomes.{Becomes};
 ghost use Rattle.lra_sys.specs.Dimensions.{too_many_dimensions};
 ghost use Rattle.lra_sys.specs.Listed.{constraints};
@@ -12,7 +12,7 @@ ghost use Rattle.lra_queries.specs.Moved.{moved};
 ghost use Rattle.lra_queries.specs.Related.{ExtendStrains, Extended, ImageRelationStrains, Related, replaced};
 
 use crate::moving::{choose, map_dims};
-use lra_linear::ConKind;
+use lra_linear_spec::ConKind;
 use lra_poly::{Outcome, Poly};
 use lra_row::Row;
 use lra_sys::ConSys;

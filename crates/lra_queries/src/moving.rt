@@ -1,9 +1,9 @@
 //! Dimensions moved, dropped and folded.
 
 ghost use Rattle.std.specs.Prelude.{◌≡◌, ◌<◌, suc, length, IfOk};
-ghost use Rattle.lra_linear.specs.Descriptions.{Con};
-ghost use Rattle.lra_linear.specs.Range.{InRange};
-ghost use Rattle.lra_linear.specs.Vectors.{entry};
+ghost use Rattle.lra_linear_spec.specs.Descriptions.{Con};
+ghost use Rattle.lra_linear_spec.specs.Range.{InRange};
+ghost use Rattle.lra_linear_spec.specs.Vectors.{entry};
 ghost use Rattle.lra_poly.specs.Outcomes.{Becomes};
 ghost use Rattle.lra_sys.specs.Listed.{generators, FitKinds};
 ghost use Rattle.lra_queries.specs.Folded.{FoldStrains, Folded};
@@ -15,7 +15,7 @@ use lra_sys::{GenSys, TOO_MANY_DIMENSIONS};
 use std::alloc::{AllocError, Global};
 
 // The row's number along a dimension, 0 past the last one.
-#[tactic(auto, using(lra_linear::proofs::Products::entry_past))]
+#[tactic(auto, using(lra_linear_spec::proofs::Products::entry_past))]
 fn coordinate(row: &Row, dim: usize) -> i128
     ensures entry { result ≡ entry row.now (suc dim) }
     ensures in_range { InRange result }

@@ -3,17 +3,17 @@
 ghost use Rattle.std.specs.Prelude.{◌≡◌, ◌↔◌, ◌⊎◌, ◌∷◌, ◌<◌, ◌<ℤ◌, [], suc, pos, length, IsTrue, IfErr, IfOk};
 ghost use Rattle.std.specs.Prelude.{Err, false, true};
 ghost use Rattle.std.specs.List.{All};
-ghost use Rattle.lra_linear.specs.CheckedArithmetic.{checked_product};
-ghost use Rattle.lra_linear.specs.Descriptions.{Given, inequality};
-ghost use Rattle.lra_linear.specs.Kinds.{is_equality};
-ghost use Rattle.lra_linear.specs.OperationStrain.{ProductsPass};
-ghost use Rattle.lra_linear.specs.Vectors.{entry};
+ghost use Rattle.lra_linear_spec.specs.CheckedArithmetic.{checked_product};
+ghost use Rattle.lra_linear_spec.specs.Descriptions.{LinearRow, inequality};
+ghost use Rattle.lra_linear_spec.specs.Kinds.{is_equality};
+ghost use Rattle.lra_linear_spec.specs.OperationStrain.{ProductsPass};
+ghost use Rattle.lra_linear_spec.specs.Vectors.{entry};
 ghost use Rattle.lra_duality.specs.Maxima.{StaysInRange};
 ghost use Rattle.lra_sys.specs.Listed.{generators};
 ghost use Rattle.lra_queries.specs.Relations.{AreMissed, IsRelation, MissesAt};
 
 use lra_duality::accepts;
-use lra_linear::{ConKind, Excess};
+use lra_linear_spec::{ConKind, Excess};
 use lra_poly::Poly;
 use lra_row::{Row, opposite};
 use lra_sys::GenSys;
@@ -75,7 +75,7 @@ fn misses_zero(generator: &Row, value: i128) -> bool
 fn missed_with(form: &Row, generator: &Row, line: bool) -> Result<Missed, Excess>
     requires width { length form.now ≡ length generator.now }
     requires some { 0 < length generator.now }
-    ensures misses { IfOk result (λ m. (g : Given) → g.row ≡ generator.now → g.equal ≡ line →
+    ensures misses { IfOk result (λ m. (g : LinearRow) → g.row ≡ generator.now → g.equal ≡ line →
         MissesAt form.now g m) }
     ensures product { IfOk result (λ _. StaysInRange form.now (record { row = generator.now; equal = line })) }
     ensures wide { IfErr result (λ e. checked_product form.now generator.now ≡ Err e) }

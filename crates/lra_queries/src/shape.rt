@@ -2,12 +2,12 @@
 
 ghost use Rattle.std.specs.Prelude.{◌≡◌, ◌↔◌, IsNone, IsTrue, IfSome};
 ghost use Rattle.std.specs.List.{All, prefix_len};
-ghost use Rattle.lra_linear.specs.Descriptions.{Con};
-ghost use Rattle.lra_linear.specs.Kinds.{is_equality};
-ghost use Rattle.lra_linear.specs.Points.{IsEmptySet};
+ghost use Rattle.lra_linear_spec.specs.Descriptions.{Con};
+ghost use Rattle.lra_linear_spec.specs.Kinds.{is_equality};
+ghost use Rattle.lra_linear_spec.specs.Points.{IsEmptySet};
 ghost use Rattle.lra_queries.specs.Shapes.{AffineDimension, IsBounded, IsUniverse};
 
-use lra_linear::{ConKind, GenKind};
+use lra_linear_spec::{ConKind, GenKind};
 use lra_poly::Poly;
 
 /// Whether it has all points.

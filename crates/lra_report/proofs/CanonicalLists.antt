@@ -2,12 +2,12 @@
 use Rattle.std.proofs.Common.{◌≡◌, ℕ, zero, suc, ◌<◌, ℤ, pos, negsuc, nat_abs, ◌<ℤ◌, false, List, [], ◌∷◌, refl, ap, arith, inl, inr}
 use Rattle.std.specs.List.{AllByRecursion}
 use Rattle.std.proofs.lemmas.Int.{ints}
-use Rattle.lra_linear.specs.Range.{InRange}
-use Rattle.lra_linear.specs.Vectors.{entry}
-use Rattle.lra_linear.specs.LowestTerms.{IsPrimitive}
-use Rattle.lra_linear.specs.Echelon.{Leads}
-use Rattle.lra_linear.specs.declared.ConKind.TheVariants as con
-use Rattle.lra_linear.specs.declared.GenKind.TheVariants as gen
+use Rattle.lra_linear_spec.specs.Range.{InRange}
+use Rattle.lra_linear_spec.specs.Vectors.{entry}
+use Rattle.lra_linear_spec.specs.LowestTerms.{IsPrimitive}
+use Rattle.lra_linear_spec.specs.Echelon.{HasPivot}
+use Rattle.lra_linear_spec.specs.declared.ConKind.TheVariants as con
+use Rattle.lra_linear_spec.specs.declared.GenKind.TheVariants as gen
 use Rattle.lra_sys.specs.Listed.{FitsKind}
 use Rattle.lra_show.specs.Shown.{report_row, report_generator}
 use Rattle.lra_show.specs.Texts.{is_turned}
@@ -28,12 +28,12 @@ all_flat (pos zero ∷ cs) flat = all_flat cs (λ j. flat (suc j))
 all_flat (pos (suc n) ∷ cs) flat = refl
 all_flat (negsuc n ∷ cs) flat = let wrong : negsuc n ≡ pos 0 = flat 0 in cc
 
-leads_up : (c : ℤ) (cs : List ℤ) (p : ℕ) → Leads (c ∷ cs) p → is_turned cs ≡ false
+leads_up : (c : ℤ) (cs : List ℤ) (p : ℕ) → HasPivot (c ∷ cs) p → is_turned cs ≡ false
 leads_up c cs zero h = all_flat cs (λ j. h.before (suc j) (omega arith, inr refl))
 leads_up c cs (suc q) h = lead_up cs q (λ j k. h.before (suc j) (omega arith, inl (omega arith))) h.here
 
 -- a row of an echelon form as an equality
-pub spelled_equality : (r : List ℤ) (p : ℕ) → Leads r p → AllByRecursion InRange r → IsSpelledRow (report_row r con.Eq)
+pub spelled_equality : (r : List ℤ) (p : ℕ) → HasPivot r p → AllByRecursion InRange r → IsSpelledRow (report_row r con.Eq)
 spelled_equality [] p h i = absurd (let above = h.here in omega (arith, ints, above))
 spelled_equality (c ∷ cs) p h i = record { directed = leads_up c cs p h; in_range = record { constant_in = i.0; coefficients_in = i.1 } }
 

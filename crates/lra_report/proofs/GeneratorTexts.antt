@@ -11,16 +11,16 @@ use Rattle.std.proofs.lemmas.Bool.Decides.{nat_tests}
 use Rattle.std.proofs.lemmas.List.{append_cancel_left}
 use Rattle.std.proofs.lemmas.Nat.Gcd.{dvd_of_mod-eq-zero}
 use Rattle.std.proofs.Math.Nat.{one-dvd, pos_of_dvd_of_pos, mul-div_cancel', div-le_self}
-use Rattle.lra_linear.specs.Range.{InRange}
-use Rattle.lra_linear.specs.Vectors.{entry}
-use Rattle.lra_linear.specs.LowestTerms.{IsPrimitive}
-use Rattle.lra_linear.proofs.LowestTerms.{same_multiple, signed_quotient_is}
-use Rattle.lra_linear.proofs.Products.{row_same}
-use Rattle.lra_linear.proofs.Signs.{cancel_same}
-use Rattle.lra_linear.proofs.Ring.{v as atom, ◌⊗◌, ring}
+use Rattle.lra_linear_spec.specs.Range.{InRange}
+use Rattle.lra_linear_spec.specs.Vectors.{entry}
+use Rattle.lra_linear_spec.specs.LowestTerms.{IsPrimitive}
+use Rattle.lra_linear_spec.proofs.LowestTerms.{same_multiple, signed_quotient_is}
+use Rattle.lra_linear_spec.proofs.Products.{row_same}
+use Rattle.lra_linear_spec.proofs.Signs.{cancel_same}
+use Rattle.lra_linear_spec.proofs.Ring.{v as atom, ◌⊗◌, ring}
 use Rattle.lra_show.specs.Part.{Generator}
-use Rattle.lra_linear.specs.declared.GenKind.{GenKind}
-use Rattle.lra_linear.specs.declared.GenKind.TheVariants.{Point, Ray, Line}
+use Rattle.lra_linear_spec.specs.declared.GenKind.{GenKind}
+use Rattle.lra_linear_spec.specs.declared.GenKind.TheVariants.{Point, Ray, Line}
 use Rattle.lra_show.specs.Texts.{greatest_divisor, fraction_text, coordinate_text, value_text, values_text, generator_kind_text, generator_text}
 use Rattle.lra_report.specs.Spelled.{IsSpelledGenerator}
 use Rattle.lra_report.proofs.Fronts.{is_visible, Ends, first_same, rest_same, both_same}

@@ -5,8 +5,8 @@ use Rattle.std.specs.Prelude.{get_or, map}
 use Rattle.std.specs.Int.Signed.{le_z_yes}
 use Rattle.lra_options.specs.declared.options.Domain.TheVariants.{Poly, Box}
 use Rattle.lra_show.specs.Part.{Generator}
-use Rattle.lra_linear.specs.Vectors.{product}
-use Rattle.lra_linear.proofs.Products.{product_none}
+use Rattle.lra_linear_spec.specs.Vectors.{product}
+use Rattle.lra_linear_spec.proofs.Products.{product_none}
 use Rattle.lra_show.specs.Rows.{Row}
 use Rattle.lra_report.specs.Parts.{RationalPoint, IsWithin, IsGenerated, HasSamePoints, Tells}
 use Rattle.lra_report.proofs.ReportTextExamples.{both, rows_alone, a_point, a_ray, is_positive}

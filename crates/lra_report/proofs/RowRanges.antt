@@ -2,8 +2,8 @@
 use Rattle.std.proofs.Common.{ℤ, List, [], ◌∷◌, arith}
 use Rattle.std.specs.List.{All, AllByRecursion}
 use Rattle.std.proofs.lemmas.List.Elements.{All-head, All-tail}
-use Rattle.lra_linear.specs.Range.{InRange}
-use Rattle.lra_linear.specs.declared.ConKind.{ConKind}
+use Rattle.lra_linear_spec.specs.Range.{InRange}
+use Rattle.lra_linear_spec.specs.declared.ConKind.{ConKind}
 use Rattle.lra_show.specs.Shown.{report_row}
 use Rattle.lra_show.specs.Lists.{shown_rows}
 use Rattle.lra_report.specs.Rows.{IsRowInRange}

@@ -1,10 +1,10 @@
 -- What one text would tell of two rows, points or variables, where a premise is left out.
 use Rattle.std.proofs.Common.{◌≡◌, ℕ, ℤ, pos, negsuc, List, [], ◌∷◌, codes, refl}
 use Rattle.std.specs.Fmt.{digits}
-use Rattle.lra_linear.specs.declared.ConKind.TheVariants.{Eq}
+use Rattle.lra_linear_spec.specs.declared.ConKind.TheVariants.{Eq}
 use Rattle.lra_show.specs.Rows.{Row}
 use Rattle.lra_show.specs.Part.{Generator}
-use Rattle.lra_linear.specs.declared.GenKind.TheVariants.{Point}
+use Rattle.lra_linear_spec.specs.declared.GenKind.TheVariants.{Point}
 use Rattle.lra_show.specs.Texts.{row_text, generator_text}
 use Rattle.lra_meaning.specs.ShownNames.{shown_names}
 

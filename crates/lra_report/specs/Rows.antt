@@ -1,8 +1,8 @@
 -- Lists of constraints and of generators, as a report shows them.
 use Rattle.std.specs.Prelude.{List, [], Option, Some, None}
 use Rattle.std.specs.List.{AllByRecursion}
-use Rattle.lra_linear.specs.Range.{InRange}
-use Rattle.lra_linear.specs.declared.GenKind.{GenKind}
+use Rattle.lra_linear_spec.specs.Range.{InRange}
+use Rattle.lra_linear_spec.specs.declared.GenKind.{GenKind}
 use Rattle.lra_sys.specs.Listed.{Listed, FitKinds}
 use Rattle.lra_show.specs.Rows.{Row}
 use Rattle.lra_show.specs.Lists.{shown_generators}

@@ -2,8 +2,8 @@
 -- told apart.
 use Rattle.std.specs.Prelude.{◌≡◌, ℕ, ℤ, pos, List, ◌∷◌, length, true, false, ⊤, ◌<◌, ◌^◌, Option, Some, None}
 use Rattle.std.specs.List.{AllByRecursion}
-use Rattle.lra_linear.specs.Range.{InRange}
-use Rattle.lra_linear.specs.LowestTerms.{IsPrimitive}
+use Rattle.lra_linear_spec.specs.Range.{InRange}
+use Rattle.lra_linear_spec.specs.LowestTerms.{IsPrimitive}
 use Rattle.lra_tree.specs.Lexeme.{is_name_word}
 use Rattle.lra_tree.specs.Trees.{FileTree}
 use Rattle.lra_tree.specs.Labels.{labels_of}
@@ -15,10 +15,10 @@ use Rattle.lra_meaning.specs.Refuse.{Accepts}
 use Rattle.lra_options.specs.declared.options.Options.{Options}
 use Rattle.lra_show.specs.Part.{Generator, Part}
 use Rattle.lra_report.specs.Report.{PointReport, Report}
-use Rattle.lra_linear.specs.declared.ConKind.{ConKind}
-use Rattle.lra_linear.specs.declared.GenKind.{GenKind}
-use Rattle.lra_linear.specs.declared.GenKind.TheVariants.{Point, Ray, Line}
-use Rattle.lra_linear.specs.declared.ConKind.TheVariants.{Ge, Eq}
+use Rattle.lra_linear_spec.specs.declared.ConKind.{ConKind}
+use Rattle.lra_linear_spec.specs.declared.GenKind.{GenKind}
+use Rattle.lra_linear_spec.specs.declared.GenKind.TheVariants.{Point, Ray, Line}
+use Rattle.lra_linear_spec.specs.declared.ConKind.TheVariants.{Ge, Eq}
 use Rattle.lra_show.specs.Rows.{Row}
 use Rattle.lra_show.specs.Texts.{is_turned}
 use Rattle.lra_report.specs.ReportText.{report_text}

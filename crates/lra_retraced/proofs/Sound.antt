@@ -1,7 +1,7 @@
 -- What is shown has the stores from which runs fail.
 use Rattle.std.proofs.Common.{◌≡◌, ◌∙◌, ℕ, List, [], ◌∷◌, length, refl, sym, subst, arith}
 use Rattle.std.proofs.lemmas.Option.{same_Some}
-use Rattle.lra_linear.specs.Polyhedra.{Polyhedron}
+use Rattle.lra_linear_spec.specs.Polyhedra.{Polyhedron}
 use Rattle.lra_tree.specs.Labels.{labels_of}
 use Rattle.lra_meaning.specs.LiveNames.{globals_named}
 use Rattle.lra_program.specs.Run.{Point}

@@ -3,11 +3,11 @@ use Rattle.std.proofs.Common.{◌≡◌, ◌+◌, ◌-◌, List, [], ◌∷◌, 
 use Rattle.std.proofs.Common.{append_assoc, append-nil}
 use Rattle.std.proofs.Math.IntN.{+ℤ_idl}
 use Rattle.std.proofs.lemmas.List.{take_all}
-use Rattle.lra_linear.specs.declared.Excess.{Excess}
-use Rattle.lra_linear.specs.declared.Operation.TheVariants.{Product, Sum}
-use Rattle.lra_linear.specs.Range.{InRange}
-use Rattle.lra_linear.specs.CheckedArithmetic.{checked_product_from, checked_product, checked_entry, checked_blend, then_rest}
-use Rattle.lra_linear.proofs.CheckedArithmetic.{in_range_yes, in_range_no}
+use Rattle.lra_linear_spec.specs.declared.Excess.{Excess}
+use Rattle.lra_linear_spec.specs.declared.Operation.TheVariants.{Product, Sum}
+use Rattle.lra_linear_spec.specs.Range.{InRange}
+use Rattle.lra_linear_spec.specs.CheckedArithmetic.{checked_product_from, checked_product, checked_entry, checked_blend, then_rest}
+use Rattle.lra_linear_spec.proofs.CheckedArithmetic.{in_range_yes, in_range_no}
 
 -- ---- products
 pub product_passes : (s x y : ℤ) (xs ys xs' ys' : List ℤ) (e : Excess) → xs ≡ x ∷ xs' → ys ≡ y ∷ ys' → (¬ (InRange (x *ℤ y))) × (e ≡ record { op = Product; left = x; right = y }) →

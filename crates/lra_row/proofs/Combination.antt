@@ -3,16 +3,16 @@ use Rattle.std.proofs.Common.{arith, ◌≡◌, ℕ, ◌<◌, List, [], ◌∷�
 use Rattle.std.specs.List.{All}
 use Rattle.std.proofs.lemmas.Int.{ints}
 use Rattle.std.proofs.lemmas.List.Elements.{All-head, All-tail}
-use Rattle.lra_linear.specs.declared.Excess.{Excess}
-use Rattle.lra_linear.specs.declared.Operation.TheVariants.{Product, Sum}
-use Rattle.lra_linear.specs.Range.{InRange, in_range}
-use Rattle.lra_linear.specs.Vectors.{entry, product, blend, combined, cleared, substituted}
-use Rattle.lra_linear.specs.LowestTerms.{IsLowest}
-use Rattle.lra_linear.specs.CheckedArithmetic.{checked_product, checked_entry, checked_blend, then_rest, checked_combination, checked_added, checked_added_entry, checked_substitution}
-use Rattle.lra_linear.proofs.Ring.{v, ◌⊕◌, ◌⊗◌, ⊖, ring}
-use Rattle.lra_linear.proofs.Signs.{as_nat, positive_nat, neg_nat, no_product, positive_is_nonnegative}
-use Rattle.lra_linear.proofs.Products.{entry_blend, dot_same, dot_linear, dot_scale}
-use Rattle.lra_linear.proofs.CheckedArithmetic.{in_range_yes}
+use Rattle.lra_linear_spec.specs.declared.Excess.{Excess}
+use Rattle.lra_linear_spec.specs.declared.Operation.TheVariants.{Product, Sum}
+use Rattle.lra_linear_spec.specs.Range.{InRange, in_range}
+use Rattle.lra_linear_spec.specs.Vectors.{entry, product, blend, combined, cleared, substituted}
+use Rattle.lra_linear_spec.specs.LowestTerms.{IsLowest}
+use Rattle.lra_linear_spec.specs.CheckedArithmetic.{checked_product, checked_entry, checked_blend, then_rest, checked_combination, checked_added, checked_added_entry, checked_substitution}
+use Rattle.lra_linear_spec.proofs.Ring.{v, ◌⊕◌, ◌⊗◌, ⊖, ring}
+use Rattle.lra_linear_spec.proofs.Signs.{as_nat, positive_nat, neg_nat, no_product, positive_is_nonnegative}
+use Rattle.lra_linear_spec.proofs.Products.{entry_blend, dot_same, dot_linear, dot_scale}
+use Rattle.lra_linear_spec.proofs.CheckedArithmetic.{in_range_yes}
 use Rattle.lra_row.specs.Rows.{IsPositiveSum}
 use Rattle.lra_row.proofs.FirstPassing.{combination_is}
 

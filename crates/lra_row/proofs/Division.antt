@@ -4,8 +4,8 @@ use lib.Signed.{mag}
 use Rattle.std.specs.Int.{int_div_euclid, int_rem_euclid, w128}
 use Rattle.std.proofs.lemmas.Int.{ints}
 use Rattle.std.proofs.lemmas.Nat.{div-mul-add}
-use Rattle.lra_linear.proofs.Ring.{v, ◌⊕◌, ◌⊗◌, ⊖, ring}
-use Rattle.lra_linear.specs.Range.{InRange}
+use Rattle.lra_linear_spec.proofs.Ring.{v, ◌⊕◌, ◌⊗◌, ⊖, ring}
+use Rattle.lra_linear_spec.specs.Range.{InRange}
 use Rattle.lra_row.specs.Division.{floor_quotient, IsFloor}
 
 -- the bits of all numbers but -2^127 are in the range

@@ -3,12 +3,13 @@ use Rattle.std.proofs.Common.{arith, ◌≡◌, List, [], ◌∷◌, ◌++◌, a
 use Rattle.std.specs.List.{All}
 use Rattle.std.proofs.lemmas.List.Elements.{All-nil, All-cons, All-append}
 use Rattle.std.proofs.lemmas.Bool.Decides.{nat_tests}
-use Rattle.lra_linear.specs.declared.Excess.{Excess}
-use Rattle.lra_linear.specs.declared.Operation.TheVariants.{Product, Sum}
-use Rattle.lra_linear.specs.Range.{in_range}
-use Rattle.lra_linear.specs.CheckedArithmetic.{checked_product_from, checked_product, then_rest, checked_blend, and_then, checked_added, checked_combination}
-use Rattle.lra_linear.specs.Vectors.{product}
-use Rattle.lra_linear.proofs.CheckedArithmetic.{checked_product_value, checked_product_in_range, checked_blend_is, checked_blend_in_range}
+use Rattle.lra_linear_spec.specs.declared.Excess.{Excess}
+use Rattle.lra_linear_spec.specs.declared.Operation.TheVariants.{Product, Sum}
+use Rattle.lra_linear_spec.specs.Range.{in_range}
+use Rattle.lra_linear_spec.specs.CheckedArithmetic.{checked_product_from, checked_product, then_rest, checked_blend, and_then, checked_added}
+use Rattle.lra_linear_spec.specs.CheckedArithmetic.{checked_combination}
+use Rattle.lra_linear_spec.specs.Vectors.{product}
+use Rattle.lra_linear_spec.proofs.CheckedArithmetic.{checked_product_value, checked_product_in_range, checked_blend_is, checked_blend_in_range}
 use Rattle.lra_row.specs.declared.error.RowError.{RowError}
 use Rattle.lra_row.specs.declared.error.RowError.TheVariants as of_row
 use Rattle.lra_row.specs.Operations.{result_of, Fits, NamesFirst, IsFirstNamed, NamesFirstOrMemory, product_operations_from, product_operations, blend_operations, added_operations}

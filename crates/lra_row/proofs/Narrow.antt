@@ -5,9 +5,9 @@ use Rattle.std.specs.List.{All}
 use Rattle.std.proofs.lemmas.Int.{ints, unsigned_abs-mul, fits_signed_from_abs}
 use Rattle.std.proofs.lemmas.List.Elements.{All-nil, All-cons, All-head, All-tail}
 use Rattle.std.proofs.lemmas.Nat.{mul-le}
-use Rattle.lra_linear.specs.Range.{InRange}
-use Rattle.lra_linear.specs.Vectors.{negated}
-use Rattle.lra_linear.specs.CheckedArithmetic.{checked_product_from}
+use Rattle.lra_linear_spec.specs.Range.{InRange}
+use Rattle.lra_linear_spec.specs.Vectors.{negated}
+use Rattle.lra_linear_spec.specs.CheckedArithmetic.{checked_product_from}
 use Rattle.lra_row.specs.Words.{IsWord, IsNarrow, IsNarrowSum}
 use Rattle.lra_row.proofs.CheckedRows.{column_taken}
 

@@ -8,7 +8,7 @@ use Rattle.std.proofs.lemmas.Int.{ints}
 use Rattle.std.proofs.lemmas.Bool.Decides.{nat_tests}
 use Rattle.std.specs.Cmp.Lexicographic.{slice_cmp}
 use Rattle.std.proofs.lemmas.List.{length-drop, drop_more, drop_all}
-use Rattle.lra_linear.specs.RowOrder.{constant_last, row_cmp}
+use Rattle.lra_linear_spec.specs.RowOrder.{constant_last, row_cmp}
 pub use Rattle.lra_row.specs.RowTies.{constant_last_length, row_cmp_ties}
 
 abbrev rest_cmp : ℕ → List ℤ → List ℤ → Ordering

@@ -4,7 +4,7 @@ use Rattle.std.specs.Int.{w128}
 use Rattle.std.proofs.lemmas.Int.{to_z-of_z, ints}
 use Rattle.std.proofs.Math.Seq.{drop-cons}
 use Rattle.std.specs.Ordering.{int_eq}
-use Rattle.lra_linear.specs.Echelon.{lead_from}
+use Rattle.lra_linear_spec.specs.Echelon.{lead_from}
 
 pub lead_later : (xs : List ℤ) (j : ℕ) → j < length xs → int_eq (get_or xs j (pos 0)) (pos 0) ≡ true → lead_from (j + 1) (drop (j + 1) xs) ≡ lead_from j (drop j xs)
 lead_later xs j h e = rw (drop-cons xs j (pos 0) h, e, add-one)

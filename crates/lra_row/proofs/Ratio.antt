@@ -6,9 +6,9 @@ use Rattle.std.specs.declared.cmp.Ordering.{Ordering}
 use Rattle.std.specs.declared.cmp.Ordering.TheVariants.{Less, Equal, Greater}
 use Rattle.std.specs.Cmp.{int_ranks, int_cmp_is}
 use Rattle.std.proofs.lemmas.Int.{ints}
-use Rattle.lra_linear.proofs.Ring.{v, ◌⊕◌, ◌⊗◌, ⊖}
-use Rattle.lra_linear.proofs.Ring.{ring, mul_nonnegative}
-use Rattle.lra_linear.proofs.Signs.{times_positive}
+use Rattle.lra_linear_spec.proofs.Ring.{v, ◌⊕◌, ◌⊗◌, ⊖}
+use Rattle.lra_linear_spec.proofs.Ring.{ring, mul_nonnegative}
+use Rattle.lra_linear_spec.proofs.Signs.{times_positive}
 
 pub euclid : (n d : ℤ) → pos 0 <ℤ d → (int_div_euclid n d *ℤ d) +ℤ int_rem_euclid n d ≡ n
 euclid (pos a) (pos zero) h = absurd (omega (arith, ints, h))

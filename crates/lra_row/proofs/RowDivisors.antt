@@ -5,7 +5,7 @@ use Rattle.std.proofs.Math.Nat.{one-dvd}
 use Rattle.std.proofs.lemmas.Nat.Gcd.{dvd_refl, dvd-zero, dvd_trans}
 use Rattle.std.proofs.lemmas.List.{drop_all}
 use Rattle.std.proofs.Math.Seq.{drop-cons}
-use Rattle.lra_linear.specs.Vectors.{entry}
+use Rattle.lra_linear_spec.specs.Vectors.{entry}
 use Rattle.lra_row.specs.Rows.{IsRowGcd}
 
 -- the greatest number that divides m and each entry

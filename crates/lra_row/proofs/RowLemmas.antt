@@ -8,11 +8,11 @@ use Rattle.std.proofs.lemmas.Int.{ints, unsigned_abs-mul}
 use Rattle.std.proofs.lemmas.List.Elements.{All-nil, All-cons, All-head, All-tail}
 use Rattle.std.proofs.lemmas.Nat.Gcd.{dvd_antisymm}
 use Rattle.std.proofs.Math.Nat.{mul-div_cancel', dvd_of_mul-dvd-mul_right, mul-dvd-mul_right, one-dvd}
-use Rattle.lra_linear.specs.Range.{InRange}
-use Rattle.lra_linear.specs.Vectors.{entry, negated}
-use Rattle.lra_linear.specs.LowestTerms.{IsPrimitive, IsLowest}
-use Rattle.lra_linear.proofs.LowestTerms.{signed_quotient, signed_quotient_is}
-use Rattle.lra_linear.proofs.Ring.{v, ◌⊗◌, ring}
+use Rattle.lra_linear_spec.specs.Range.{InRange}
+use Rattle.lra_linear_spec.specs.Vectors.{entry, negated}
+use Rattle.lra_linear_spec.specs.LowestTerms.{IsPrimitive, IsLowest}
+use Rattle.lra_linear_spec.proofs.LowestTerms.{signed_quotient, signed_quotient_is}
+use Rattle.lra_linear_spec.proofs.Ring.{v, ◌⊗◌, ring}
 use Rattle.lra_row.specs.Rows.{IsRowGcd}
 
 pub entry_at : (xs : List ℤ) (j : ℕ) → entry xs j ≡ get_or xs j (pos 0)

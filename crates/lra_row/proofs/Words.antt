@@ -5,10 +5,10 @@ use Rattle.std.specs.Int.{w64, w128}
 use Rattle.std.proofs.lemmas.Bool.{cases_eq}
 use Rattle.std.proofs.lemmas.Int.{ints, unsigned_abs-mul, fits_signed_from_abs}
 use Rattle.std.proofs.lemmas.Nat.{mul-le}
-use Rattle.lra_linear.specs.declared.Excess.{Excess}
-use Rattle.lra_linear.specs.Range.{InRange, in_range}
-use Rattle.lra_linear.specs.CheckedArithmetic.{checked_product_from, checked_entry}
-use Rattle.lra_linear.proofs.CheckedArithmetic.{in_range_yes}
+use Rattle.lra_linear_spec.specs.declared.Excess.{Excess}
+use Rattle.lra_linear_spec.specs.Range.{InRange, in_range}
+use Rattle.lra_linear_spec.specs.CheckedArithmetic.{checked_product_from, checked_entry}
+use Rattle.lra_linear_spec.proofs.CheckedArithmetic.{in_range_yes}
 use Rattle.lra_row.specs.Words.{IsWord, HasRoom, IsWordProduct}
 use Rattle.lra_row.proofs.CheckedRows.{column_taken}
 

@@ -6,8 +6,8 @@ use Rattle.std.specs.Cmp.Lexicographic.{pointwise}
 use Rattle.std.specs.Cmp.Rules.{signed_items}
 use Rattle.std.specs.FinMap.{IsAntisymmetric, slice_cmp-IsAntisymmetric, int_cmp-IsAntisymmetric}
 use Rattle.std.proofs.lemmas.List.{length-append}
-use Rattle.lra_linear.specs.RowOrder.{constant_last, row_cmp}
-use Rattle.lra_linear.proofs.RowOrder.{row_cmp_total}
+use Rattle.lra_linear_spec.specs.RowOrder.{constant_last, row_cmp}
+use Rattle.lra_linear_spec.proofs.RowOrder.{row_cmp_total}
 
 pub constant_last_length : (xs : List ℤ) → length (constant_last xs) ≡ length xs
 constant_last_length [] = refl

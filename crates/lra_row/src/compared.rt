@@ -6,8 +6,8 @@ ghost use Rattle.std.specs.Cmp.Lexicographic.{lists_equiv, pointwise};
 ghost use Rattle.std.specs.Cmp.Rules.{signed_items};
 ghost use Rattle.std.specs.Hash as fed;
 ghost use Rattle.std.specs.Ordering.{as_partial_cmp, int_eq};
-ghost use Rattle.lra_linear.specs.RowOrder.{row_cmp};
-ghost use Rattle.lra_linear.proofs.RowOrder.{row_cmp_total};
+ghost use Rattle.lra_linear_spec.specs.RowOrder.{row_cmp};
+ghost use Rattle.lra_linear_spec.proofs.RowOrder.{row_cmp_total};
 ghost use Rattle.lra_row.specs.RowTies.{row_eq_by_cmp};
 
 use crate::row::Row;

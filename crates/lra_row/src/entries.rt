@@ -4,20 +4,20 @@ ghost use Rattle.std.specs.Prelude.{◌≡◌, ◌≤◌, ◌<◌, ◌≤ℤ◌,
 ghost use Rattle.std.specs.Prelude.{unsigned_abs, map, int_div, slice_index_or, IsTrue};
 ghost use Rattle.std.specs.List.{All};
 ghost use Rattle.std.specs.Int.{◌∣◌};
-ghost use Rattle.lra_linear.specs.Range.{InRange};
-ghost use Rattle.lra_linear.specs.Vectors.{entry, negated};
-ghost use Rattle.lra_linear.specs.CheckedArithmetic.{checked_product_from, checked_product, checked_entry};
-ghost use Rattle.lra_linear.specs.CheckedArithmetic.{checked_blend};
+ghost use Rattle.lra_linear_spec.specs.Range.{InRange};
+ghost use Rattle.lra_linear_spec.specs.Vectors.{entry, negated};
+ghost use Rattle.lra_linear_spec.specs.CheckedArithmetic.{checked_product_from, checked_product, checked_entry};
+ghost use Rattle.lra_linear_spec.specs.CheckedArithmetic.{checked_blend};
 ghost use Rattle.lra_row.specs.Rows.{IsExcessOf, IsRowGcd};
 ghost use Rattle.lra_row.specs.Words.{IsNarrow};
-ghost use Rattle.lra_linear.specs.Echelon.{pivot};
-ghost use Rattle.lra_linear.specs.RowOrder.{constant_last, row_cmp};
+ghost use Rattle.lra_linear_spec.specs.Echelon.{pivot};
+ghost use Rattle.lra_linear_spec.specs.RowOrder.{constant_last, row_cmp};
 
 use crate::error::RowError;
 use crate::number::{
     gcd, has_room, is_narrow, is_word, multiply_words, product_of, quotient, sum_of,
 };
-use lra_linear::Excess;
+use lra_linear_spec::Excess;
 use smallvec::SmallVec;
 use std::alloc::{AllocError, Global};
 use std::cmp::Ordering;

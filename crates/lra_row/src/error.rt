@@ -2,7 +2,7 @@
 
 ghost use Rattle.std.specs.Prelude.{◌≡◌};
 
-use lra_linear::Excess;
+use lra_linear_spec::Excess;
 use std::alloc::{AllocError, AllocFailed};
 use thiserror::Error;
 

@@ -5,12 +5,12 @@ ghost use Rattle.std.specs.Prelude.{int_div, IsTrue};
 ghost use Rattle.std.specs.Ordering.{int_cmp};
 ghost use Rattle.std.specs.Option.{SomeIff};
 ghost use Rattle.std.specs.Int.{IsGcd};
-ghost use Rattle.lra_linear.specs.Range.{InRange};
-ghost use Rattle.lra_linear.specs.declared.Operation.TheVariants.{Product, Sum};
+ghost use Rattle.lra_linear_spec.specs.Range.{InRange};
+ghost use Rattle.lra_linear_spec.specs.declared.Operation.TheVariants.{Product, Sum};
 ghost use Rattle.lra_row.specs.Division.{floor_quotient, IsFloor};
 ghost use Rattle.lra_row.specs.Words.{HasRoom, IsNarrow, IsWord, IsWordProduct};
 
-use lra_linear::{Excess, Operation};
+use lra_linear_spec::{Excess, Operation};
 use std::cmp::Ordering;
 
 // Words end before this number.

@@ -5,23 +5,24 @@ ghost use Rattle.std.specs.Prelude.{◌++◌, ◌^◌, ◌↔◌, IfErr, IfSome,
 ghost use Rattle.std.specs.List.{All};
 ghost use Rattle.std.specs.Cmp.{IsTotalOrder};
 ghost use Rattle.std.specs.FinMap.{IsAntisymmetric};
-ghost use Rattle.lra_linear.specs.Range.{InRange};
-ghost use Rattle.lra_linear.specs.Vectors.{entry, dot, product, negated, blend, combined, cleared, substituted, zeros};
-ghost use Rattle.lra_linear.specs.LowestTerms.{IsLowest};
-ghost use Rattle.lra_linear.specs.CheckedArithmetic.{checked_product, checked_blend, checked_combination};
-ghost use Rattle.lra_linear.specs.CheckedArithmetic.{checked_substitution};
-ghost use Rattle.lra_linear.specs.SetOperations.{assigned};
+ghost use Rattle.lra_linear_spec.specs.Range.{InRange};
+ghost use Rattle.lra_linear_spec.specs.Vectors.{entry, dot, product, negated, blend, combined, cleared, substituted};
+ghost use Rattle.lra_linear_spec.specs.Vectors.{zeros};
+ghost use Rattle.lra_linear_spec.specs.LowestTerms.{IsLowest};
+ghost use Rattle.lra_linear_spec.specs.CheckedArithmetic.{checked_product, checked_blend, checked_combination};
+ghost use Rattle.lra_linear_spec.specs.CheckedArithmetic.{checked_substitution};
+ghost use Rattle.lra_linear_spec.specs.SetOperations.{assigned};
 ghost use Rattle.lra_row.specs.Operations.{NamesFirst, NamesFirstOrMemory, product_operations, blend_operations};
 ghost use Rattle.lra_row.specs.Rows.{IsExcessOf, combination_operations, IsPositiveSum, substitution_operations};
 ghost use Rattle.lra_row.specs.Words.{IsNarrow};
-ghost use Rattle.lra_linear.specs.Echelon.{pivot};
-ghost use Rattle.lra_linear.specs.RowOrder.{row_cmp};
+ghost use Rattle.lra_linear_spec.specs.Echelon.{pivot};
+ghost use Rattle.lra_linear_spec.specs.RowOrder.{row_cmp};
 
 use crate::entries;
 use crate::entries::Entries;
 use crate::error::RowError;
 use crate::number::opposite;
-use lra_linear::Excess;
+use lra_linear_spec::Excess;
 use std::alloc::{AllocError, Global};
 use std::cmp::Ordering;
 use std::marker::Model;
@@ -264,7 +265,7 @@ impl Row {
     }
 
     /// Compares two rows by the entries of columns 1, 2, 3 and on, and by that of column 0 last.
-    #[tactic(auto, using(lra_linear::proofs::RowOrder::row_cmp_total, crate::specs::RowTies::row_cmp_ties))]
+    #[tactic(auto, using(lra_linear_spec::proofs::RowOrder::row_cmp_total, crate::specs::RowTies::row_cmp_ties))]
     pub fn compare(&self, other: &Row) -> Ordering
         ensures order { result ≡ row_cmp self.now other.now }
         ensures total { IsTotalOrder row_cmp }

@@ -13,8 +13,8 @@ use Rattle.std.proofs.lemmas.List.Sums.{AllPass-from_list_all}
 use Rattle.std.proofs.lemmas.Str.{IsUtf8-from_ascii}
 use Rattle.std.proofs.lemmas.Str.Ascii.{IsAscii-from_all}
 use Rattle.std.proofs.lemmas.Str.Parse.{IsDigitsTest, numerals_by_value, without_leading_plus_none}
-use Rattle.lra_linear.specs.Range.{InRange, in_range}
-use Rattle.lra_linear.proofs.CheckedArithmetic.{in_range_yes}
+use Rattle.lra_linear_spec.specs.Range.{InRange, in_range}
+use Rattle.lra_linear_spec.proofs.CheckedArithmetic.{in_range_yes}
 use Rattle.lra_script.specs.ScriptText.{is_name, is_number, number_of}
 
 pub both : (a b : Bool) → a && b ≡ true → (a ≡ true) × (b ≡ true)

@@ -5,9 +5,9 @@ use Rattle.std.specs.Prelude.{if◌then◌else◌, Option, Some, None, option_ma
 use Rattle.std.specs.List.{slice_split}
 use Rattle.std.specs.Option.{option_or}
 use Rattle.lra_base.specs.Limits.{greatest_live}
-use Rattle.lra_linear.specs.Descriptions.{Given, generator, line}
-use Rattle.lra_linear.specs.declared.GenKind.{GenKind}
-use Rattle.lra_linear.specs.declared.GenKind.TheVariants as gen
+use Rattle.lra_linear_spec.specs.Descriptions.{LinearRow, generator, line}
+use Rattle.lra_linear_spec.specs.declared.GenKind.{GenKind}
+use Rattle.lra_linear_spec.specs.declared.GenKind.TheVariants as gen
 use Rattle.lra_script.specs.ScriptText.{is_name, number_of}
 use Rattle.lra_script.specs.declared.recipes.Combination.{Combination}
 use Rattle.lra_script.specs.declared.recipes.Combination.TheVariants.{Meet, Hull, Elapse}
@@ -22,7 +22,7 @@ pub record Generator : Type 0 where
 -- how a set is made
 pub data Recipe : Type 0 where
   -- con R ROW ; ROW ..: of what meets these constraints
-  Con : List Given → Recipe
+  Con : List LinearRow → Recipe
   -- gen R G ; G ..: of what these points, rays and lines generate
   Gen : List Generator → Recipe
   -- meet R P Q, hull R P Q, elapse R P Q: of P and Q
@@ -30,7 +30,7 @@ pub data Recipe : Type 0 where
   -- widen R P Q: of P, widened by Q, in which it lies
   Widen : List ℕ → List ℕ → Recipe
   -- limited R P Q ROW ; ROW ..: so, and of these constraints those that are valid on both stay
-  Limited : List ℕ → List ℕ → List Given → Recipe
+  Limited : List ℕ → List ℕ → List LinearRow → Recipe
   -- image R P K FORM, preimage R P K FORM: of P, by the form c0 + c1*x1 + .. + cN*xN in place of coordinate K
   Map : Mapping → List ℕ → ℕ → List ℤ → Recipe
   -- forget R P K: of P, with any value of coordinate K
@@ -88,7 +88,7 @@ equality_of relation = if bytes_eq relation (codes ">=") then Some false
     else (if bytes_eq relation (codes "=") then Some true else None)
 
 -- a row: `>=` or `=`, then numbers
-abbrev pub row_of : List (List ℕ) → Option Given
+abbrev pub row_of : List (List ℕ) → Option LinearRow
 row_of [] = None
 row_of (relation ∷ numbers) =
     option_and_then (λ equal. option_map (λ row. record { row = row; equal = equal }) (all_of number_of numbers))
@@ -131,12 +131,12 @@ generator_of (word ∷ words) =
     (option_and_then (divided kind) (all_of number_of words))) (kind_of word)
 
 -- as a row of n + 1 columns: column 0 of a ray and of a line is 0, and isn't written
-abbrev pub as_given : GenKind → List ℤ → Given
+abbrev pub as_given : GenKind → List ℤ → LinearRow
 as_given gen.Point numbers = generator numbers
 as_given gen.Ray numbers = generator (pos 0 ∷ numbers)
 as_given gen.Line numbers = line (pos 0 ∷ numbers)
 
-abbrev pub given_of : Generator → Given
+abbrev pub given_of : Generator → LinearRow
 given_of g = as_given g.kind g.numbers
 
 -- recipes ----------------------------------------------------------------------------------------------------------

@@ -4,7 +4,7 @@ use Rattle.std.specs.Prelude.{map, filter, if◌then◌else◌, Option, Some, No
 use Rattle.std.specs.List.{slice_split, ends_with, list_all}
 use Rattle.std.specs.Char.{is_ascii_digit, is_ascii_uppercase, is_ascii_alphanumeric}
 use Rattle.std.specs.Str.Parse.{starts_with_minus, signed_digits_value}
-use Rattle.lra_linear.specs.Range.{in_range}
+use Rattle.lra_linear_spec.specs.Range.{in_range}
 
 -- lines ------------------------------------------------------------------------------------------------------------
 

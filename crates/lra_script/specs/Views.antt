@@ -3,10 +3,10 @@ use Rattle.std.specs.Prelude.{◌≤◌, ℤ, pos, ◌<ℤ◌, List, [], ◌∷�
 use Rattle.std.specs.Borrow.{Bor}
 use Rattle.std.specs.List.{All}
 use Rattle.std.specs.declared.alloc.Global.{Global}
-use Rattle.lra_linear.specs.Descriptions.{Given}
-use Rattle.lra_linear.specs.Kinds.{is_equality}
-use Rattle.lra_linear.specs.declared.GenKind.{GenKind}
-use Rattle.lra_linear.specs.declared.GenKind.TheVariants as gen
+use Rattle.lra_linear_spec.specs.Descriptions.{LinearRow}
+use Rattle.lra_linear_spec.specs.Kinds.{is_equality}
+use Rattle.lra_linear_spec.specs.declared.GenKind.{GenKind}
+use Rattle.lra_linear_spec.specs.declared.GenKind.TheVariants as gen
 use Rattle.lra_script.specs.LineForms as form
 use Rattle.lra_script.specs.declared.rows.Constraint.{Constraint}
 use Rattle.lra_script.specs.declared.rows.Generator as G
@@ -23,10 +23,10 @@ texts words = map (λ w. w.now) words
 abbrev pub items_of : {A : Type 0} → Option (Vec A Global) → Option (List A)
 items_of r = option_map (λ v. v.items) r
 
-abbrev pub constraint_of : Constraint → Given
+abbrev pub constraint_of : Constraint → LinearRow
 constraint_of c = record { row = c.row; equal = is_equality c.kind }
 
-abbrev pub constraints_of : Option (Vec Constraint Global) → Option (List Given)
+abbrev pub constraints_of : Option (Vec Constraint Global) → Option (List LinearRow)
 constraints_of r = option_map (λ v. map constraint_of v.items) r
 
 abbrev pub generator_view : G.Generator → form.Generator

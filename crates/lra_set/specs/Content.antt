@@ -1,7 +1,7 @@
 -- What sets of parts and their heads hold.
 use Rattle.std.specs.Prelude.{◌≡◌, ◌≢◌, ℕ, List, [], ◌∷◌}
 use Rattle.lra_sys.specs.Listed.{Listed}
-use Rattle.lra_linear.specs.declared.ConKind.{ConKind}
+use Rattle.lra_linear_spec.specs.declared.ConKind.{ConKind}
 use Rattle.lra_domain.specs.Meaning.{Meaning}
 
 -- a set of parts: its dimensions, the most parts that it may have (its cap), and its parts in order

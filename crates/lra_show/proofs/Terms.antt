@@ -7,7 +7,7 @@ use Rattle.std.proofs.lemmas.Bool.{cases_lt}
 use Rattle.std.proofs.Math.Seq.{drop-cons}
 use Rattle.std.proofs.lemmas.Int.{ints}
 use Rattle.std.specs.Cmp.{int_cmp_is}
-use Rattle.lra_linear.specs.Vectors.{entry}
+use Rattle.lra_linear_spec.specs.Vectors.{entry}
 use Rattle.lra_row.proofs.RowLemmas.{entry_at}
 use Rattle.lra_show.specs.Texts.{is_turned, turned, terms_text, product_text}
 use Rattle.lra_show.specs.Shown.{rest_text, is_first_behind}

@@ -1,6 +1,6 @@
 -- Rows and generators, as they are shown.
 use Rattle.std.specs.Prelude.{ℕ, ℤ, List}
-use Rattle.lra_linear.specs.declared.GenKind.{GenKind}
+use Rattle.lra_linear_spec.specs.declared.GenKind.{GenKind}
 use Rattle.lra_show.specs.Rows.{Row}
 
 -- a point divides its numbers by `divisor`; a ray and a line have the divisor 0

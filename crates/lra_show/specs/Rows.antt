@@ -1,9 +1,9 @@
 -- Rows over variables, and which stores they hold of.
 use Rattle.std.specs.Prelude.{ℤ, List, ◌+ℤ◌}
-use Rattle.lra_linear.specs.declared.ConKind.{ConKind}
-use Rattle.lra_linear.specs.Descriptions.{HoldsWith}
-use Rattle.lra_linear.specs.Kinds.{is_equality}
-use Rattle.lra_linear.specs.Vectors.{product}
+use Rattle.lra_linear_spec.specs.declared.ConKind.{ConKind}
+use Rattle.lra_linear_spec.specs.Descriptions.{HoldsWith}
+use Rattle.lra_linear_spec.specs.Kinds.{is_equality}
+use Rattle.lra_linear_spec.specs.Vectors.{product}
 
 -- constant + coefficients * variables is at least 0, or is 0; a coefficient for each variable, in order
 pub record Row : Type 0 where

@@ -1,10 +1,10 @@
 -- The constraints and the generators of a description, as they are shown.
 use Rattle.std.specs.Prelude.{zero, suc, ℤ, pos, negsuc, Bool, true, false}
-use Rattle.lra_linear.specs.Descriptions.{Given}
-use Rattle.lra_linear.specs.Kinds.{constraint_kind}
-use Rattle.lra_linear.specs.Vectors.{entry}
-use Rattle.lra_linear.specs.declared.GenKind.{GenKind}
-use Rattle.lra_linear.specs.declared.GenKind.TheVariants as gen
+use Rattle.lra_linear_spec.specs.Descriptions.{LinearRow}
+use Rattle.lra_linear_spec.specs.Kinds.{constraint_kind}
+use Rattle.lra_linear_spec.specs.Vectors.{entry}
+use Rattle.lra_linear_spec.specs.declared.GenKind.{GenKind}
+use Rattle.lra_linear_spec.specs.declared.GenKind.TheVariants as gen
 use Rattle.lra_show.specs.Rows.{Row}
 use Rattle.lra_show.specs.Part.{Generator}
 use Rattle.lra_show.specs.Shown.{report_row, report_generator}
@@ -16,8 +16,8 @@ generator_kind false (pos zero) = gen.Ray
 generator_kind false (pos (suc n)) = gen.Point
 generator_kind false (negsuc n) = gen.Ray
 
-abbrev pub shown_constraint : Given → Row
+abbrev pub shown_constraint : LinearRow → Row
 shown_constraint g = report_row g.row (constraint_kind g.equal)
 
-abbrev pub shown_generator : Given → Generator
+abbrev pub shown_generator : LinearRow → Generator
 shown_generator g = report_generator g.row (generator_kind g.equal (entry g.row 0))

@@ -4,7 +4,7 @@ use Rattle.std.proofs.Common.{◌∙◌, subst, arith}
 use Rattle.std.specs.Prelude.{slice_get}
 use Rattle.std.specs.List.{AllByRecursion, Contains}
 use Rattle.std.proofs.lemmas.Option.{none-some, same_Some}
-use Rattle.lra_linear.proofs.Membership.{contains_none, contains_cases}
+use Rattle.lra_linear_spec.proofs.Membership.{contains_none, contains_cases}
 use Rattle.lra_program.specs.Program.{Slot, global, local, Expr, Cond, Call, Rvalue, Stmt, Cases, BlockItems, Program}
 use Rattle.lra_base.specs.declared.case_labels.CaseLabel.{CaseLabel}
 use Rattle.lra_base.specs.Limits.{greatest_live}

@@ -6,7 +6,7 @@ use Rattle.std.specs.Prelude.{IsTrue, slice_get, if◌then◌else◌}
 use Rattle.std.specs.List.{Contains}
 use Rattle.std.proofs.lemmas.List.Elements.{Contains-append_cases}
 use Rattle.std.proofs.lemmas.Option.{slice_get_within, slice_get_read, same_Some}
-use Rattle.lra_linear.proofs.Membership.{contains_cases, contains_none, contains_head, contains_tail, map_from, map_has}
+use Rattle.lra_linear_spec.proofs.Membership.{contains_cases, contains_none, contains_head, contains_tail, map_from, map_has}
 use Rattle.lra_domain.specs.declared.Exactness.{Exactness}
 use Rattle.lra_domain.specs.declared.Exactness.TheVariants.{Exact, Flagged}
 use Rattle.lra_base.specs.declared.number_types.NumberType.{NumberType}

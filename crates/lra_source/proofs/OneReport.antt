@@ -3,7 +3,7 @@ use Rattle.std.proofs.Common.{◌≡◌, ◌∙◌, ◌++◌, ℕ, zero, suc, �
 use Rattle.std.specs.Prelude.{◌⊎◌, option_map, slice_get}
 use Rattle.std.specs.List.{Contains, flat_map}
 use Rattle.std.proofs.lemmas.Option.{none-some, same_Some}
-use Rattle.lra_linear.proofs.Membership.{contains_head, contains_tail, contains_none}
+use Rattle.lra_linear_spec.proofs.Membership.{contains_head, contains_tail, contains_none}
 use Rattle.lra_domain.specs.Laws.{SingleLaws, PlainLaws}
 use Rattle.lra_box.specs.Laws.{box_single, box_plain}
 use Rattle.lra_oct.specs.Single.{octagon_single}

@@ -3,14 +3,14 @@ use Rattle.std.proofs.Common.{◌≡◌, ◌∙◌, ℕ, true, false, Bool, cond
 use Rattle.std.specs.Prelude.{Result, Ok, Err, IfOk}
 use Rattle.std.specs.List.{Contains, list_any}
 use Rattle.lra_options.specs.declared.options.Domain.TheVariants.{Poly}
-use Rattle.lra_linear.specs.Descriptions.{Given, Con}
+use Rattle.lra_linear_spec.specs.Descriptions.{LinearRow, Con}
 use Rattle.lra_states.specs.Canonical.{IsCanonicalState}
-use Rattle.lra_linear.specs.Points.{IsEmptySet}
-use Rattle.lra_linear.specs.Polyhedra.{Polyhedron, IsPolyhedron, HasPoint, falsity}
-use Rattle.lra_linear.specs.declared.ConKind.{ConKind}
-use Rattle.lra_linear.proofs.Membership.{contains_head}
-use Rattle.lra_linear.proofs.OneSpelling.{falsity_never}
-use Rattle.lra_linear.specs.declared.GenKind.{GenKind}
+use Rattle.lra_linear_spec.specs.Points.{IsEmptySet}
+use Rattle.lra_linear_spec.specs.Polyhedra.{Polyhedron, IsPolyhedron, HasPoint, falsity}
+use Rattle.lra_linear_spec.specs.declared.ConKind.{ConKind}
+use Rattle.lra_linear_spec.proofs.Membership.{contains_head}
+use Rattle.lra_linear_spec.proofs.OneSpelling.{falsity_never}
+use Rattle.lra_linear_spec.specs.declared.GenKind.{GenKind}
 use Rattle.lra_sys.specs.Listed.{Listed, constraints, generators}
 use Rattle.lra_polydom.specs.Content.{is_absurd, listed, polyhedron_parts}
 use Rattle.lra_polydom.specs.Covering.{empty_parts, parts_empty}
@@ -27,8 +27,8 @@ pub lists_are : (p : Polyhedron) (rows : Listed ConKind) (gens : Listed GenKind)
     p.generators → polyhedron_of rows gens ≡ p
 lists_are p rows gens dims of_rows of_generators =
     ap (λ (n : ℕ). let q : Polyhedron = record { dims = n; rows = constraints rows; generators = generators gens } in q) dims
-    ∙ ap (λ (l : List Given). let q : Polyhedron = record { dims = p.dims; rows = l; generators = generators gens } in q) of_rows
-    ∙ ap (λ (l : List Given). let q : Polyhedron = record { dims = p.dims; rows = p.rows; generators = l } in q) of_generators
+    ∙ ap (λ (l : List LinearRow). let q : Polyhedron = record { dims = p.dims; rows = l; generators = generators gens } in q) of_rows
+    ∙ ap (λ (l : List LinearRow). let q : Polyhedron = record { dims = p.dims; rows = p.rows; generators = l } in q) of_generators
 
 -- a point of it would be none
 not_empty : (p : Polyhedron) → HasPoint p → IsEmptySet p.dims (Con p.rows) → ⊥
@@ -40,7 +40,7 @@ kept true list never = absurd (never refl)
 
 as_many : (p : Polyhedron) → IsPolyhedron p → length (shown_polyhedron p) ≡ length (polyhedron_parts p)
 as_many p (inl none) =
-    let never : Given = record { row = falsity p.dims; equal = false } in
+    let never : LinearRow = record { row = falsity p.dims; equal = false } in
     let empty : IsEmptySet p.dims (Con p.rows) = λ x i c. falsity_never p.dims x i
     (c never (subst (λ l. Contains l never) (sym none.0) (contains_head never []))) in
     ap length (no_part p none.1) ∙ sym (ap length (empty_parts p (inl none) empty))

@@ -5,22 +5,22 @@ use Rattle.std.specs.List.{All, AllByRecursion, Contains}
 use Rattle.std.proofs.lemmas.Int.{ints}
 use Rattle.std.proofs.lemmas.List.{map-append}
 use Rattle.std.proofs.lemmas.List.Elements.{All-head, All-tail, Contains-append_left, Contains-append_right}
-use Rattle.lra_linear.specs.declared.ConKind.{ConKind}
-use Rattle.lra_linear.specs.declared.ConKind.TheVariants.{Ge, Eq}
-use Rattle.lra_linear.specs.Cones.{all_rows, both_ways}
-use Rattle.lra_linear.specs.Descriptions.{Given, given_as, HoldsWith, Con}
-use Rattle.lra_linear.specs.Echelon.{Leads, IsEchelon}
-use Rattle.lra_linear.specs.Kinds.{constraint_kind, is_equality, is_line}
-use Rattle.lra_linear.specs.Points.{IsPoint}
-use Rattle.lra_linear.specs.Polyhedra.{Polyhedron, IsPolyhedron, HasPoint, falsity}
-use Rattle.lra_linear.specs.Range.{InRange}
-use Rattle.lra_linear.specs.Vectors.{entry, product}
-use Rattle.lra_linear.proofs.Combinations.{generated_row}
-use Rattle.lra_linear.proofs.Membership.{contains_none, contains_head, contains_tail, contains_cases}
-use Rattle.lra_linear.proofs.OneSpelling.{falsity_never, given_has, some_member}
-use Rattle.lra_linear.proofs.Polyhedra.{con_gen, cone_gen, generators_are_generators}
-use Rattle.lra_linear.specs.declared.GenKind.{GenKind}
-use Rattle.lra_linear.specs.declared.GenKind.TheVariants.{Point, Ray, Line}
+use Rattle.lra_linear_spec.specs.declared.ConKind.{ConKind}
+use Rattle.lra_linear_spec.specs.declared.ConKind.TheVariants.{Ge, Eq}
+use Rattle.lra_linear_spec.specs.Cones.{all_rows, both_ways}
+use Rattle.lra_linear_spec.specs.Descriptions.{LinearRow, rows_as, HoldsWith, Con}
+use Rattle.lra_linear_spec.specs.Echelon.{HasPivot, IsEchelon}
+use Rattle.lra_linear_spec.specs.Kinds.{constraint_kind, is_equality, is_line}
+use Rattle.lra_linear_spec.specs.Points.{IsPoint}
+use Rattle.lra_linear_spec.specs.Polyhedra.{Polyhedron, IsPolyhedron, HasPoint, falsity}
+use Rattle.lra_linear_spec.specs.Range.{InRange}
+use Rattle.lra_linear_spec.specs.Vectors.{entry, product}
+use Rattle.lra_linear_spec.proofs.Combinations.{generated_row}
+use Rattle.lra_linear_spec.proofs.Membership.{contains_none, contains_head, contains_tail, contains_cases}
+use Rattle.lra_linear_spec.proofs.OneSpelling.{falsity_never, given_has, some_member}
+use Rattle.lra_linear_spec.proofs.Polyhedra.{con_gen, cone_gen, generators_are_generators}
+use Rattle.lra_linear_spec.specs.declared.GenKind.{GenKind}
+use Rattle.lra_linear_spec.specs.declared.GenKind.TheVariants.{Point, Ray, Line}
 use Rattle.lra_sys.specs.Listed.{Listed, given_by, constraints, generators, FitsKind, FitKinds}
 use Rattle.lra_polydom.proofs.PartLemmas.{kind_back}
 use Rattle.lra_show.specs.Rows.{Row, RowHolds}
@@ -64,12 +64,12 @@ generators_again (r ∷ rows) (k ∷ kinds) h =
     ∙ ap (λ rest. report_generator r (generator_kind (is_line k) (entry r 0)) ∷ rest) (generators_again rows kinds h.1)
 
 -- ---- what holds of the rows of a list holds of its members
-pub members : {K : Type 0} (equal : K → Bool) (P : List ℤ → Type 0) (rows : List (List ℤ)) (kinds : List K) → All P rows → (g : Given) → Contains
+pub members : {K : Type 0} (equal : K → Bool) (P : List ℤ → Type 0) (rows : List (List ℤ)) (kinds : List K) → All P rows → (g : LinearRow) → Contains
     (given_by equal rows kinds) g → P g.row
 members equal P [] kinds h g k = absurd (contains_none g k)
 members equal P (r ∷ rows) [] h g k = absurd (contains_none g k)
-members equal P (r ∷ rows) (q ∷ kinds) h g k = elim (contains_cases (let x : Given = record { row = r; equal = equal q } in x) g (given_by equal rows kinds) k) [
-  | inl e ↦ subst (λ (x : Given). P x.row) e (All-head P r rows h)
+members equal P (r ∷ rows) (q ∷ kinds) h g k = elim (contains_cases (let x : LinearRow = record { row = r; equal = equal q } in x) g (given_by equal rows kinds) k) [
+  | inl e ↦ subst (λ (x : LinearRow). P x.row) e (All-head P r rows h)
   | inr d ↦ members equal P rows kinds (All-tail P r rows h) g d
 ]
 
@@ -82,7 +82,8 @@ row_wide : (n : ℕ) (row : List ℤ) (k : ConKind) → length row ≡ suc n →
 row_wide n [] k e = absurd (omega (arith, e))
 row_wide n (c ∷ cs) k e = omega (arith, e)
 
-rows_wide : (n : ℕ) (rows : List Given) → ((g : Given) → Contains rows g → length g.row ≡ suc n) → AllByRecursion (λ (r : Row). length r.coefficients ≡ n)
+rows_wide : (n : ℕ) (rows : List LinearRow) → ((g : LinearRow) → Contains rows g → length g.row ≡ suc n) →
+    AllByRecursion (λ (r : Row). length r.coefficients ≡ n)
     (map shown_constraint rows)
 rows_wide n [] h = tt
 rows_wide n (g ∷ rows) h = (row_wide n g.row (constraint_kind g.equal) (h g (contains_head g rows)), rows_wide n rows (λ x k. h x (contains_tail g x rows k)))
@@ -91,7 +92,8 @@ generator_wide : (n : ℕ) (row : List ℤ) (k : GenKind) → length row ≡ suc
 generator_wide n [] k e = absurd (omega (arith, e))
 generator_wide n (c ∷ cs) k e = omega (arith, e)
 
-generators_wide : (n : ℕ) (gs : List Given) → ((g : Given) → Contains gs g → length g.row ≡ suc n) → AllByRecursion (λ (g : Generator). length g.numbers ≡ n)
+generators_wide : (n : ℕ) (gs : List LinearRow) → ((g : LinearRow) → Contains gs g → length g.row ≡ suc n) →
+    AllByRecursion (λ (g : Generator). length g.numbers ≡ n)
     (map shown_generator gs)
 generators_wide n [] h = tt
 generators_wide n (g ∷ gs) h =
@@ -100,29 +102,29 @@ generators_wide n (g ∷ gs) h =
 -- ---- texts
 -- a fact on each row that is shown
 shown_each : (P : Row → Type 0) (b : Bool) (rows : List (List ℤ)) → ((r : List ℤ) → Contains rows r → P (report_row r (constraint_kind b))) → AllByRecursion P
-    (map shown_constraint (given_as b rows))
+    (map shown_constraint (rows_as b rows))
 shown_each P b [] h = tt
 shown_each P b (r ∷ rows) h = (h r (contains_head r rows), shown_each P b rows (λ x k. h x (contains_tail r x rows k)))
 
 shown_each_generator : (P : Generator → Type 0) (b : Bool) (rows : List (List ℤ)) →
     ((r : List ℤ) → Contains rows r → P (shown_generator (record { row = r; equal = b })))
-    → AllByRecursion P (map shown_generator (given_as b rows))
+    → AllByRecursion P (map shown_generator (rows_as b rows))
 shown_each_generator P b [] h = tt
 shown_each_generator P b (r ∷ rows) h = (h r (contains_head r rows), shown_each_generator P b rows (λ x k. h x (contains_tail r x rows k)))
 
-leads_of : (rows : List (List ℤ)) (ps : List ℕ) → IsEchelon rows ps → (r : List ℤ) → Contains rows r → (p : ℕ) × Leads r p
+leads_of : (rows : List (List ℤ)) (ps : List ℕ) → IsEchelon rows ps → (r : List ℤ) → Contains rows r → (p : ℕ) × HasPivot r p
 leads_of [] ps e r k = absurd (contains_none r k)
 leads_of (x ∷ rows) [] e r k = absurd e
-leads_of (x ∷ rows) (p ∷ ps) e r k = elim (contains_cases x r rows k) [ inl s ↦ (p, subst (λ z. Leads z p) s e.0) | inr d ↦ leads_of rows ps e.4 r d ]
+leads_of (x ∷ rows) (p ∷ ps) e r k = elim (contains_cases x r rows k) [ inl s ↦ (p, subst (λ z. HasPivot z p) s e.0) | inr d ↦ leads_of rows ps e.4 r d ]
 
 -- each number of the rows is in the range
-abbrev AreSmall : List Given → Type 0
-AreSmall list = (g : Given) → Contains list g → AllByRecursion InRange g.row
+abbrev AreSmall : List LinearRow → Type 0
+AreSmall list = (g : LinearRow) → Contains list g → AllByRecursion InRange g.row
 
 rows_spelled : (p : Polyhedron) → HasPoint p → AreSmall p.rows → AllByRecursion IsSpelledRow (map shown_constraint p.rows)
 rows_spelled p h small =
-    let es = given_as true h.equalities in
-    let is = given_as false h.inequalities in
+    let es = rows_as true h.equalities in
+    let is = rows_as false h.inequalities in
     let small' : AreSmall (es ++ is) = subst AreSmall h.rows_are small in
     let first = shown_each IsSpelledRow true h.equalities (λ r k.
     let (q, leads) = leads_of h.equalities h.constraints_canonical.pivots h.constraints_canonical.echelon r k in
@@ -131,12 +133,12 @@ rows_spelled p h small =
     let second = shown_each IsSpelledRow false h.inequalities (λ r k.
     spelled_inequality r (small' (record { row = r; equal = false }) (Contains-append_right es is (record { row = r; equal = false })
     (given_has false h.inequalities r k)))) in
-    subst (λ (rows : List Given). AllByRecursion IsSpelledRow (map shown_constraint rows)) (sym h.rows_are)
+    subst (λ (rows : List LinearRow). AllByRecursion IsSpelledRow (map shown_constraint rows)) (sym h.rows_are)
     (subst (AllByRecursion IsSpelledRow) (sym (map-append shown_constraint es is))
     (every_append IsSpelledRow (map shown_constraint es) (map shown_constraint is) first second))
 
 -- of three lists
-each_of_three : (P : Generator → Type 0) (xs ys zs : List Given) → AllByRecursion P (map shown_generator xs) → AllByRecursion P (map shown_generator ys) →
+each_of_three : (P : Generator → Type 0) (xs ys zs : List LinearRow) → AllByRecursion P (map shown_generator xs) → AllByRecursion P (map shown_generator ys) →
     AllByRecursion P (map shown_generator zs)
     → AllByRecursion P (map shown_generator (xs ++ ys ++ zs))
 each_of_three P xs ys zs a b c =
@@ -145,25 +147,25 @@ each_of_three P xs ys zs a b c =
 
 generators_spelled : (p : Polyhedron) → HasPoint p → AreSmall p.generators → AllByRecursion IsSpelledGenerator (map shown_generator p.generators)
 generators_spelled p h small =
-    let points = given_as false h.points in
-    let rays = given_as false h.rays in
-    let lines = given_as true h.lines in
+    let points = rows_as false h.points in
+    let rays = rows_as false h.rays in
+    let lines = rows_as true h.lines in
     let small' : AreSmall (points ++ rays ++ lines) = subst AreSmall h.generators_are small in
     let of_points = shown_each_generator IsSpelledGenerator false h.points (λ r k.
     let above = h.divisors r k in
-    let g : Given = record { row = r; equal = false } in
+    let g : LinearRow = record { row = r; equal = false } in
     subst (λ (q : GenKind). IsSpelledGenerator (report_generator r q)) (point_again (entry r 0) above)
     (spelled_point r above (h.generators_canonical.lowest r (Contains-append_left h.points h.rays r k))
     (small' g (Contains-append_left (points ++ rays) lines g (Contains-append_left points rays g (given_has false h.points r k)))))) in
     let of_rays = shown_each_generator IsSpelledGenerator false h.rays (λ r k.
     let flat = h.directions r (inl k) in
-    let g : Given = record { row = r; equal = false } in
+    let g : LinearRow = record { row = r; equal = false } in
     subst (λ (q : GenKind). IsSpelledGenerator (report_generator r q)) (ap (generator_kind false) (sym flat))
     (spelled_ray r flat (small' g (Contains-append_left (points ++ rays) lines g (Contains-append_right points rays g (given_has false h.rays r k)))))) in
     let of_lines = shown_each_generator IsSpelledGenerator true h.lines (λ r k.
-    let g : Given = record { row = r; equal = true } in
+    let g : LinearRow = record { row = r; equal = true } in
     spelled_line r (h.directions r (inr k)) (small' g (Contains-append_right (points ++ rays) lines g (given_has true h.lines r k)))) in
-    subst (λ (gs : List Given). AllByRecursion IsSpelledGenerator (map shown_generator gs)) (sym h.generators_are)
+    subst (λ (gs : List LinearRow). AllByRecursion IsSpelledGenerator (map shown_generator gs)) (sym h.generators_are)
     (each_of_three IsSpelledGenerator points rays lines of_points of_rays of_lines)
 
 -- ---- points
@@ -209,7 +211,7 @@ has_point p h =
     point_there p h r k long above ((con_gen p (inr h)).1 r point generated)
 
 -- ---- stores
-each_holds : (rows : List Given) (s : List ℤ) → Con rows (pos 1 ∷ s) → AllByRecursion (λ (r : Row). RowHolds r s) (map shown_constraint rows)
+each_holds : (rows : List LinearRow) (s : List ℤ) → Con rows (pos 1 ∷ s) → AllByRecursion (λ (r : Row). RowHolds r s) (map shown_constraint rows)
 each_holds [] s h = tt
 each_holds (g ∷ rows) s h = (one g.row g.equal (h g (contains_head g rows)), each_holds rows s (λ x k. h x (contains_tail g x rows k)))
   where
@@ -217,10 +219,10 @@ each_holds (g ∷ rows) s h = (one g.row g.equal (h g (contains_head g rows)), e
     one row true h = row_holds row Eq s h
     one row false h = row_holds row Ge s h
 
-each_held : (rows : List Given) (s : List ℤ) → AllByRecursion (λ (r : Row). RowHolds r s) (map shown_constraint rows) → Con rows (pos 1 ∷ s)
+each_held : (rows : List LinearRow) (s : List ℤ) → AllByRecursion (λ (r : Row). RowHolds r s) (map shown_constraint rows) → Con rows (pos 1 ∷ s)
 each_held [] s h g i = absurd (contains_none g i)
 each_held (x ∷ rows) s h g i = elim (contains_cases x g rows i) [
-  | inl e ↦ subst (λ (y : Given). HoldsWith y.equal (product y.row (pos 1 ∷ s))) e (one x.row x.equal h.0)
+  | inl e ↦ subst (λ (y : LinearRow). HoldsWith y.equal (product y.row (pos 1 ∷ s))) e (one x.row x.equal h.0)
   | inr d ↦ each_held rows s h.1 g d
 ]
   where
@@ -228,7 +230,7 @@ each_held (x ∷ rows) s h g i = elim (contains_cases x g rows i) [
     one row true h = row_held row Eq s h
     one row false h = row_held row Ge s h
 
-one_held : (rows : List Given) (s : List ℤ) → AllByRecursion (λ (r : Row). RowHolds r s) (map shown_constraint rows) ⊎ ⊥ → Con rows (pos 1 ∷ s)
+one_held : (rows : List LinearRow) (s : List ℤ) → AllByRecursion (λ (r : Row). RowHolds r s) (map shown_constraint rows) ⊎ ⊥ → Con rows (pos 1 ∷ s)
 one_held rows s (inl h) = each_held rows s h
 one_held rows s (inr h) = absurd h
 
@@ -236,21 +238,21 @@ store_point : (n : ℕ) (s : List ℤ) → length s ≡ n → IsPoint n (pos 1 �
 store_point n s long = record { width = ap suc long; divisor = omega (arith, ints) }
 
 -- ---- the state
-any_part : (part : Part) (points : List (List ℤ)) (further : List Given) → points ≢ [] → part_if_any (given_as false points ++ further) part ≡ part ∷ []
+any_part : (part : Part) (points : List (List ℤ)) (further : List LinearRow) → points ≢ [] → part_if_any (rows_as false points ++ further) part ≡ part ∷ []
 any_part part [] further some = absurd (some refl)
 any_part part (r ∷ points) further some = refl
 
 pub no_part : (p : Polyhedron) → p.generators ≡ [] → shown_polyhedron p ≡ []
-no_part p none = ap (λ (gs : List Given). part_if_any gs (part_of p)) none
+no_part p none = ap (λ (gs : List LinearRow). part_if_any gs (part_of p)) none
 
 pub one_part : (p : Polyhedron) → HasPoint p → (part : Part) → part_if_any p.generators part ≡ part ∷ []
 one_part p h part =
-    ap (λ (gs : List Given). part_if_any gs part) (h.generators_are ∙ append_assoc (given_as false h.points) (given_as false h.rays) (given_as true h.lines))
-    ∙ any_part part h.points (given_as false h.rays ++ given_as true h.lines) h.some_point
+    ap (λ (gs : List LinearRow). part_if_any gs part) (h.generators_are ∙ append_assoc (rows_as false h.points) (rows_as false h.rays) (rows_as true h.lines))
+    ∙ any_part part h.points (rows_as false h.rays ++ rows_as true h.lines) h.some_point
 
 -- rows and generators have a column more than there are dimensions
-abbrev AreWide : ℕ → List Given → Type 0
-AreWide n list = (g : Given) → Contains list g → length g.row ≡ suc n
+abbrev AreWide : ℕ → List LinearRow → Type 0
+AreWide n list = (g : LinearRow) → Contains list g → length g.row ≡ suc n
 
 pub told : (p : Polyhedron) → IsPolyhedron p → AreWide p.dims p.rows → AreWide p.dims p.generators → AreSmall p.generators → TellsPolyhedron p
     (shown_polyhedron p)

@@ -3,13 +3,13 @@ use Rattle.std.proofs.Common.{◌≡◌, ℕ, suc, ◌++◌, List, [], ◌∷◌
 use Rattle.std.specs.Prelude.{ℤ, pos, ◌+ℤ◌, replicate}
 use Rattle.std.specs.List.{AllByRecursion}
 use Rattle.std.proofs.lemmas.Int.{ints}
-use Rattle.lra_linear.specs.Vectors.{product}
-use Rattle.lra_linear.specs.Descriptions.{Given, Con, HoldsWith}
-use Rattle.lra_linear.proofs.Membership.{contains_none, contains_head, contains_tail, contains_cases}
+use Rattle.lra_linear_spec.specs.Vectors.{product}
+use Rattle.lra_linear_spec.specs.Descriptions.{LinearRow, Con, HoldsWith}
+use Rattle.lra_linear_spec.proofs.Membership.{contains_none, contains_head, contains_tail, contains_cases}
 use Rattle.lra_sys.specs.Listed.{Listed, given_by}
-use Rattle.lra_linear.specs.Kinds.{is_equality}
-use Rattle.lra_linear.specs.declared.ConKind.{ConKind}
-use Rattle.lra_linear.specs.declared.ConKind.TheVariants.{Ge, Eq}
+use Rattle.lra_linear_spec.specs.Kinds.{is_equality}
+use Rattle.lra_linear_spec.specs.declared.ConKind.{ConKind}
+use Rattle.lra_linear_spec.specs.declared.ConKind.TheVariants.{Ge, Eq}
 use Rattle.lra_show.specs.Shown.{report_row}
 use Rattle.lra_show.specs.Lists.{shown_rows}
 use Rattle.lra_report.specs.Spelled.{IsDirected}
@@ -41,7 +41,7 @@ rows_hold : (rows : List (List ℤ)) (kinds : List ConKind) (s : List ℤ) → C
 rows_hold [] kinds s h = tt
 rows_hold (r ∷ rows) [] s h = tt
 rows_hold (r ∷ rows) (k ∷ kinds) s h =
-    let g : Given = record { row = r; equal = is_equality k } in (
+    let g : LinearRow = record { row = r; equal = is_equality k } in (
       row_holds r k s (h g (contains_head g (given_by is_equality rows kinds))),
       rows_hold rows kinds s
           (λ x i. h x (contains_tail g x (given_by is_equality rows kinds) i)),
@@ -52,9 +52,9 @@ rows_held : (rows : List (List ℤ)) (kinds : List ConKind) (s : List ℤ) → A
 rows_held [] kinds s h g i = absurd (contains_none g i)
 rows_held (r ∷ rows) [] s h g i = absurd (contains_none g i)
 rows_held (r ∷ rows) (k ∷ kinds) s h g i =
-    let first : Given = record { row = r; equal = is_equality k } in
+    let first : LinearRow = record { row = r; equal = is_equality k } in
     elim (contains_cases first g (given_by is_equality rows kinds) i) [
-      | inl e ↦ subst (λ (x : Given). HoldsWith x.equal (product x.row (pos 1 ∷ s))) e (row_held r k s h.0)
+      | inl e ↦ subst (λ (x : LinearRow). HoldsWith x.equal (product x.row (pos 1 ∷ s))) e (row_held r k s h.0)
       | inr d ↦ rows_held rows kinds s h.1 g d
     ]
 

@@ -5,7 +5,7 @@ use Rattle.std.specs.List.{AllByRecursion}
 use Rattle.std.proofs.lemmas.List.{length-map}
 use Rattle.lra_options.specs.declared.options.Domain.{Domain}
 use Rattle.lra_sys.specs.Listed.{Listed}
-use Rattle.lra_linear.specs.declared.ConKind.{ConKind}
+use Rattle.lra_linear_spec.specs.declared.ConKind.{ConKind}
 use Rattle.lra_domain.specs.Meaning.{Meaning}
 use Rattle.lra_show.specs.Rows.{Row}
 use Rattle.lra_show.specs.Part.{Part}

@@ -3,12 +3,12 @@ use Rattle.std.proofs.Common.{◌≡◌, ◌∙◌, ℕ, zero, suc, ℤ, pos, ne
 use Rattle.std.proofs.Common.{subst, arith}
 use Rattle.std.specs.Prelude.{get_or}
 use Rattle.std.proofs.lemmas.Int.{ints}
-use Rattle.lra_linear.specs.Descriptions.{Given, IsGenerator, AreGenerators, lines_of, rays_of, HoldsWith, Holds, Con, Gen}
-use Rattle.lra_linear.specs.Kinds.{constraint_kind}
-use Rattle.lra_linear.specs.Vectors.{entry, product, sum_of, signed_sum}
-use Rattle.lra_linear.proofs.Membership.{contains_none, contains_head, contains_tail, contains_cases}
-use Rattle.lra_linear.specs.declared.GenKind.{GenKind}
-use Rattle.lra_linear.specs.declared.GenKind.TheVariants.{Line}
+use Rattle.lra_linear_spec.specs.Descriptions.{LinearRow, IsGenerator, AreGenerators, lines_of, rays_of, HoldsWith, Holds, Con, Gen}
+use Rattle.lra_linear_spec.specs.Kinds.{constraint_kind}
+use Rattle.lra_linear_spec.specs.Vectors.{entry, product, sum_of, signed_sum}
+use Rattle.lra_linear_spec.proofs.Membership.{contains_none, contains_head, contains_tail, contains_cases}
+use Rattle.lra_linear_spec.specs.declared.GenKind.{GenKind}
+use Rattle.lra_linear_spec.specs.declared.GenKind.TheVariants.{Line}
 use Rattle.lra_show.specs.Shown.{report_row, report_generator}
 use Rattle.lra_show.specs.ShownDescriptions.{generator_kind, shown_constraint, shown_generator}
 use Rattle.lra_show.specs.Part.{Generator}
@@ -31,14 +31,14 @@ row_from [] false x h = omega (arith, ints)
 row_from (c ∷ cs) true x h = h
 row_from (c ∷ cs) false x h = h
 
-pub within_con : (rows : List Given) (x : RationalPoint) → IsWithin (map shown_constraint rows) x → Con rows (as_row x)
+pub within_con : (rows : List LinearRow) (x : RationalPoint) → IsWithin (map shown_constraint rows) x → Con rows (as_row x)
 within_con [] x h g k = absurd (contains_none g k)
 within_con (r ∷ rows) x h g k = elim (contains_cases r g rows k) [
-  | inl e ↦ subst (λ (z : Given). Holds z (as_row x)) e (row_to r.row r.equal x h.0)
+  | inl e ↦ subst (λ (z : LinearRow). Holds z (as_row x)) e (row_to r.row r.equal x h.0)
   | inr d ↦ within_con rows x h.1 g d
 ]
 
-pub con_within : (rows : List Given) (x : RationalPoint) → Con rows (as_row x) → IsWithin (map shown_constraint rows) x
+pub con_within : (rows : List LinearRow) (x : RationalPoint) → Con rows (as_row x) → IsWithin (map shown_constraint rows) x
 con_within [] x h = tt
 con_within (r ∷ rows) x h = (row_from r.row r.equal x (h r (contains_head r rows)), con_within rows x (λ g k. h g (contains_tail r g rows k)))
 
@@ -62,17 +62,17 @@ number_is : (row : List ℤ) (k : GenKind) (j : ℕ) → get_or (report_generato
 number_is [] k j = refl
 number_is (d ∷ zs) k j = get_entry zs j
 
-abbrev column : List Given → ℕ → List ℤ
-column gs j = map (λ (g : Given). entry g.row j) gs
+abbrev column : List LinearRow → ℕ → List ℤ
+column gs j = map (λ (g : LinearRow). entry g.row j) gs
 
-divisors_are : (gs : List Given) → AreGenerators gs → map (λ (g : Generator). pos g.divisor) (map shown_generator gs) ≡ column gs 0
+divisors_are : (gs : List LinearRow) → AreGenerators gs → map (λ (g : Generator). pos g.divisor) (map shown_generator gs) ≡ column gs 0
 divisors_are [] are = refl
 divisors_are (g ∷ gs) are =
     ap (λ z. z ∷ map (λ (g : Generator). pos g.divisor) (map shown_generator gs))
     (divisor_is g.row g.equal (generator_kind g.equal (entry g.row 0)) (are g (contains_head g gs)))
     ∙ ap (λ zs. entry g.row 0 ∷ zs) (divisors_are gs (λ x k. are x (contains_tail g x gs k)))
 
-numbers_are : (gs : List Given) (j : ℕ) → map (λ (g : Generator). get_or g.numbers j (pos 0)) (map shown_generator gs) ≡ column gs (suc j)
+numbers_are : (gs : List LinearRow) (j : ℕ) → map (λ (g : Generator). get_or g.numbers j (pos 0)) (map shown_generator gs) ≡ column gs (suc j)
 numbers_are [] j = refl
 numbers_are (g ∷ gs) j =
     ap (λ z. z ∷ map (λ (g : Generator). get_or g.numbers j (pos 0)) (map shown_generator gs)) (number_is g.row (generator_kind g.equal (entry g.row 0)) j)
@@ -126,7 +126,7 @@ halve_first row false (pos n) lines rays total f h = record {
 }
 halve_first row false (negsuc n) lines rays total f h = absurd (let not_below = factor_nonneg row (negsuc n) f in omega (arith, ints, not_below))
 
-halves : (gs : List Given) (zs : List ℤ) → AreFactors (map shown_generator gs) zs → Halves (lines_of gs) (rays_of gs) (λ j. product zs (column gs j))
+halves : (gs : List LinearRow) (zs : List ℤ) → AreFactors (map shown_generator gs) zs → Halves (lines_of gs) (rays_of gs) (λ j. product zs (column gs j))
 halves [] [] h = record { free = []; factors = []; same = λ j. refl }
 halves [] (z ∷ zs) h = absurd h
 halves (g ∷ gs) [] h = absurd h
@@ -178,12 +178,13 @@ nothing [] (f ∷ fs) j = refl
 nothing (z ∷ zs) [] j = refl
 nothing (z ∷ zs) (f ∷ fs) j = refl
 
-whole : (gs : List Given) (free : List ℤ) (factors : List ℕ) → Whole (map shown_generator gs) (column gs) (both_sums free factors (lines_of gs) (rays_of gs))
+whole : (gs : List LinearRow) (free : List ℤ) (factors : List ℕ) →
+    Whole (map shown_generator gs) (column gs) (both_sums free factors (lines_of gs) (rays_of gs))
 whole [] free factors = record { factors = []; are = tt; same = nothing free factors }
 whole (g ∷ gs) free factors = join_first g.row g.equal (map shown_generator gs) (column gs) (lines_of gs) (rays_of gs) free factors (whole gs)
 
 -- ---- what is generated
-pub generated_gen : (gs : List Given) → AreGenerators gs → (x : RationalPoint) → IsGenerated (map shown_generator gs) x → Gen gs (as_row x)
+pub generated_gen : (gs : List LinearRow) → AreGenerators gs → (x : RationalPoint) → IsGenerated (map shown_generator gs) x → Gen gs (as_row x)
 generated_gen gs are x h = record { multiple = h.multiple; positive = h.positive; free = s.free; factors = s.factors; is_sum = columns }
   where
     s : Halves (lines_of gs) (rays_of gs) (λ j. product h.factors (column gs j))
@@ -194,7 +195,7 @@ generated_gen gs are x h = record { multiple = h.multiple; positive = h.positive
     columns (suc j) =
         ap (λ z. pos h.multiple *ℤ z) (sym (get_entry x.numerators j)) ∙ h.numerators j ∙ ap (product h.factors) (numbers_are gs j) ∙ sym (s.same (suc j))
 
-pub gen_generated : (gs : List Given) → AreGenerators gs → (x : RationalPoint) → Gen gs (as_row x) → IsGenerated (map shown_generator gs) x
+pub gen_generated : (gs : List LinearRow) → AreGenerators gs → (x : RationalPoint) → Gen gs (as_row x) → IsGenerated (map shown_generator gs) x
 gen_generated gs are x h =
     let w = whole gs h.free h.factors in
     record {

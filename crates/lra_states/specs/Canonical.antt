@@ -5,15 +5,15 @@ use Rattle.lra_options.specs.declared.options.Domain.{Domain}
 use Rattle.lra_options.specs.declared.options.Domain.TheVariants.{Poly, Box, Oct}
 use Rattle.lra_report.specs.Report.{Invariant}
 use Rattle.lra_show.specs.Part.{Part}
-use Rattle.lra_linear.specs.Formed.{IsFormed}
-use Rattle.lra_linear.specs.Polyhedra.{Polyhedron}
+use Rattle.lra_linear_spec.specs.Representable.{IsRepresentable}
+use Rattle.lra_linear_spec.specs.Polyhedra.{Polyhedron}
 use Rattle.lra_show.specs.ShownDescriptions.{shown_constraint, shown_generator}
 
 -- the part shows the two lists of a polyhedron, which are canonical, within the limit and of numbers of the range
 pub record IsCanonicalPart (n : ℕ) (part : Part) : Type 0 where
   pub polyhedron : Polyhedron
   pub dims : polyhedron.dims ≡ n
-  pub formed : IsFormed polyhedron
+  pub formed : IsRepresentable polyhedron
   pub rows : part.rows ≡ map shown_constraint polyhedron.rows
   pub generators : part.generators ≡ map shown_generator polyhedron.generators
 

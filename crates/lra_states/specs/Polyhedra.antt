@@ -1,10 +1,10 @@
 -- How a polyhedron is shown: by its constraints and by its generators, which tell the same points.
 use Rattle.std.specs.Prelude.{◌≡◌, ℤ, pos, List, [], ◌∷◌, length, map}
 use Rattle.std.specs.List.{AllByRecursion}
-use Rattle.lra_linear.specs.declared.ConKind.{ConKind}
-use Rattle.lra_linear.specs.Descriptions.{Given, Con}
-use Rattle.lra_linear.specs.Polyhedra.{Polyhedron}
-use Rattle.lra_linear.specs.declared.GenKind.{GenKind}
+use Rattle.lra_linear_spec.specs.declared.ConKind.{ConKind}
+use Rattle.lra_linear_spec.specs.Descriptions.{LinearRow, Con}
+use Rattle.lra_linear_spec.specs.Polyhedra.{Polyhedron}
+use Rattle.lra_linear_spec.specs.declared.GenKind.{GenKind}
 use Rattle.lra_sys.specs.Listed.{Listed, constraints, generators}
 use Rattle.lra_options.specs.declared.options.Domain.TheVariants.{Poly}
 use Rattle.lra_show.specs.ShownDescriptions.{shown_constraint, shown_generator}
@@ -14,7 +14,7 @@ use Rattle.lra_report.specs.Parts.{Tells}
 use Rattle.lra_report.specs.Listing.{HasWidth}
 
 -- no part where there is no generator
-abbrev pub part_if_any : List Given → Part → Invariant
+abbrev pub part_if_any : List LinearRow → Part → Invariant
 part_if_any [] part = []
 part_if_any (g ∷ gs) part = part ∷ []
 

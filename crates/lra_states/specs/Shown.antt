@@ -2,7 +2,7 @@
 use Rattle.std.specs.Prelude.{◌≡◌, ◌↔◌, ℤ, List, [], length, map}
 use Rattle.std.specs.List.{AllByRecursion, Contains}
 use Rattle.lra_sys.specs.Listed.{Listed}
-use Rattle.lra_linear.specs.declared.ConKind.{ConKind}
+use Rattle.lra_linear_spec.specs.declared.ConKind.{ConKind}
 use Rattle.lra_show.specs.Lists.{shown_rows}
 use Rattle.lra_domain.specs.Meaning.{Meaning}
 use Rattle.lra_options.specs.declared.options.Domain.{Domain}

@@ -3,8 +3,8 @@
 ghost use Rattle.std.specs.Prelude.{◌≡◌, IfOk};
 ghost use Rattle.std.specs.List.{AllByRecursion};
 ghost use Rattle.lra_options.specs.declared.options.Domain.TheVariants as options;
-ghost use Rattle.lra_linear.specs.Formed.{IsFormed};
-ghost use Rattle.lra_linear.specs.Polyhedra.{IsPolyhedron};
+ghost use Rattle.lra_linear_spec.specs.Representable.{IsRepresentable};
+ghost use Rattle.lra_linear_spec.specs.Polyhedra.{IsPolyhedron};
 ghost use Rattle.lra_sys.specs.Listed.{FitKinds};
 ghost use Rattle.lra_report.specs.Spelled.{IsSpelledPart};
 ghost use Rattle.lra_states.specs.Canonical.{IsCanonicalState};
@@ -26,7 +26,7 @@ fn polyhedron_state(
     requires dims { generators.now.dims ≡ rows.now.dims }
     requires fit { FitKinds generators.now.rows generators.now.kinds }
     requires canonical { IsPolyhedron (polyhedron_of rows.now generators.now) }
-    requires formed { IsFormed (polyhedron_of rows.now generators.now) }
+    requires formed { IsRepresentable (polyhedron_of rows.now generators.now) }
     ensures shown { IfOk result (λ s. s.items ≡ shown_polyhedron (polyhedron_of rows.now generators.now)) }
     ensures told { IfOk result (λ s. TellsPolyhedron (polyhedron_of rows.now generators.now) s.items) }
     ensures spelled { IfOk result (λ s. AllByRecursion IsSpelledPart s.items) }

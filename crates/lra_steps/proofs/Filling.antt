@@ -11,7 +11,7 @@ use Rattle.lra_bits.specs.Matrix.{Matrix}
 use Rattle.lra_bits.specs.TruthValues.{value_at}
 use Rattle.lra_bits.proofs.Lengthening.{lengthened_more}
 use Rattle.lra_steps.specs.Steps.{IsFilled, lengthened_rows, is_inside, outside_marks}
-use Rattle.lra_linear.specs.Descriptions.{HoldsWith}
+use Rattle.lra_linear_spec.specs.Descriptions.{HoldsWith}
 use Rattle.lra_steps.proofs.PairLists.{accepted}
 
 -- ---- values that were true, set one after the other

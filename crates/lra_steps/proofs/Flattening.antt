@@ -1,10 +1,10 @@
 -- A row combined with a line, from the sum that is formed.
 use Rattle.std.proofs.Common.{◌≡◌, ℕ, ◌+◌, ◌-◌, ◌<◌, List, [], ◌∷◌, ◌++◌, length, get_or, take, drop, ap, sym, ◌∙◌, subst, pos, ℤ, ◌+ℤ◌, ◌*ℤ◌, neg_ℤ, arith, inr}
 use Rattle.std.proofs.lemmas.List.{take_more, length-take-le, append_assoc, take_all, length-drop, get_or_default}
-use Rattle.lra_linear.specs.Vectors.{entry, negated, blend}
-use Rattle.lra_linear.specs.LowestTerms.{IsLowest}
-use Rattle.lra_linear.proofs.Products.{entry_blend, blend_length, entry_negated}
-use Rattle.lra_linear.proofs.Ring.{ring, v, ⊖, ◌⊕◌, ◌⊗◌}
+use Rattle.lra_linear_spec.specs.Vectors.{entry, negated, blend}
+use Rattle.lra_linear_spec.specs.LowestTerms.{IsLowest}
+use Rattle.lra_linear_spec.proofs.Products.{entry_blend, blend_length, entry_negated}
+use Rattle.lra_linear_spec.proofs.Ring.{ring, v, ⊖, ◌⊕◌, ◌⊗◌}
 use Rattle.lra_steps.specs.declared.line_step.Across.{Across}
 use Rattle.lra_steps.specs.Steps.{IsFlattened, AreFlattened, PushesFlattened, AreFlatLines}
 

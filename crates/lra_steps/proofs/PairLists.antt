@@ -8,9 +8,9 @@ use Rattle.std.proofs.lemmas.Int.{ints}
 use Rattle.std.proofs.lemmas.List.{take_more, get_or_past}
 use Rattle.std.proofs.lemmas.List.Elements.{Contains-append_cases, Contains-append_left, Contains-append_right}
 use Rattle.lra_bits.specs.TruthValues.{both}
-use Rattle.lra_linear.specs.Descriptions.{HoldsWith}
-use Rattle.lra_linear.specs.LowestTerms.{IsLowest}
-use Rattle.lra_linear.proofs.Membership.{contains_none, contains_cases, contains_head, contains_tail}
+use Rattle.lra_linear_spec.specs.Descriptions.{HoldsWith}
+use Rattle.lra_linear_spec.specs.LowestTerms.{IsLowest}
+use Rattle.lra_linear_spec.proofs.Membership.{contains_none, contains_cases, contains_head, contains_tail}
 use Rattle.lra_bits.proofs.Pairs.{both_length}
 use Rattle.lra_steps.specs.declared.pairs.Pair.{Pair}
 use Rattle.lra_steps.specs.Pairs.{HasThird, NoThird, TellsAdjacent, both_tight, IsAdjacentPair, AreApart, IsBefore, ArePairs, pair_sum, AreCombined}

@@ -6,9 +6,9 @@ use Rattle.std.specs.List.{Contains}
 use Rattle.std.specs.Ordering.{int_eq}
 use Rattle.lra_bits.specs.Matrix.{Matrix, unmarked}
 use Rattle.lra_bits.specs.TruthValues.{IsSubset, both}
-use Rattle.lra_linear.specs.Vectors.{blend}
-use Rattle.lra_linear.specs.ConeStrain.{row_limit}
-use Rattle.lra_linear.specs.LowestTerms.{IsLowest}
+use Rattle.lra_linear_spec.specs.Vectors.{blend}
+use Rattle.lra_linear_spec.specs.ConeStrain.{row_limit}
+use Rattle.lra_linear_spec.specs.LowestTerms.{IsLowest}
 use Rattle.lra_steps.specs.declared.pairs.Pair.{Pair}
 use Rattle.lra_steps.specs.declared.ray_step.Cut.{Cut}
 use Rattle.lra_steps.specs.Steps.{lengthened_rows, outside_marks, inside_count}

@@ -7,10 +7,10 @@ use Rattle.std.specs.Ordering.{int_eq}
 use Rattle.lra_bits.specs.Matrix.{Matrix}
 pub use Rattle.lra_bits.specs.Matrix.{lengthened_rows}
 use Rattle.lra_bits.specs.TruthValues.{value_at}
-use Rattle.lra_linear.specs.declared.Excess as E
-use Rattle.lra_linear.specs.Vectors.{entry, negated}
-use Rattle.lra_linear.specs.LowestTerms.{IsPrimitive}
-use Rattle.lra_linear.specs.CheckedArithmetic.{checked_blend}
+use Rattle.lra_linear_spec.specs.declared.Excess as E
+use Rattle.lra_linear_spec.specs.Vectors.{entry, negated}
+use Rattle.lra_linear_spec.specs.LowestTerms.{IsPrimitive}
+use Rattle.lra_linear_spec.specs.CheckedArithmetic.{checked_blend}
 use Rattle.lra_steps.specs.declared.line_step.Across.{Across}
 
 -- of the first n products, the last that isn't 0, if there is one

@@ -3,12 +3,12 @@
 use Rattle.std.specs.Prelude.{◌≡◌, ℕ, ◌+◌, ◌<◌, ◌⊎◌, neg_ℤ, ℤ, pos}
 use Rattle.std.specs.Prelude.{int_lt, Bool, cond, List, [], length, Result, Err, slice_index_or}
 use Rattle.std.specs.List.{Contains}
-use Rattle.lra_linear.specs.declared.Excess as E
-use Rattle.lra_linear.specs.declared.Cause.{Cause}
-use Rattle.lra_linear.specs.declared.Cause.TheVariants.{Excess}
-use Rattle.lra_linear.specs.declared.Cause.TheVariants as cause
-use Rattle.lra_linear.specs.CheckedArithmetic.{checked_product, checked_blend}
-use Rattle.lra_linear.specs.ConeStrain.{row_limit}
+use Rattle.lra_linear_spec.specs.declared.Excess as E
+use Rattle.lra_linear_spec.specs.declared.Cause.{Cause}
+use Rattle.lra_linear_spec.specs.declared.Cause.TheVariants.{Excess}
+use Rattle.lra_linear_spec.specs.declared.Cause.TheVariants as cause
+use Rattle.lra_linear_spec.specs.CheckedArithmetic.{checked_product, checked_blend}
+use Rattle.lra_linear_spec.specs.ConeStrain.{row_limit}
 use Rattle.lra_bits.specs.Matrix.{Matrix}
 use Rattle.lra_steps.specs.declared.strained.Family.{Family}
 use Rattle.lra_steps.specs.declared.strained.Family.TheVariants.{Lines, Rays}

@@ -3,19 +3,19 @@
 ghost use Rattle.std.specs.Prelude.{◌≡◌, ◌≢◌, ◌<◌, ◌++◌, ◌∷◌, [], suc, pos, length, take};
 ghost use Rattle.std.specs.Prelude.{replicate, true, false, IfOk, IfErr, OnOk, slice_index_or};
 ghost use Rattle.std.specs.List.{All};
-ghost use Rattle.lra_linear.specs.Range.{InRange};
-ghost use Rattle.lra_linear.specs.Vectors.{negated};
+ghost use Rattle.lra_linear_spec.specs.Range.{InRange};
+ghost use Rattle.lra_linear_spec.specs.Vectors.{negated};
 ghost use Rattle.lra_row.specs.Rows.{IsExcessOf};
 ghost use Rattle.lra_steps.specs.Steps.{IsTurned, IsFlattened, flattening};
 ghost use Rattle.lra_steps.specs.Steps.{PushesFlattened, AreFlatLines, AreFlatRays, flat_matrix};
 ghost use Rattle.lra_steps.specs.Strains.{strained_pair, IsFlatteningError};
 ghost use Rattle.lra_steps.specs.declared.strained.Family.TheVariants.{Lines, Rays};
-ghost use Rattle.lra_linear.specs.Kinds.{is_equality};
+ghost use Rattle.lra_linear_spec.specs.Kinds.{is_equality};
 
 use crate::saturation::{lengthen, one_more, push_lengthened};
 use crate::strained::{ConeError, Family, Member, Strained};
 use lra_bits::{BitRow, SatMatrix};
-use lra_linear::{ConKind, Excess};
+use lra_linear_spec::{ConKind, Excess};
 use lra_row::{Row, RowError, opposite, push_copies};
 use std::alloc::{AllocError, Global};
 

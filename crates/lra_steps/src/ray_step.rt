@@ -3,10 +3,10 @@
 
 ghost use Rattle.std.specs.Prelude.{◌≡◌, ◌<◌, ◌≤◌, ◌^◌, ◌+◌, ◌++◌, length, map, replicate, false, IfOk, IfErr};
 ghost use Rattle.std.specs.List.{All};
-ghost use Rattle.lra_linear.specs.LowestTerms.{IsLowest};
-ghost use Rattle.lra_linear.specs.Range.{InRange};
-ghost use Rattle.lra_linear.specs.ConeStrain.{row_limit};
-ghost use Rattle.lra_linear.specs.Kinds.{is_equality};
+ghost use Rattle.lra_linear_spec.specs.LowestTerms.{IsLowest};
+ghost use Rattle.lra_linear_spec.specs.Range.{InRange};
+ghost use Rattle.lra_linear_spec.specs.ConeStrain.{row_limit};
+ghost use Rattle.lra_linear_spec.specs.Kinds.{is_equality};
 ghost use Rattle.lra_steps.specs.Pairs.{HaveOneWidth, pair_sum, AreCombined, IsCut};
 ghost use Rattle.lra_steps.specs.Steps.{outside_marks, inside_count};
 ghost use Rattle.lra_steps.specs.Thirds.{FewHaveThird};
@@ -17,7 +17,7 @@ use crate::pairs::{Pair, adjacent_pairs};
 use crate::saturation::mark_tight;
 use crate::strained::{ConeError, Family, Member, Strained};
 use lra_bits::{BitRow, SatMatrix};
-use lra_linear::ConKind;
+use lra_linear_spec::ConKind;
 use lra_row::{Row, RowError, opposite};
 use std::alloc::{AllocError, Global};
 

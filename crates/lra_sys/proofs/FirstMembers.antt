@@ -4,16 +4,16 @@ use Rattle.std.proofs.Common.{get_or, arith, ap, refl, sym, subst, ℤ, Result, 
 use Rattle.std.specs.List.{All, Contains}
 use Rattle.std.proofs.lemmas.List.{take_all}
 use Rattle.std.proofs.lemmas.List.Elements.{All-nil, All-push, All-contains, Contains-append_right}
-use Rattle.lra_linear.specs.Descriptions.{Given}
-use Rattle.lra_linear.proofs.Membership.{contains_head}
+use Rattle.lra_linear_spec.specs.Descriptions.{LinearRow}
+use Rattle.lra_linear_spec.proofs.Membership.{contains_head}
 use Rattle.lra_sys.specs.Listed.{given_by}
 use Rattle.lra_sys.specs.FirstPlaces.{FirstAt}
 
 -- the member at a place, and those before it
-abbrev pub front : {K : Type 0} → (K → Bool) → List (List ℤ) → List K → ℕ → List Given
+abbrev pub front : {K : Type 0} → (K → Bool) → List (List ℤ) → List K → ℕ → List LinearRow
 front equal rows kinds i = given_by equal (take i rows) (take i kinds)
 
-abbrev pub member : {K : Type 0} → (K → Bool) → List K → ℕ → List ℤ → K → Given
+abbrev pub member : {K : Type 0} → (K → Bool) → List K → ℕ → List ℤ → K → LinearRow
 member equal kinds i r k = record { row = r; equal = equal (get_or kinds i k) }
 
 pub given_split : {K : Type 0} (equal : K → Bool) (rows : List (List ℤ)) (kinds : List K) (i : ℕ) (r : List ℤ) (k : K) →
@@ -23,10 +23,10 @@ pub given_split : {K : Type 0} (equal : K → Bool) (rows : List (List ℤ)) (ki
 given_split equal [] kinds i r k n h e = absurd (omega (arith, h))
 given_split equal (x ∷ rows) [] i r k n h e = absurd (omega (arith, n))
 given_split equal (x ∷ rows) (kind ∷ kinds) zero r k n h e =
-    ap (λ (y : List ℤ). (let g : Given = record { row = y; equal = equal kind } in g) ∷ given_by equal rows kinds)
+    ap (λ (y : List ℤ). (let g : LinearRow = record { row = y; equal = equal kind } in g) ∷ given_by equal rows kinds)
     (sym e)
 given_split equal (x ∷ rows) (kind ∷ kinds) (suc i) r k n h e =
-    ap (λ (l : List Given). (let g : Given = record { row = x; equal = equal kind } in g) ∷ l)
+    ap (λ (l : List LinearRow). (let g : LinearRow = record { row = x; equal = equal kind } in g) ∷ l)
     (given_split equal rows kinds i r k (omega (arith, n)) (omega (arith, h)) e)
 
 pub given_more : {K : Type 0} (equal : K → Bool) (rows : List (List ℤ)) (kinds : List K) (i : ℕ) (r : List ℤ) (k : K) →
@@ -35,9 +35,9 @@ pub given_more : {K : Type 0} (equal : K → Bool) (rows : List (List ℤ)) (kin
 given_more equal [] kinds i r k n h e = absurd (omega (arith, h))
 given_more equal (x ∷ rows) [] i r k n h e = absurd (omega (arith, n))
 given_more equal (x ∷ rows) (kind ∷ kinds) zero r k n h e =
-    ap (λ (y : List ℤ). (let g : Given = record { row = y; equal = equal kind } in g) ∷ []) (sym e)
+    ap (λ (y : List ℤ). (let g : LinearRow = record { row = y; equal = equal kind } in g) ∷ []) (sym e)
 given_more equal (x ∷ rows) (kind ∷ kinds) (suc i) r k n h e =
-    ap (λ (l : List Given). (let g : Given = record { row = x; equal = equal kind } in g) ∷ l)
+    ap (λ (l : List LinearRow). (let g : LinearRow = record { row = x; equal = equal kind } in g) ∷ l)
     (given_more equal rows kinds i r k (omega (arith, n)) (omega (arith, h)) e)
 
 pub front_length : {K : Type 0} (equal : K → Bool) (rows : List (List ℤ)) (kinds : List K) (i : ℕ) →
@@ -48,7 +48,7 @@ front_length equal (x ∷ rows) [] (suc i) n h = absurd (omega (arith, n))
 front_length equal (x ∷ rows) (kind ∷ kinds) (suc i) n h =
     ap suc (front_length equal rows kinds i (omega (arith, n)) (omega (arith, h)))
 
-pub first_at : {K : Type 0} (Before Here : Given → Type 0) (equal : K → Bool) (rows : List (List ℤ)) (kinds : List K)
+pub first_at : {K : Type 0} (Before Here : LinearRow → Type 0) (equal : K → Bool) (rows : List (List ℤ)) (kinds : List K)
     (i : ℕ) (r : List ℤ) (k : K) → length kinds ≡ length rows → i < length rows →
     r ≡ get_or rows i r → All Before (front equal rows kinds i) → Here (member equal kinds i r k) →
     FirstAt Before Here (given_by equal rows kinds) i
@@ -62,11 +62,11 @@ first_at Before Here equal rows kinds i r k n h e before here = record {
   here = here;
 }
 
-pub none_yet : {K : Type 0} (Before : Given → Type 0) (equal : K → Bool) (rows : List (List ℤ)) (kinds : List K) →
+pub none_yet : {K : Type 0} (Before : LinearRow → Type 0) (equal : K → Bool) (rows : List (List ℤ)) (kinds : List K) →
     All Before (front equal rows kinds 0)
 none_yet Before equal rows kinds = All-nil Before
 
-pub one_more : {K : Type 0} (Before : Given → Type 0) (equal : K → Bool) (rows : List (List ℤ)) (kinds : List K) (i : ℕ)
+pub one_more : {K : Type 0} (Before : LinearRow → Type 0) (equal : K → Bool) (rows : List (List ℤ)) (kinds : List K) (i : ℕ)
     (r : List ℤ) (k : K) → length kinds ≡ length rows → i < length rows →
     r ≡ get_or rows i r → All Before (front equal rows kinds i) → Before (member equal kinds i r k) →
     All Before (front equal rows kinds (i + 1))
@@ -75,7 +75,7 @@ one_more Before equal rows kinds i r k n h e before here =
     (subst (All Before) (sym (given_more equal rows kinds i r k n h e))
     (All-push Before (front equal rows kinds i) (member equal kinds i r k) before here))
 
-pub all_gone_through : {K : Type 0} (Before : Given → Type 0) (equal : K → Bool) (rows : List (List ℤ)) (kinds : List K)
+pub all_gone_through : {K : Type 0} (Before : LinearRow → Type 0) (equal : K → Bool) (rows : List (List ℤ)) (kinds : List K)
     (i : ℕ) → length kinds ≡ length rows → length rows ≤ i →
     All Before (front equal rows kinds i) → All Before (given_by equal rows kinds)
 all_gone_through {K = K} Before equal rows kinds i n h before =
@@ -94,12 +94,12 @@ err_from (Ok x) h = cc
 err_from (Err f) h = (f, refl)
 
 -- what all members have, the one at the place has
-pub at_member : {K : Type 0} (P : Given → Type 0) (equal : K → Bool) (rows : List (List ℤ)) (kinds : List K) (i : ℕ)
+pub at_member : {K : Type 0} (P : LinearRow → Type 0) (equal : K → Bool) (rows : List (List ℤ)) (kinds : List K) (i : ℕ)
     (r : List ℤ) (k : K) → length kinds ≡ length rows → i < length rows →
     r ≡ get_or rows i r → All P (given_by equal rows kinds) → P (member equal kinds i r k)
 at_member P equal rows kinds i r k n h e all =
     All-contains P (given_by equal rows kinds) (member equal kinds i r k) all
-    (subst (λ (l : List Given). Contains l (member equal kinds i r k)) (sym (given_split equal rows kinds i r k n h e))
+    (subst (λ (l : List LinearRow). Contains l (member equal kinds i r k)) (sym (given_split equal rows kinds i r k n h e))
     (Contains-append_right (front equal rows kinds i)
     (member equal kinds i r k ∷ given_by equal (drop (suc i) rows) (drop (suc i) kinds)) (member equal kinds i r k)
     (contains_head (member equal kinds i r k) (given_by equal (drop (suc i) rows) (drop (suc i) kinds)))))

@@ -1,9 +1,9 @@
 -- Rows with their kinds, and one more of them.
 use Rattle.std.proofs.Common.{◌≡◌, ℕ, ◌<◌, ◌+◌, Bool, List, [], ◌∷◌, ◌++◌, length, get_or, take, refl, ap, sym, ◌∙◌, arith, ℤ}
 use Rattle.std.proofs.lemmas.List.{take_more, length-take-le, take_all, get_or_default}
-use Rattle.lra_linear.specs.Descriptions.{Given}
-use Rattle.lra_linear.specs.Kinds.{is_equality}
-use Rattle.lra_linear.specs.declared.ConKind.{ConKind}
+use Rattle.lra_linear_spec.specs.Descriptions.{LinearRow}
+use Rattle.lra_linear_spec.specs.Kinds.{is_equality}
+use Rattle.lra_linear_spec.specs.declared.ConKind.{ConKind}
 use Rattle.lra_sys.specs.Listed.{Listed, constraints, given_by}
 
 pub constraints_push : {K : Type 0} (equal : K → Bool) (rows : List (List ℤ)) (kinds : List K) (r : List ℤ) (x : K) → length rows ≡ length kinds →
@@ -11,7 +11,7 @@ pub constraints_push : {K : Type 0} (equal : K → Bool) (rows : List (List ℤ)
 constraints_push equal [] [] r x e = refl
 constraints_push equal [] (y ∷ kinds) r x e = absurd (omega (arith, e))
 constraints_push equal (q ∷ rows) [] r x e = absurd (omega (arith, e))
-constraints_push equal (q ∷ rows) (y ∷ kinds) r x e = ap (λ (z : List Given). record { row = q; equal = equal y } ∷ z) (constraints_push equal rows kinds r x (omega (arith, e)))
+constraints_push equal (q ∷ rows) (y ∷ kinds) r x e = ap (λ (z : List LinearRow). record { row = q; equal = equal y } ∷ z) (constraints_push equal rows kinds r x (omega (arith, e)))
 
 pub given_more : {K : Type 0} (equal : K → Bool) (rows : List (List ℤ)) (kinds : List K) (i : ℕ) (r : List ℤ) (k : K) → length rows ≡ length kinds → i < length rows → r ≡ get_or rows i r →
     k ≡ get_or kinds i k →
@@ -27,12 +27,12 @@ all_given equal rows kinds i n e = ap (λ (x : List (List ℤ)). given_by equal 
 
 -- a row that is put behind the others
 pub given_pushed : {K : Type 0} (equal : K → Bool) (rows : List (List ℤ)) (kinds : List K) (i : ℕ) (own : List (List ℤ)) → rows ≡ own → length kinds ≡ length own → i < length rows →
-    (before after : List Given) (g : Given) (r : List ℤ) (d : K) → r ≡ get_or rows i r → after ≡ before ++ g ∷ [] → g ≡ record { row = r; equal = equal (get_or kinds i d) } →
+    (before after : List LinearRow) (g : LinearRow) (r : List ℤ) (d : K) → r ≡ get_or rows i r → after ≡ before ++ g ∷ [] → g ≡ record { row = r; equal = equal (get_or kinds i d) } →
     before ≡ given_by equal (take i rows) (take i kinds) →
     after ≡ given_by equal (take (i + 1) rows) (take (i + 1) kinds)
 given_pushed {K = K} equal rows kinds i own eo n h before after g r d er ea eg eb =
     let n' : length rows ≡ length kinds = ap length eo ∙ sym n in
-    ea ∙ ap (λ (l : List Given). l ++ g ∷ []) eb ∙ ap (λ (x : Given). given_by equal (take i rows) (take i kinds) ++ x ∷ []) eg ∙
+    ea ∙ ap (λ (l : List LinearRow). l ++ g ∷ []) eb ∙ ap (λ (x : LinearRow). given_by equal (take i rows) (take i kinds) ++ x ∷ []) eg ∙
     sym (given_more equal rows kinds i r (get_or kinds i d) n' h er (get_or_default kinds i d (get_or kinds i d) (omega (arith, h, n'))))
 
 -- a constraint that is put behind the others

@@ -2,17 +2,17 @@
 use Rattle.std.proofs.Common.{List, [], ◌∷◌, pos, negsuc, refl, arith, ℤ}
 use Rattle.std.proofs.lemmas.Int.{ints}
 use Rattle.std.proofs.lemmas.List.Elements.{All-nil, All-cons}
-use Rattle.lra_linear.specs.Descriptions.{Given, inequality}
+use Rattle.lra_linear_spec.specs.Descriptions.{LinearRow, inequality}
 use Rattle.lra_sys.specs.declared.membership.Holds.TheVariants.{Yes, No, Wide}
 use Rattle.lra_sys.specs.Membership.{HoldsInRange, IsAnswer}
 
-abbrev first : Given
+abbrev first : LinearRow
 first = inequality (pos 0 ∷ pos 1 ∷ pos 0 ∷ [])
 
-abbrev second : Given
+abbrev second : LinearRow
 second = inequality (pos 4 ∷ negsuc 0 ∷ negsuc 0 ∷ [])
 
-abbrev both : List Given
+abbrev both : List LinearRow
 both = first ∷ second ∷ []
 
 -- ---- 3/2, 5/2: 8 - 3 - 5 is 0

@@ -2,24 +2,24 @@
 use Rattle.std.proofs.Common.{◌≡◌, List, ◌∷◌, subst, sym, ℤ, Ok}
 use Rattle.std.specs.List.{Contains}
 use Rattle.std.proofs.lemmas.List.Elements.{All-contains, Contains-append_right}
-use Rattle.lra_linear.specs.Vectors.{product}
-use Rattle.lra_linear.specs.CheckedArithmetic.{checked_product}
-use Rattle.lra_linear.specs.Descriptions.{Given, HoldsWith}
-use Rattle.lra_linear.proofs.Membership.{contains_head}
+use Rattle.lra_linear_spec.specs.Vectors.{product}
+use Rattle.lra_linear_spec.specs.CheckedArithmetic.{checked_product}
+use Rattle.lra_linear_spec.specs.Descriptions.{LinearRow, HoldsWith}
+use Rattle.lra_linear_spec.proofs.Membership.{contains_head}
 use Rattle.lra_sys.specs.declared.membership.Holds as H
 use Rattle.lra_sys.specs.declared.membership.Holds.TheVariants.{Yes, No, Wide}
 use Rattle.lra_sys.specs.Membership.{HoldsInRange, FailsInRange, IsAnswer, TellsMembership}
 use Rattle.lra_sys.proofs.FirstMembers.{ok_of}
 
 -- ---- one constraint, with its product p
-pub holds_here : (g : Given) (x : List ℤ) (p : ℤ) → Ok p ≡ checked_product g.row x → p ≡ product g.row x → HoldsWith g.equal p → HoldsInRange x g
+pub holds_here : (g : LinearRow) (x : List ℤ) (p : ℤ) → Ok p ≡ checked_product g.row x → p ≡ product g.row x → HoldsWith g.equal p → HoldsInRange x g
 holds_here g x p q v h = (ok_of p (checked_product g.row x) q, subst (λ (z : ℤ). HoldsWith g.equal z) v h)
 
-pub fails_here : (g : Given) (x : List ℤ) (p : ℤ) → Ok p ≡ checked_product g.row x → p ≡ product g.row x → ¬ (HoldsWith g.equal p) → FailsInRange x g
+pub fails_here : (g : LinearRow) (x : List ℤ) (p : ℤ) → Ok p ≡ checked_product g.row x → p ≡ product g.row x → ¬ (HoldsWith g.equal p) → FailsInRange x g
 fails_here g x p q v n = (ok_of p (checked_product g.row x) q, subst (λ (z : ℤ). ¬ (HoldsWith g.equal z)) v n)
 
 -- ---- the set of points
-pub answer_tells : (list : List Given) (x : List ℤ) (answer : H.Holds) → IsAnswer list x answer → TellsMembership list x answer
+pub answer_tells : (list : List LinearRow) (x : List ℤ) (answer : H.Holds) → IsAnswer list x answer → TellsMembership list x answer
 answer_tells list x Yes a = λ g k. (All-contains (HoldsInRange x) list g a k).1
 answer_tells list x (No place) a = λ con. a.here.1 (con a.member (subst (λ gs. Contains gs a.member) (sym a.is)
     (Contains-append_right a.earlier (a.member ∷ a.later) a.member (contains_head a.member a.later))))

@@ -2,10 +2,10 @@
 use Rattle.std.proofs.Common.{◌≡◌, ◌∙◌, ℤ, Bool, true, false, List, [], ◌∷◌, length, ap, sym, refl, arith}
 use Rattle.std.specs.Prelude.{◌↔◌, IsTrue}
 use Rattle.std.proofs.lemmas.Bool.{false≢true}
-use Rattle.lra_linear.specs.Descriptions.{Given}
-use Rattle.lra_linear.specs.Kinds.{is_equality}
-use Rattle.lra_linear.specs.declared.ConKind.{ConKind}
-use Rattle.lra_linear.specs.declared.ConKind.TheVariants as con
+use Rattle.lra_linear_spec.specs.Descriptions.{LinearRow}
+use Rattle.lra_linear_spec.specs.Kinds.{is_equality}
+use Rattle.lra_linear_spec.specs.declared.ConKind.{ConKind}
+use Rattle.lra_linear_spec.specs.declared.ConKind.TheVariants as con
 use Rattle.lra_sys.specs.Listed.{Listed, constraints, given_by}
 
 pub same_given : (rows others : List (List ℤ)) (kinds more : List ConKind) → length kinds ≡ length rows → length more ≡ length others →
@@ -21,15 +21,15 @@ same_given (r ∷ rows) (o ∷ others) (k ∷ kinds) [] e f g = let wrong : ⊥ 
 same_given (r ∷ rows) (o ∷ others) (k ∷ kinds) (m ∷ more) e f g =
     let head_is = head_same g in
     let tail_is = same_given rows others kinds more (omega (arith, e)) (omega (arith, f)) (tail_same g) in (
-      ap (λ (l : List ℤ). l ∷ rows) (ap (λ (x : Given). x.row) head_is) ∙ ap (λ l. o ∷ l) tail_is.0,
-      ap (λ x. x ∷ kinds) (kind_same k m (ap (λ (x : Given). x.equal) head_is)) ∙
+      ap (λ (l : List ℤ). l ∷ rows) (ap (λ (x : LinearRow). x.row) head_is) ∙ ap (λ l. o ∷ l) tail_is.0,
+      ap (λ x. x ∷ kinds) (kind_same k m (ap (λ (x : LinearRow). x.equal) head_is)) ∙
           ap (λ l. m ∷ l) tail_is.1,
     )
   where
-    head_same : {x y : Given} {xs ys : List Given} → x ∷ xs ≡ y ∷ ys → x ≡ y
+    head_same : {x y : LinearRow} {xs ys : List LinearRow} → x ∷ xs ≡ y ∷ ys → x ≡ y
     head_same e = cc
 
-    tail_same : {x y : Given} {xs ys : List Given} → x ∷ xs ≡ y ∷ ys → xs ≡ ys
+    tail_same : {x y : LinearRow} {xs ys : List LinearRow} → x ∷ xs ≡ y ∷ ys → xs ≡ ys
     tail_same e = cc
 
     kind_same : (k m : ConKind) → is_equality k ≡ is_equality m → k ≡ m

@@ -7,8 +7,8 @@ use Rattle.std.specs.Cmp.Derive.{on_tied, then_tied, tie}
 use Rattle.std.specs.Cmp.Lexicographic.{lists_equiv, lists_per, lists_ties, lists_total, pointwise, slice_cmp}
 use Rattle.std.specs.Ordering.{eq_by_cmp, eq_of_both, int_eq, nat_cmp, on, then_cmp}
 use Rattle.std.specs.declared.cmp.Ordering.{Ordering}
-use Rattle.lra_linear.specs.RowOrder.{row_cmp}
-use Rattle.lra_linear.proofs.RowOrder.{row_cmp_total}
+use Rattle.lra_linear_spec.specs.RowOrder.{row_cmp}
+use Rattle.lra_linear_spec.proofs.RowOrder.{row_cmp_total}
 use Rattle.lra_row.specs.RowTies.{row_eq_by_cmp}
 use Rattle.lra_sys.specs.Listed.{Listed}
 

@@ -1,11 +1,11 @@
 -- Rows with their kinds, as the descriptions of sets of points that they are.
 use Rattle.std.specs.Prelude.{◌≡◌, ℕ, ℤ, pos, ◌<ℤ◌, Bool, List, [], ◌∷◌}
-use Rattle.lra_linear.specs.Vectors.{entry}
-use Rattle.lra_linear.specs.Descriptions.{Given}
-use Rattle.lra_linear.specs.Kinds.{is_equality, is_line}
-use Rattle.lra_linear.specs.declared.ConKind.{ConKind}
-use Rattle.lra_linear.specs.declared.GenKind.{GenKind}
-use Rattle.lra_linear.specs.declared.GenKind.TheVariants as gen
+use Rattle.lra_linear_spec.specs.Vectors.{entry}
+use Rattle.lra_linear_spec.specs.Descriptions.{LinearRow}
+use Rattle.lra_linear_spec.specs.Kinds.{is_equality, is_line}
+use Rattle.lra_linear_spec.specs.declared.ConKind.{ConKind}
+use Rattle.lra_linear_spec.specs.declared.GenKind.{GenKind}
+use Rattle.lra_linear_spec.specs.declared.GenKind.TheVariants as gen
 
 -- what a contract sees of a list of rows of n + 1 columns, each with a kind
 pub record Listed (K : Type 0) : Type 0 where
@@ -13,15 +13,15 @@ pub record Listed (K : Type 0) : Type 0 where
   pub rows : List (List ℤ)
   pub kinds : List K
 
-abbrev pub given_by : {K : Type 0} → (K → Bool) → List (List ℤ) → List K → List Given
+abbrev pub given_by : {K : Type 0} → (K → Bool) → List (List ℤ) → List K → List LinearRow
 given_by equal [] kinds = []
 given_by equal (r ∷ rows) [] = []
 given_by equal (r ∷ rows) (k ∷ kinds) = record { row = r; equal = equal k } ∷ given_by equal rows kinds
 
-abbrev pub constraints : Listed ConKind → List Given
+abbrev pub constraints : Listed ConKind → List LinearRow
 constraints s = given_by is_equality s.rows s.kinds
 
-abbrev pub generators : Listed GenKind → List Given
+abbrev pub generators : Listed GenKind → List LinearRow
 generators s = given_by is_line s.rows s.kinds
 
 -- column 0 as the kind asks: a point's divisor is above 0; rays and lines have 0 there

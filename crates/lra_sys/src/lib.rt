@@ -7,7 +7,7 @@ mod sameness;
 mod system;
 mod units;
 
-pub use lra_linear::{ConKind, GenKind};
+pub use lra_linear_spec::{ConKind, GenKind};
 pub use membership::Holds;
 pub use sameness::are_same;
 pub use system::{ConSys, GenSys, TOO_MANY_DIMENSIONS};

@@ -3,11 +3,11 @@
 ghost use Rattle.std.specs.Prelude.{◌≡◌, ◌↔◌, IsTrue, suc, pos, ◌<ℤ◌, ◌∷◌, length};
 ghost use Rattle.std.specs.List.{All};
 ghost use Rattle.lra_sys.specs.Listed.{given_by, constraints};
-ghost use Rattle.lra_linear.specs.Kinds.{is_equality};
+ghost use Rattle.lra_linear_spec.specs.Kinds.{is_equality};
 ghost use Rattle.lra_sys.specs.Membership.{IsAnswer, TellsMembership};
 
 use crate::system::ConSys;
-use lra_linear::ConKind;
+use lra_linear_spec::ConKind;
 use lra_row::Row;
 
 /// Whether a point meets all constraints: the place, from 0, of the first that fails, or whose product with the point

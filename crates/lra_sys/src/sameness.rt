@@ -4,7 +4,7 @@ ghost use Rattle.std.specs.Prelude.{◌≡◌, ◌↔◌, IsTrue};
 ghost use Rattle.lra_sys.specs.Listed.{constraints};
 
 use crate::system::ConSys;
-use lra_linear::ConKind;
+use lra_linear_spec::ConKind;
 use lra_row::Row;
 
 // Whether they have the same rows in the same order.

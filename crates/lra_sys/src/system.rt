@@ -3,11 +3,11 @@
 ghost use Rattle.std.specs.Prelude.{◌≡◌, ◌++◌, ◌∷◌, [], suc, ◌<◌, ◌-◌, length, take, IfOk, OnOk, OnErr};
 ghost use Rattle.std.specs.Prelude.{Some, slice_get};
 ghost use Rattle.std.specs.List.{All};
-ghost use Rattle.lra_linear.specs.Range.{InRange};
+ghost use Rattle.lra_linear_spec.specs.Range.{InRange};
 ghost use Rattle.lra_sys.specs.Dimensions.{too_many_dimensions};
 ghost use Rattle.lra_sys.specs.Listed.{FitsKind, FitKinds};
 
-use lra_linear::{ConKind, GenKind};
+use lra_linear_spec::{ConKind, GenKind};
 use lra_row::Row;
 use std::alloc::{AllocError, Global};
 use std::marker::Model;
@@ -41,7 +41,7 @@ impl<K: Copy> Drop for System<K> {
 impl<K: Copy> Model for System<K> {
     ghost use Rattle.std.specs.Prelude.{◌≡◌, suc, length};
     ghost use Rattle.std.specs.List.{All};
-    ghost use Rattle.lra_linear.specs.Range.{InRange};
+    ghost use Rattle.lra_linear_spec.specs.Range.{InRange};
     ghost use Rattle.lra_sys.specs.Listed.{Listed};
 
     ghost Value = { Listed K };

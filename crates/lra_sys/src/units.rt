@@ -1,7 +1,7 @@
 //! Unit rows.
 
 ghost use Rattle.std.specs.Prelude.{◌≡◌, ◌<◌, ◌≤◌, IfOk};
-ghost use Rattle.lra_linear.specs.OperationStrain.{unit_row};
+ghost use Rattle.lra_linear_spec.specs.OperationStrain.{unit_row};
 ghost use Rattle.lra_sys.specs.Dimensions.{too_many_dimensions};
 
 use lra_row::Row;

@@ -3,7 +3,7 @@
 use lra_bits::BitRow;
 use lra_cone::{ConKind, Cone, ConeError, Family, Member, Strained};
 use lra_descriptions::nothing;
-use lra_linear::{Excess, Operation};
+use lra_linear_spec::{Excess, Operation};
 use lra_row::Row;
 use std::alloc::{AllocError, AllocFailed, Global};
 use std::process::Abort;

@@ -4,7 +4,7 @@ use crate::cone::{Unfit, row_of};
 use lra_cone::{ConKind, Loss};
 use lra_conversions::generate;
 use lra_descriptions::nothing;
-use lra_linear::{Cause, Excess, Operation};
+use lra_linear_spec::{Cause, Excess, Operation};
 use lra_sys::{ConSys, GenKind, GenSys};
 use std::alloc::{AllocError, Global};
 use std::process::Abort;

@@ -1,7 +1,7 @@
 //! Worked rows, generators and names.
 
 ghost use Rattle.std.specs.List.{All};
-ghost use Rattle.lra_linear.specs.Range.{InRange};
+ghost use Rattle.lra_linear_spec.specs.Range.{InRange};
 ghost use Rattle.lra_sys.specs.Listed.{FitsKind};
 
 use lra_report::names_at;

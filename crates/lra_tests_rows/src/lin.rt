@@ -1,5 +1,5 @@
 use lra_lin::{LinExpr, Test};
-use lra_linear::ConKind;
+use lra_linear_spec::ConKind;
 use std::alloc::{AllocError, Global};
 
 // The values of 3 + 2x - y at three points.

@@ -3,7 +3,7 @@
 
 ghost use Rattle.std.specs.Prelude.{◌≡◌, length};
 ghost use Rattle.std.specs.List.{All};
-ghost use Rattle.lra_linear.specs.Range.{InRange};
+ghost use Rattle.lra_linear_spec.specs.Range.{InRange};
 
 use crate::words::{make_rows, product_by_steps};
 use lra_row::{Row, RowError};

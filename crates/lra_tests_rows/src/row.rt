@@ -2,8 +2,8 @@
 
 ghost use Rattle.std.specs.Prelude.{◌≡◌, ◌<ℤ◌, pos, length};
 ghost use Rattle.std.specs.List.{All};
-ghost use Rattle.lra_linear.specs.Range.{InRange};
-ghost use Rattle.lra_linear.specs.Vectors.{product};
+ghost use Rattle.lra_linear_spec.specs.Range.{InRange};
+ghost use Rattle.lra_linear_spec.specs.Vectors.{product};
 
 use lra_row::{Excess, Operation, Row, RowError, add, floor_div, gcd, mul, ratio_cmp};
 use std::alloc::{AllocError, Global};

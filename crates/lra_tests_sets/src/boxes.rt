@@ -3,7 +3,7 @@ ghost use Rattle.std.specs.Prelude.{◌≡◌, ◌<◌, length, IfOk};
 use lra_box::Boxes;
 use lra_domain::{Domain, Exactness, Included, Mode};
 use lra_lin::{LinExpr, Test};
-use lra_linear::ConKind;
+use lra_linear_spec::ConKind;
 use lra_row::Row;
 use lra_sys::ConSys;
 use std::alloc::{AllocError, Global};

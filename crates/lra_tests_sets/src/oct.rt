@@ -4,7 +4,7 @@ ghost use Rattle.std.specs.Prelude.{◌≡◌, ◌<◌, IfOk};
 
 use crate::boxes::{compares_by, has_head_by, keep_by, resizes_by, set_by, shows_by};
 use lra_domain::Domain;
-use lra_linear::ConKind;
+use lra_linear_spec::ConKind;
 use lra_oct::Octagon;
 use std::alloc::{AllocError, Global};
 

@@ -12,7 +12,7 @@ use Rattle.lra_program.specs.declared.program.GlobalVariable.{GlobalVariable}
 use Rattle.lra_operations.specs.Graph.{Node}
 use Rattle.lra_operations.specs.GraphViews.{node_view, site_view}
 use Rattle.lra_operations.specs.declared.graph.Graph.{Graph}
-use Rattle.lra_linear.proofs.Membership.{contains_head, contains_tail}
+use Rattle.lra_linear_spec.proofs.Membership.{contains_head, contains_tail}
 use Rattle.lra_flow.specs.Opened.{opened}
 use Rattle.lra_inside.specs.Inside.{told_view}
 use Rattle.lra_rounds.specs.Rounds.{Settled}

@@ -5,7 +5,7 @@ use Rattle.std.specs.List.{AllByRecursion, Contains, flat_map, sum_by}
 use Rattle.std.proofs.lemmas.List.{length-append, length-map, length-take-le, map-append}
 use Rattle.std.proofs.Math.Seq.{take-suc}
 use Rattle.std.proofs.lemmas.Option.{none-some, same_Some}
-use Rattle.lra_linear.proofs.Membership.{contains_head, contains_tail}
+use Rattle.lra_linear_spec.proofs.Membership.{contains_head, contains_tail}
 use Rattle.lra_box.specs.Content.{Content}
 use Rattle.lra_box.specs.Meaning.{box_meaning}
 use Rattle.lra_program.specs.Sites.{Site}

@@ -2,7 +2,7 @@
 use Rattle.std.proofs.Common.{◌≡◌, ◌∙◌, ℕ, ℤ, List, length, subst, sym}
 use Rattle.std.specs.Prelude.{Option, None, Some, slice_get}
 use Rattle.std.specs.Io.KnownBytes.{Appends}
-use Rattle.lra_linear.specs.Descriptions.{Given}
+use Rattle.lra_linear_spec.specs.Descriptions.{LinearRow}
 use Rattle.lra_meaning.specs.Resolve.{resolve}
 use Rattle.lra_program.specs.Program.{Program}
 use Rattle.lra_program.specs.Run.{At}
@@ -26,7 +26,7 @@ use Rattle.lra_answers.specs.declared.status.Status.TheVariants.{Proved}
 -- what holds in all runs --------------------------------------------------------------
 
 module _ (P : Program) (c : Certificate) (h : RowsHold P c) where
-  says : (q : ℕ) (s : Site) (store : List ℤ) (state : Option (Option (List Given))) → slice_get (sites_of P) q ≡ Some s → slice_get c.states q ≡ state
+  says : (q : ℕ) (s : Site) (store : List ℤ) (state : Option (Option (List LinearRow))) → slice_get (sites_of P) q ≡ Some s → slice_get c.states q ≡ state
       → At P (point_of s) store
       → HoldsAt (state_or_empty state) store
   says q s store state there is at = subst (λ x. HoldsAt (state_or_empty x) store) is (h.rows q s store there at)

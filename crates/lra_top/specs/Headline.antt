@@ -16,7 +16,7 @@ use Rattle.lra_program.specs.Run.{At, Fails}
 use Rattle.lra_program.specs.Sites.{Site, sites_of}
 use Rattle.lra_operations.specs.Graph.{Node}
 use Rattle.lra_operations.specs.Agree.{IsGraph, point_of}
-use Rattle.lra_linear.specs.Descriptions.{Given, Con}
+use Rattle.lra_linear_spec.specs.Descriptions.{LinearRow, Con}
 use Rattle.lra_domain.specs.Meaning.{Meaning}
 use Rattle.lra_front.specs.Stages.{HasConstants}
 use Rattle.lra_flow.specs.Plan.{plan_of}
@@ -168,7 +168,7 @@ WritesSummary seed size held_old held_new = WritesReport default_options (summar
 -- In all runs the rows of a certificate hold whenever a run is at their point, no run comes to a point that is empty
 -- there, and no listed assertion is false. Points are counted from 0.
 pub record IsVerifiedInAllRuns (P : Program) (c : Certificate) : Type 0 where
-  pub rows : (q : ℕ) (s : Site) (store : List ℤ) (given : List Given) → slice_get (sites_of P) q ≡ Some s →
+  pub rows : (q : ℕ) (s : Site) (store : List ℤ) (given : List LinearRow) → slice_get (sites_of P) q ≡ Some s →
       slice_get c.states q ≡ Some (Some given) → At P (point_of s) store → Con given (pos 1 ∷ store)
   pub unreached : (q : ℕ) (s : Site) (store : List ℤ) → slice_get (sites_of P) q ≡ Some s →
       slice_get c.states q ≡ Some None → At P (point_of s) store → ⊥

@@ -9,9 +9,9 @@ use Rattle.std.specs.List.{range_with_len}
 use Rattle.std.proofs.lemmas.List.{drop_all}
 use Rattle.lra_domain.specs.Actions.{Action}
 use Rattle.lra_domain.specs.declared.changes.Change.{Change}
-use Rattle.lra_linear.specs.declared.ConKind.{ConKind}
-use Rattle.lra_linear.specs.declared.Excess.{Excess}
-use Rattle.lra_linear.specs.Descriptions.{Given}
+use Rattle.lra_linear_spec.specs.declared.ConKind.{ConKind}
+use Rattle.lra_linear_spec.specs.declared.Excess.{Excess}
+use Rattle.lra_linear_spec.specs.Descriptions.{LinearRow}
 use Rattle.lra_sys.specs.Listed.{Listed, constraints}
 use Rattle.lra_ways.specs.Ways.{Goal, comes_to, denies}
 use Rattle.lra_paths.specs.Paths.{Path, path_by}
@@ -52,7 +52,7 @@ pub numbers_end : (i n : ℕ) → n ≤ i → range_with_len i (n - i) ≡ []
 numbers_end i n h = ap (range_with_len i) (let e : n - i ≡ 0 = omega (arith, h) in e)
 
 -- ---- which path it is doesn't tell
-module _ (live : ℕ) (rows : List Given) (steps : List Action) where
+module _ (live : ℕ) (rows : List LinearRow) (steps : List Action) where
   abbrev along : ℕ → Goal → Along
   along p goal = record { live = live; rows = rows; path = path_by p goal steps }
 

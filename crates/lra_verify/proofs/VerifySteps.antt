@@ -12,8 +12,8 @@ use Rattle.lra_front.specs.Claims.{AreFew}
 use Rattle.lra_operations.specs.declared.graph.Site as declared
 use Rattle.lra_sides.proofs.TableSteps.{get_left, get_seam}
 use Rattle.lra_domain.specs.Actions.{Action}
-use Rattle.lra_linear.specs.declared.ConKind.{ConKind}
-use Rattle.lra_linear.specs.Kinds.{is_equality}
+use Rattle.lra_linear_spec.specs.declared.ConKind.{ConKind}
+use Rattle.lra_linear_spec.specs.Kinds.{is_equality}
 use Rattle.lra_sys.specs.Listed.{Listed, given_by}
 use Rattle.lra_verify.specs.PointViews.{HaveDims}
 use Rattle.lra_program.specs.Program.{Program}

@@ -1,8 +1,8 @@
 -- Rows and points of a certificate as the code reads them.
 use Rattle.std.specs.Prelude.{◌≡◌, ℕ, List, map, Option, Some, None, slice_get}
-use Rattle.lra_linear.specs.Descriptions.{Given}
+use Rattle.lra_linear_spec.specs.Descriptions.{LinearRow}
 use Rattle.lra_sys.specs.Listed.{Listed, constraints}
-use Rattle.lra_linear.specs.declared.ConKind.{ConKind}
+use Rattle.lra_linear_spec.specs.declared.ConKind.{ConKind}
 use Rattle.lra_program.specs.Sites.{Site}
 use Rattle.lra_paths.specs.Paths.{live_of}
 use Rattle.lra_certificate.specs.Judged.{Left, State}
@@ -12,7 +12,7 @@ use Rattle.lra_verify.specs.declared.points.Point.{Point}
 use Rattle.lra_verify.specs.declared.points.Points.{Points}
 
 -- the rows, and what is left behind them
-abbrev pub rows_view : List ℕ → PointRows → List Given × Left
+abbrev pub rows_view : List ℕ → PointRows → List LinearRow × Left
 rows_view bytes r = (constraints r.rows, left_at bytes r.behind)
 
 abbrev pub state_view : Option (Listed ConKind) → State

@@ -14,9 +14,9 @@ ghost use Rattle.lra_certificate.specs.Lines.{pieces_at, number_at, left_at, IsL
 ghost use Rattle.lra_lines.specs.LineViews.{IsToldAs};
 ghost use Rattle.lra_certificate.specs.Lines.{is_row_line};
 ghost use Rattle.lra_verify.specs.PointViews.{rows_view, point_view, points_view, HaveDims};
-ghost use Rattle.lra_linear.specs.Kinds.{is_equality};
+ghost use Rattle.lra_linear_spec.specs.Kinds.{is_equality};
 
-use lra_linear::ConKind;
+use lra_linear_spec::ConKind;
 use lra_lines::{LineFault, VerifyError, behind_text, line_at, numbers_behind, refuse, take_line};
 use lra_operations::Site;
 use lra_row::Row;

@@ -4,7 +4,7 @@ use Rattle.std.proofs.lemmas.List.{map-append}
 use Rattle.std.proofs.lemmas.Grind.{flat_map-append}
 use Rattle.std.specs.List.{Contains, flat_map}
 use Rattle.std.proofs.lemmas.List.Elements.{Contains-append_left, Contains-append_right}
-use Rattle.lra_linear.proofs.Membership.{contains_none, contains_cases, map_has}
+use Rattle.lra_linear_spec.proofs.Membership.{contains_none, contains_cases, map_has}
 use Rattle.lra_ways.specs.Ways.{each_then}
 
 pub flat_map_has : {A B : Type 0} (f : A → List B) (ys : List A) (y : A) (z : B) → Contains ys y → Contains (f y) z → Contains (flat_map f ys) z

@@ -6,13 +6,13 @@ use Rattle.std.specs.Bool.{beq}
 use Rattle.std.specs.List.{filter, list_all, list_any}
 use Rattle.std.specs.Ordering.{int_eq}
 use Rattle.lra_bits.specs.TruthValues.{value_at}
-use Rattle.lra_linear.specs.CheckedArithmetic.{checked_product}
-use Rattle.lra_linear.specs.declared.Excess as E
-use Rattle.lra_linear.specs.Descriptions.{Given}
-use Rattle.lra_linear.specs.Polyhedra.{Polyhedron}
-use Rattle.lra_linear.specs.Vectors.{product}
-use Rattle.lra_linear.specs.Widening.{holds_with, is_tight_as}
-use Rattle.lra_linear.proofs.CheckedArithmetic.{checked_product_value}
+use Rattle.lra_linear_spec.specs.CheckedArithmetic.{checked_product}
+use Rattle.lra_linear_spec.specs.declared.Excess as E
+use Rattle.lra_linear_spec.specs.Descriptions.{LinearRow}
+use Rattle.lra_linear_spec.specs.Polyhedra.{Polyhedron}
+use Rattle.lra_linear_spec.specs.Vectors.{product}
+use Rattle.lra_linear_spec.specs.Widening.{holds_with, is_tight_as}
+use Rattle.lra_linear_spec.proofs.CheckedArithmetic.{checked_product_value}
 use Rattle.lra_sys.specs.Listed.{given_by}
 use Rattle.lra_sys.proofs.FirstMembers.{front, member}
 use Rattle.lra_duality.specs.Saturations.{saturated}
@@ -29,17 +29,17 @@ zero_alike r g h = by_result (checked_product r g) refl h
     by_result (Ok z) e h = ap (λ y. int_eq y (pos 0)) (checked_product_value r g (Ok z) e)
     by_result (Err f) e h = let wrong : ⊥ = cc in absurd wrong
 
-vanish_alike : (generators : List Given) (r : Given) → list_all (λ g. fits (checked_product r.row g.row) && holds_with r g) generators ≡ true →
-    map (λ (g : Given). vanishes r.row g.row) generators ≡ saturated generators r.row
+vanish_alike : (generators : List LinearRow) (r : LinearRow) → list_all (λ g. fits (checked_product r.row g.row) && holds_with r g) generators ≡ true →
+    map (λ (g : LinearRow). vanishes r.row g.row) generators ≡ saturated generators r.row
 vanish_alike [] r h = refl
 vanish_alike (g ∷ generators) r h =
     let all = and_parts (fits (checked_product r.row g.row) && holds_with r g) (list_all (λ k. fits (checked_product r.row k.row) && holds_with r k) generators) h in
     let here = and_parts (fits (checked_product r.row g.row)) (holds_with r g) all.0 in
-    ap (λ b. b ∷ map (λ (k : Given). vanishes r.row k.row) generators) (zero_alike r.row g.row here.0) ∙
+    ap (λ b. b ∷ map (λ (k : LinearRow). vanishes r.row k.row) generators) (zero_alike r.row g.row here.0) ∙
     ap (λ l. int_eq (product r.row g.row) (pos 0) ∷ l) (vanish_alike generators r all.1)
 
 -- one holds in the range and saturates what the values say exactly where its products vanish so
-pub holds_alike : (p : Polyhedron) (r : Given) (bits : List Bool) (a h : Bool) → a ≡ same_values bits (map (λ (g : Given). vanishes r.row g.row) p.generators) → h ≡ holds_in_range p r →
+pub holds_alike : (p : Polyhedron) (r : LinearRow) (bits : List Bool) (a h : Bool) → a ≡ same_values bits (map (λ (g : LinearRow). vanishes r.row g.row) p.generators) → h ≡ holds_in_range p r →
     (a && h) ≡ (holds_in_range p r && same_values bits (saturated p.generators r.row))
 holds_alike p r bits a true e f =
     as_first a ∙ e ∙ ap (same_values bits) (vanish_alike p.generators r (sym f)) ∙ ap (λ b. b && same_values bits (saturated p.generators r.row)) f
@@ -53,23 +53,25 @@ holds_alike p r bits a false e f = never a ∙ ap (λ b. b && same_values bits (
     never true = refl
     never false = refl
 
-pub holds_there : (p : Polyhedron) (r : Given) (bits : List Bool) (a h : Bool) → a ≡ true → a ≡ same_values bits (map (λ (g : Given). vanishes r.row g.row) p.generators) → h ≡ holds_in_range p r →
+pub holds_there : (p : Polyhedron) (r : LinearRow) (bits : List Bool) (a h : Bool) → a ≡ true → a ≡ same_values bits (map (λ (g : LinearRow). vanishes r.row g.row) p.generators) →
+    h ≡ holds_in_range p r →
     h ≡ (holds_in_range p r && same_values bits (saturated p.generators r.row))
 holds_there p r bits a h t e f = sym (ap (λ b. b && h) t) ∙ holds_alike p r bits a h e f
 
-pub holds_elsewhere : (p : Polyhedron) (r : Given) (bits : List Bool) (a : Bool) → a ≡ false → a ≡ same_values bits (map (λ (g : Given). vanishes r.row g.row) p.generators) →
+pub holds_elsewhere : (p : Polyhedron) (r : LinearRow) (bits : List Bool) (a : Bool) → a ≡ false → a ≡ same_values bits (map (λ (g : LinearRow). vanishes r.row g.row) p.generators) →
     false ≡ (holds_in_range p r && same_values bits (saturated p.generators r.row))
 holds_elsewhere p r bits a t e = sym (ap (λ b. b && holds_in_range p r) t) ∙ holds_alike p r bits a (holds_in_range p r) e refl
 
 -- ---- place by place
 pub agree_all : {K : Type 0} (equal : K → Bool) (f : List ℤ → Bool) (rows : List (List ℤ)) (kinds : List K) (bits : List Bool) → length kinds ≡ length rows →
-    ((j : ℕ) → j < length rows → value_at bits j ≡ f (get_or rows j [])) → true ≡ same_values bits (map (λ (g : Given). f g.row) (given_by equal rows kinds))
+    ((j : ℕ) → j < length rows → value_at bits j ≡ f (get_or rows j [])) →
+    true ≡ same_values bits (map (λ (g : LinearRow). f g.row) (given_by equal rows kinds))
 agree_all equal f rows kinds [] n h = refl
 agree_all equal f [] kinds (b ∷ bits) n h = refl
 agree_all equal f (x ∷ rows) [] (b ∷ bits) n h = absurd (omega (arith, n))
 agree_all equal f (x ∷ rows) (k ∷ kinds) (b ∷ bits) n h =
     agree_all equal f rows kinds bits (omega (arith, n)) (λ j m. h (suc j) (omega (arith, m))) ∙
-    ap (λ c. c && same_values bits (map (λ (g : Given). f g.row) (given_by equal rows kinds))) (one_value b (f x) (h 0 (omega arith)))
+    ap (λ c. c && same_values bits (map (λ (g : LinearRow). f g.row) (given_by equal rows kinds))) (one_value b (f x) (h 0 (omega arith)))
   where
     one_value : (b c : Bool) → b ≡ c → true ≡ beq b c
     one_value true true e = refl
@@ -78,12 +80,12 @@ agree_all equal f (x ∷ rows) (k ∷ kinds) (b ∷ bits) n h =
     one_value false true e = cc
 
 pub differ_at : {K : Type 0} (equal : K → Bool) (f : List ℤ → Bool) (rows : List (List ℤ)) (kinds : List K) (bits : List Bool) (i : ℕ) → length kinds ≡ length rows → length bits ≡ length rows →
-    i < length rows → value_at bits i ≢ f (get_or rows i []) → false ≡ same_values bits (map (λ (g : Given). f g.row) (given_by equal rows kinds))
+    i < length rows → value_at bits i ≢ f (get_or rows i []) → false ≡ same_values bits (map (λ (g : LinearRow). f g.row) (given_by equal rows kinds))
 differ_at equal f [] kinds bits i n l m h = absurd (omega (arith, m))
 differ_at equal f (x ∷ rows) [] bits i n l m h = absurd (omega (arith, n))
 differ_at equal f (x ∷ rows) (k ∷ kinds) [] i n l m h = absurd (omega (arith, l))
 differ_at equal f (x ∷ rows) (k ∷ kinds) (b ∷ bits) zero n l m h =
-    ap (λ c. c && same_values bits (map (λ (g : Given). f g.row) (given_by equal rows kinds))) (two_values b (f x) h)
+    ap (λ c. c && same_values bits (map (λ (g : LinearRow). f g.row) (given_by equal rows kinds))) (two_values b (f x) h)
   where
     two_values : (b c : Bool) → b ≢ c → false ≡ beq b c
     two_values true true e = absurd (e refl)
@@ -98,8 +100,8 @@ differ_at equal f (x ∷ rows) (k ∷ kinds) (b ∷ bits) (suc i) n l m h =
     never false = refl
 
 -- the values in the matrix at the place of a row
-pub bits_at : {K : Type 0} (equal : K → Bool) (generators : List Given) (rows : List (List ℤ)) (kinds : List K) (i : ℕ) (r : List ℤ) → length kinds ≡ length rows → i < length rows →
-    r ≡ get_or rows i r → slice_index_or (map (λ (s : Given). saturated generators s.row) (given_by equal rows kinds)) i [] ≡ saturated generators r
+pub bits_at : {K : Type 0} (equal : K → Bool) (generators : List LinearRow) (rows : List (List ℤ)) (kinds : List K) (i : ℕ) (r : List ℤ) → length kinds ≡ length rows → i < length rows →
+    r ≡ get_or rows i r → slice_index_or (map (λ (s : LinearRow). saturated generators s.row) (given_by equal rows kinds)) i [] ≡ saturated generators r
 bits_at equal generators [] kinds i r n m e = absurd (omega (arith, m))
 bits_at equal generators (x ∷ rows) [] i r n m e = absurd (omega (arith, n))
 bits_at equal generators (x ∷ rows) (k ∷ kinds) zero r n m e = ap (saturated generators) (sym e)
@@ -118,21 +120,21 @@ take_given equal rows kinds zero = refl
 take_given equal [] kinds (suc i) = refl
 take_given equal (x ∷ rows) [] (suc i) = refl
 take_given equal (x ∷ rows) (k ∷ kinds) (suc i) =
-    ap (λ (l : List Given). (let g : Given = record { row = x; equal = equal k } in g) ∷ l) (take_given equal rows kinds i)
+    ap (λ (l : List LinearRow). (let g : LinearRow = record { row = x; equal = equal k } in g) ∷ l) (take_given equal rows kinds i)
 
-pub row_more : {K : Type 0} (equal : K → Bool) (own : List Given) (rows : List (List ℤ)) (kinds : List K) (i : ℕ) (r : List ℤ) (k : K) → own ≡ given_by equal rows kinds →
+pub row_more : {K : Type 0} (equal : K → Bool) (own : List LinearRow) (rows : List (List ℤ)) (kinds : List K) (i : ℕ) (r : List ℤ) (k : K) → own ≡ given_by equal rows kinds →
     length kinds ≡ length rows → i < length rows → r ≡ get_or rows i r → take (i + 1) own ≡ take i own ++ member equal kinds i r k ∷ []
 row_more equal own rows kinds i r k e n m is =
     ap (take (i + 1)) e ∙ take_given equal rows kinds (i + 1) ∙ front_step equal rows kinds i r k n m is ∙
     ap (λ l. l ++ member equal kinds i r k ∷ []) (sym (ap (take i) e ∙ take_given equal rows kinds i))
 
 -- ---- one of some
-any_alike : (s t : Given → Bool) (xs : List Given) → ((g : Given) → s g ≡ t g) → list_any s xs ≡ list_any t xs
+any_alike : (s t : LinearRow → Bool) (xs : List LinearRow) → ((g : LinearRow) → s g ≡ t g) → list_any s xs ≡ list_any t xs
 any_alike s t [] h = refl
 any_alike s t (g ∷ xs) h = ap (λ b. b || list_any s xs) (h g) ∙ ap (λ b. t g || b) (any_alike s t xs h)
 
 -- some of those that pass a test pass another one where some of all pass both
-any_filtered : (t s : Given → Bool) (xs : List Given) → list_any s (filter t xs) ≡ list_any (λ x. t x && s x) xs
+any_filtered : (t s : LinearRow → Bool) (xs : List LinearRow) → list_any s (filter t xs) ≡ list_any (λ x. t x && s x) xs
 any_filtered t s [] = refl
 any_filtered t s (x ∷ xs) = by_test (t x) (any_filtered t s xs)
   where
@@ -142,19 +144,20 @@ any_filtered t s (x ∷ xs) = by_test (t x) (any_filtered t s xs)
     by_test false i = i
 
 -- none of the first ones, and not the next
-pub none_more : (t : Given → Bool) (xs ys : List Given) (g : Given) (b : Bool) → ys ≡ xs ++ g ∷ [] → b ≡ t g → b ≡ false → list_any t xs ≡ false → list_any t ys ≡ false
+pub none_more : (t : LinearRow → Bool) (xs ys : List LinearRow) (g : LinearRow) (b : Bool) → ys ≡ xs ++ g ∷ [] → b ≡ t g → b ≡ false → list_any t xs ≡ false → list_any t ys ≡ false
 none_more t xs ys g b e is fails h = ap (list_any t) e ∙ behind xs h
   where
-    by_test : (l : List Given) (c : Bool) → (c || list_any t l) ≡ false → (list_any t l ≡ false → list_any t (l ++ g ∷ []) ≡ false) → (c || list_any t (l ++ g ∷ [])) ≡ false
+    by_test : (l : List LinearRow) (c : Bool) → (c || list_any t l) ≡ false → (list_any t l ≡ false → list_any t (l ++ g ∷ []) ≡ false) → (c || list_any t (l ++ g ∷ [])) ≡ false
     by_test l true i rest = cc
     by_test l false i rest = rest i
 
-    behind : (l : List Given) → list_any t l ≡ false → list_any t (l ++ g ∷ []) ≡ false
+    behind : (l : List LinearRow) → list_any t l ≡ false → list_any t (l ++ g ∷ []) ≡ false
     behind [] i = ap (λ c. c || false) (sym is ∙ fails)
     behind (x ∷ l) i = by_test l (t x) i (λ j. behind l j)
 
 -- ---- inequalities that none of the given stands for
-pub free_by_bits : (p : Polyhedron) (r : Given) (bits : List Bool) (given : List Given) (equal : Bool) → bits ≡ saturated p.generators r.row → equal ≡ r.equal →
+pub free_by_bits : (p : Polyhedron) (r : LinearRow) (bits : List Bool) (given : List LinearRow) (equal : Bool) → bits ≡ saturated p.generators r.row →
+    equal ≡ r.equal →
     (not equal && not (list_any (λ g. holds_in_range p g && same_values bits (saturated p.generators g.row)) given)) ≡ is_free p (held p given) r
 free_by_bits p r bits given equal e q =
     ap (λ b. not b && not (list_any (λ g. holds_in_range p g && same_values bits (saturated p.generators g.row)) given)) q ∙

@@ -5,14 +5,14 @@ use Rattle.std.proofs.lemmas.List.Elements.{filter-append}
 use Rattle.std.specs.List.{Contains, filter, list_any}
 use Rattle.std.proofs.lemmas.Bool.{and_parts}
 use Rattle.std.proofs.lemmas.List.{append-nil}
-use Rattle.lra_linear.specs.CheckedArithmetic.{checked_product}
-use Rattle.lra_linear.specs.Descriptions.{Given, given_as}
-use Rattle.lra_linear.specs.Polyhedra.{HasPoint, Polyhedron}
-use Rattle.lra_linear.specs.RowOrder.{Ascends, inequality_cmp}
-use Rattle.lra_linear.specs.Widening.{holds_with, is_tight_as, is_valid}
-use Rattle.lra_linear.proofs.Membership.{NoRepeat, contains_cases, contains_head, contains_none, contains_tail, filter_from, filter_has, list_all_at, list_all_from}
-use Rattle.lra_linear.proofs.OneSpelling.{given_from}
-use Rattle.lra_linear.proofs.RowOrder.{inequality_cmp_total, never_both}
+use Rattle.lra_linear_spec.specs.CheckedArithmetic.{checked_product}
+use Rattle.lra_linear_spec.specs.Descriptions.{LinearRow, rows_as}
+use Rattle.lra_linear_spec.specs.Polyhedra.{HasPoint, Polyhedron}
+use Rattle.lra_linear_spec.specs.RowOrder.{Ascends, inequality_cmp}
+use Rattle.lra_linear_spec.specs.Widening.{holds_with, is_tight_as, is_valid}
+use Rattle.lra_linear_spec.proofs.Membership.{NoRepeat, contains_cases, contains_head, contains_none, contains_tail, filter_from, filter_has, list_all_at, list_all_from}
+use Rattle.lra_linear_spec.proofs.OneSpelling.{given_from}
+use Rattle.lra_linear_spec.proofs.RowOrder.{inequality_cmp_total, never_both}
 use Rattle.lra_cone.proofs.Cutting.{no_repeat_filter}
 use Rattle.lra_widen.specs.Rank.{fits, free, held, holds_in_range, is_free, kept}
 
@@ -45,71 +45,71 @@ filtered_again {A = A} t s (x ∷ xs) = by_tests (t x) (s x) refl (filtered_agai
     by_tests false false e i = i
 
 -- ---- given rows
-pub kept_held : (p r : Polyhedron) (given : List Given) → held r (kept p r given) ≡ kept p r given
+pub kept_held : (p r : Polyhedron) (given : List LinearRow) → held r (kept p r given) ≡ kept p r given
 kept_held p r given = filtered_again (holds_in_range p) (holds_in_range r) given
 
-pub kept_fewer : (p r : Polyhedron) (given : List Given) → length (kept p r given) ≤ length (held p given)
+pub kept_fewer : (p r : Polyhedron) (given : List LinearRow) → length (kept p r given) ≤ length (held p given)
 kept_fewer p r given = (both_tests (holds_in_range p) (holds_in_range r) given).0
 
-pub kept_all : (p r : Polyhedron) (given : List Given) → length (held p given) ≤ length (kept p r given) → kept p r given ≡ held p given
+pub kept_all : (p r : Polyhedron) (given : List LinearRow) → length (held p given) ≤ length (kept p r given) → kept p r given ≡ held p given
 kept_all p r given h = (both_tests (holds_in_range p) (holds_in_range r) given).1 h
 
-pub kept_at : (p r : Polyhedron) (given : List Given) (g : Given) → Contains (kept p r given) g → Contains given g × (holds_in_range p g ≡ true) × (holds_in_range r g ≡ true)
+pub kept_at : (p r : Polyhedron) (given : List LinearRow) (g : LinearRow) → Contains (kept p r given) g → Contains given g × (holds_in_range p g ≡ true) × (holds_in_range r g ≡ true)
 kept_at p r given g k =
     let f = filter_from (λ x. holds_in_range p x && holds_in_range r x) given g k in
     let b = and_parts (holds_in_range p g) (holds_in_range r g) f.1 in
     (f.0, b.0, b.1)
 
 -- what holds in the range is valid
-pub holds_valid : (p : Polyhedron) (g : Given) → holds_in_range p g ≡ true → is_valid p g ≡ true
+pub holds_valid : (p : Polyhedron) (g : LinearRow) → holds_in_range p g ≡ true → is_valid p g ≡ true
 holds_valid p g h = list_all_from (holds_with g) p.generators (λ t k.
     (and_parts (fits (checked_product g.row t.row)) (holds_with g t) (list_all_at (λ x. fits (checked_product g.row x.row) && holds_with g x) p.generators h t k)).1)
 
 -- ---- the rows of a polyhedron
-none_passes : (t : Given → Bool) (rows : List (List ℤ)) (b : Bool) → ((r : List ℤ) → t (record { row = r; equal = b }) ≡ false) → filter t (given_as b rows) ≡ []
+none_passes : (t : LinearRow → Bool) (rows : List (List ℤ)) (b : Bool) → ((r : List ℤ) → t (record { row = r; equal = b }) ≡ false) → filter t (rows_as b rows) ≡ []
 none_passes t [] b h = refl
-none_passes t (r ∷ rows) b h = ap (λ c. cond c ((let g : Given = record { row = r; equal = b } in g) ∷ filter t (given_as b rows)) (filter t (given_as b rows))) (h r) ∙ none_passes t rows b h
+none_passes t (r ∷ rows) b h = ap (λ c. cond c ((let g : LinearRow = record { row = r; equal = b } in g) ∷ filter t (rows_as b rows)) (filter t (rows_as b rows))) (h r) ∙ none_passes t rows b h
 
-all_pass : (rows : List (List ℤ)) → length (filter (λ (r : Given). r.equal) (given_as true rows)) ≡ length rows
+all_pass : (rows : List (List ℤ)) → length (filter (λ (r : LinearRow). r.equal) (rows_as true rows)) ≡ length rows
 all_pass [] = refl
 all_pass (r ∷ rows) = ap suc (all_pass rows)
 
-pub equalities_many : (p : Polyhedron) (h : HasPoint p) → length (filter (λ (r : Given). r.equal) p.rows) ≡ length h.equalities
+pub equalities_many : (p : Polyhedron) (h : HasPoint p) → length (filter (λ (r : LinearRow). r.equal) p.rows) ≡ length h.equalities
 equalities_many p h =
-    ap (λ l. length (filter (λ (r : Given). r.equal) l)) h.rows_are ∙
-    ap length (filter-append (λ (r : Given). r.equal) (given_as true h.equalities) (given_as false h.inequalities)) ∙
-    ap (λ l. length (filter (λ (r : Given). r.equal) (given_as true h.equalities) ++ l)) (none_passes (λ (r : Given). r.equal) h.inequalities false (λ r. refl)) ∙
-    ap length (append-nil (filter (λ (r : Given). r.equal) (given_as true h.equalities))) ∙ all_pass h.equalities
+    ap (λ l. length (filter (λ (r : LinearRow). r.equal) l)) h.rows_are ∙
+    ap length (filter-append (λ (r : LinearRow). r.equal) (rows_as true h.equalities) (rows_as false h.inequalities)) ∙
+    ap (λ l. length (filter (λ (r : LinearRow). r.equal) (rows_as true h.equalities) ++ l)) (none_passes (λ (r : LinearRow). r.equal) h.inequalities false (λ r. refl)) ∙
+    ap length (append-nil (filter (λ (r : LinearRow). r.equal) (rows_as true h.equalities))) ∙ all_pass h.equalities
 
-free_rows : (p : Polyhedron) (h : HasPoint p) (rows : List Given) → free p rows ≡ filter (is_free p rows) (given_as false h.inequalities)
+free_rows : (p : Polyhedron) (h : HasPoint p) (rows : List LinearRow) → free p rows ≡ filter (is_free p rows) (rows_as false h.inequalities)
 free_rows p h rows =
-    ap (filter (is_free p rows)) h.rows_are ∙ filter-append (is_free p rows) (given_as true h.equalities) (given_as false h.inequalities) ∙
-    ap (λ l. l ++ filter (is_free p rows) (given_as false h.inequalities)) (none_passes (is_free p rows) h.equalities true (λ r. refl))
+    ap (filter (is_free p rows)) h.rows_are ∙ filter-append (is_free p rows) (rows_as true h.equalities) (rows_as false h.inequalities) ∙
+    ap (λ l. l ++ filter (is_free p rows) (rows_as false h.inequalities)) (none_passes (is_free p rows) h.equalities true (λ r. refl))
 
-given_apart : (rows : List (List ℤ)) → Ascends inequality_cmp rows → NoRepeat (given_as false rows)
+given_apart : (rows : List (List ℤ)) → Ascends inequality_cmp rows → NoRepeat (rows_as false rows)
 given_apart [] a = tt
 given_apart (r ∷ rows) a = (
   λ k. let l = a.0 r (given_from false rows (record { row = r; equal = false }) k).1 in never_both inequality_cmp inequality_cmp_total r r l l,
   given_apart rows a.1,
 )
 
-pub free_apart : (p : Polyhedron) (h : HasPoint p) (rows : List Given) → NoRepeat (free p rows)
-free_apart p h rows = subst NoRepeat (sym (free_rows p h rows)) (no_repeat_filter (is_free p rows) (given_as false h.inequalities) (given_apart h.inequalities h.inequalities_ascend))
+pub free_apart : (p : Polyhedron) (h : HasPoint p) (rows : List LinearRow) → NoRepeat (free p rows)
+free_apart p h rows = subst NoRepeat (sym (free_rows p h rows)) (no_repeat_filter (is_free p rows) (rows_as false h.inequalities) (given_apart h.inequalities h.inequalities_ascend))
 
 not_said : (b : Bool) → not b ≡ true → b ≡ false
 not_said true e = cc
 not_said false e = refl
 
 -- a free row is an inequality, and none of the rows saturates the same
-pub record IsFree (p : Polyhedron) (h : HasPoint p) (rows : List Given) (f : Given) : Type 0 where
+pub record IsFree (p : Polyhedron) (h : HasPoint p) (rows : List LinearRow) (f : LinearRow) : Type 0 where
   pub is_row : Contains p.rows f
   pub is_inequality : Contains h.inequalities f.row
   pub unequal : f.equal ≡ false
   pub alone : list_any (is_tight_as p.generators f) rows ≡ false
 
-pub free_said : (p : Polyhedron) (h : HasPoint p) (rows : List Given) (f : Given) → Contains (free p rows) f → IsFree p h rows f
+pub free_said : (p : Polyhedron) (h : HasPoint p) (rows : List LinearRow) (f : LinearRow) → Contains (free p rows) f → IsFree p h rows f
 free_said p h rows f k =
-    let m = filter_from (is_free p rows) (given_as false h.inequalities) f (subst (λ l. Contains l f) (free_rows p h rows) k) in
+    let m = filter_from (is_free p rows) (rows_as false h.inequalities) f (subst (λ l. Contains l f) (free_rows p h rows) k) in
     let g = given_from false h.inequalities f m.0 in
     record {
       is_row = (filter_from (is_free p rows) p.rows f k).0;
@@ -118,7 +118,7 @@ free_said p h rows f k =
       alone = not_said (list_any (is_tight_as p.generators f) rows) (and_parts (not f.equal) (not (list_any (is_tight_as p.generators f) rows)) m.1).1;
     }
 
-pub free_has : (p : Polyhedron) (rows : List Given) (s : Given) → Contains p.rows s → s.equal ≡ false → list_any (is_tight_as p.generators s) rows ≡ false → Contains (free p rows) s
+pub free_has : (p : Polyhedron) (rows : List LinearRow) (s : LinearRow) → Contains p.rows s → s.equal ≡ false → list_any (is_tight_as p.generators s) rows ≡ false → Contains (free p rows) s
 free_has p rows s k e a = filter_has (is_free p rows) p.rows s k (ap (λ b. not b && not (list_any (is_tight_as p.generators s) rows)) e ∙ ap not a)
 
 -- ---- some member passes

@@ -6,14 +6,14 @@ use Rattle.std.proofs.lemmas.Bool.{cases_lt}
 use Rattle.std.proofs.lemmas.List.{length-append}
 use Rattle.std.proofs.lemmas.List.Elements.{Contains-append_cases, Contains-append_left, Contains-append_right}
 use Rattle.std.specs.List.{Contains}
-use Rattle.lra_linear.specs.Echelon.{Before, IsEchelon, Leads, Spanned}
-use Rattle.lra_linear.specs.Vectors.{entry}
-use Rattle.lra_linear.proofs.Membership.{NoRepeat, contains_cases, contains_head, contains_none, contains_split, contains_tail}
-use Rattle.lra_linear.proofs.Products.{entry_past}
-use Rattle.lra_linear.proofs.Ring.{ring, v, ⊖, ◌⊕◌, ◌⊗◌}
-use Rattle.lra_linear.proofs.Signs.{as_nat, not_both, positive_nat}
-use Rattle.lra_linear.proofs.Spans.{all_zero, drop_head, early, spanned_divided, spanned_head, spanned_linear, spanned_more, spanned_row, spanned_same, spanned_zero}
-use Rattle.lra_linear.proofs.AdjacentPairs.{both_positive}
+use Rattle.lra_linear_spec.specs.Echelon.{Before, IsEchelon, HasPivot, Spanned}
+use Rattle.lra_linear_spec.specs.Vectors.{entry}
+use Rattle.lra_linear_spec.proofs.Membership.{NoRepeat, contains_cases, contains_head, contains_none, contains_split, contains_tail}
+use Rattle.lra_linear_spec.proofs.Products.{entry_past}
+use Rattle.lra_linear_spec.proofs.Ring.{ring, v, ⊖, ◌⊕◌, ◌⊗◌}
+use Rattle.lra_linear_spec.proofs.Signs.{as_nat, not_both, positive_nat}
+use Rattle.lra_linear_spec.proofs.Spans.{all_zero, drop_head, early, spanned_divided, spanned_head, spanned_linear, spanned_more, spanned_row, spanned_same, spanned_zero}
+use Rattle.lra_linear_spec.proofs.AdjacentPairs.{both_positive}
 
 -- ---- pairs of members
 -- Each member of the one list is related to one of the other, no two of them to the same: so the one is no longer, and where it is as
@@ -78,12 +78,12 @@ lead_is_pivot (r ∷ rows) (p ∷ ps) ech u q g before here = elim (which_first 
 ]
 
 -- a pivot is that of a row
-pub pivot_row : (rows : List (List ℤ)) (ps : List ℕ) → IsEchelon rows ps → (q : ℕ) → Contains ps q → (r : List ℤ) × Contains rows r × Leads r q
+pub pivot_row : (rows : List (List ℤ)) (ps : List ℕ) → IsEchelon rows ps → (q : ℕ) → Contains ps q → (r : List ℤ) × Contains rows r × HasPivot r q
 pivot_row [] [] ech q k = absurd (contains_none q k)
 pivot_row [] (p ∷ ps) ech q k = absurd ech
 pivot_row (r ∷ rows) [] ech q k = absurd ech
 pivot_row (r ∷ rows) (p ∷ ps) ech q k = elim (contains_cases p q ps k) [
-  | inl e ↦ (r, contains_head r rows, subst (Leads r) e ech.0)
+  | inl e ↦ (r, contains_head r rows, subst (HasPivot r) e ech.0)
   | inr d ↦ let i = pivot_row rows ps ech.4 q d in (i.0, contains_tail r i.0 rows i.1, i.2)
 ]
 
@@ -198,5 +198,5 @@ few_rows n rows ps widths ech none =
     above zero k = absurd (none k)
     above (suc q) k = omega arith
 
-    inside : (r : List ℤ) (q : ℕ) → length r ≡ suc n → Leads r q → q ≤ n
+    inside : (r : List ℤ) (q : ℕ) → length r ≡ suc n → HasPivot r q → q ≤ n
     inside r q e l = elim (cases_lt q (suc n)) [ inl h ↦ omega (arith, h) | inr h ↦ absurd (not_both (entry r q) l.here (entry_past r q (omega (arith, h, e)))) ]

@@ -7,29 +7,29 @@ use Rattle.std.specs.Bool.{beq}
 use Rattle.std.specs.Cmp.{signed_Decides}
 use Rattle.std.specs.List.{Contains, list_all}
 use Rattle.std.specs.Ordering.{int_eq}
-use Rattle.lra_linear.specs.Cones.{Generated, Solves, all_rows, both_ways}
-use Rattle.lra_linear.specs.Descriptions.{Con, Given, lines_of, rays_of, system_of}
-use Rattle.lra_linear.specs.Echelon.{Spanned}
-use Rattle.lra_linear.specs.Points.{IsPoint, IsWithin}
-use Rattle.lra_linear.specs.Polyhedra.{HasPoint, Polyhedron}
-use Rattle.lra_linear.proofs.Saturation.{Beside, IsExtreme, TightToo, room}
-use Rattle.lra_linear.specs.SetOperations.{ValidOn}
-use Rattle.lra_linear.specs.Vectors.{blend, dot, entry, negated, product, signed_sum}
-use Rattle.lra_linear.specs.Widening.{is_tight_as, is_valid, saturates}
-use Rattle.lra_linear.proofs.CanonicalForms.{lines_are_all, ray_extreme, spanned_in_cone}
-use Rattle.lra_linear.proofs.Combinations.{generated_same}
-use Rattle.lra_linear.proofs.Descriptions.{holds_at_least, in_all_rows, in_system, system_from, system_has}
-use Rattle.lra_linear.proofs.LinearMaps.{generated_nonneg}
-use Rattle.lra_linear.proofs.Lines.{in_lines, in_lines_negated, signed_from}
-use Rattle.lra_linear.proofs.Membership.{contains_head, contains_tail, list_all_at, list_all_from}
-use Rattle.lra_linear.proofs.OneSpelling.{cone_solved}
-use Rattle.lra_linear.proofs.Polyhedra.{con_gen, generators_lines, generators_rays}
-use Rattle.lra_linear.proofs.Products.{blend_length, dot_negated, dot_plus, dot_same, dot_scale, dot_zero, entry_blend, entry_negated, negated_dot, negated_length, product_comm}
-use Rattle.lra_linear.proofs.Ring.{ring, v, ◌⊕◌, ◌⊗◌}
-use Rattle.lra_linear.proofs.SetOperations.{has_vertex, valid_on_rows}
-use Rattle.lra_linear.proofs.Signs.{between_opposites, no_product, opposite_of_zero, zero_at_least}
-use Rattle.lra_linear.proofs.Spans.{spanned_through}
-use Rattle.lra_linear.proofs.Widening.{valid_decides}
+use Rattle.lra_linear_spec.specs.Cones.{Generated, Solves, all_rows, both_ways}
+use Rattle.lra_linear_spec.specs.Descriptions.{Con, LinearRow, lines_of, rays_of, system_of}
+use Rattle.lra_linear_spec.specs.Echelon.{Spanned}
+use Rattle.lra_linear_spec.specs.Points.{IsPoint, IsWithin}
+use Rattle.lra_linear_spec.specs.Polyhedra.{HasPoint, Polyhedron}
+use Rattle.lra_linear_spec.proofs.Saturation.{Beside, IsExtreme, TightToo, room}
+use Rattle.lra_linear_spec.specs.SetOperations.{ValidOn}
+use Rattle.lra_linear_spec.specs.Vectors.{blend, dot, entry, negated, product, signed_sum}
+use Rattle.lra_linear_spec.specs.Widening.{is_tight_as, is_valid, saturates}
+use Rattle.lra_linear_spec.proofs.CanonicalForms.{lines_are_all, ray_extreme, spanned_in_cone}
+use Rattle.lra_linear_spec.proofs.Combinations.{generated_same}
+use Rattle.lra_linear_spec.proofs.Descriptions.{holds_at_least, in_all_rows, in_system, system_from, system_has}
+use Rattle.lra_linear_spec.proofs.LinearMaps.{generated_nonneg}
+use Rattle.lra_linear_spec.proofs.Lines.{in_lines, in_lines_negated, signed_from}
+use Rattle.lra_linear_spec.proofs.Membership.{contains_head, contains_tail, list_all_at, list_all_from}
+use Rattle.lra_linear_spec.proofs.OneSpelling.{cone_solved}
+use Rattle.lra_linear_spec.proofs.Polyhedra.{con_gen, generators_lines, generators_rays}
+use Rattle.lra_linear_spec.proofs.Products.{blend_length, dot_negated, dot_plus, dot_same, dot_scale, dot_zero, entry_blend, entry_negated, negated_dot, negated_length, product_comm}
+use Rattle.lra_linear_spec.proofs.Ring.{ring, v, ◌⊕◌, ◌⊗◌}
+use Rattle.lra_linear_spec.proofs.SetOperations.{has_vertex, valid_on_rows}
+use Rattle.lra_linear_spec.proofs.Signs.{between_opposites, no_product, opposite_of_zero, zero_at_least}
+use Rattle.lra_linear_spec.proofs.Spans.{spanned_through}
+use Rattle.lra_linear_spec.proofs.Widening.{valid_decides}
 use Rattle.lra_cone.proofs.Taking.{same_test}
 
 -- the rows of the constraints, and of the generators, those of both signs in both directions
@@ -186,36 +186,36 @@ zero_tests : (y z : ℤ) → int_eq y (pos 0) ≡ int_eq z (pos 0) → y ≡ pos
 zero_tests y z e f = (signed_Decides z (pos 0)).0 (sym e ∙ (signed_Decides y (pos 0)).1 f)
 
 -- two rows saturate the same generators
-pub tight_as_said : (p : Polyhedron) (h : HasPoint p) (r s : Given) → is_tight_as p.generators r s ≡ true → (t : List ℤ) → Contains (gen p h) t → product r.row t ≡ pos 0 → product s.row t ≡ pos 0
+pub tight_as_said : (p : Polyhedron) (h : HasPoint p) (r s : LinearRow) → is_tight_as p.generators r s ≡ true → (t : List ℤ) → Contains (gen p h) t → product r.row t ≡ pos 0 → product s.row t ≡ pos 0
 tight_as_said p h r s e t k z =
     let f = system_from p.generators t (from_gen p h t k) in
     let same = beq_said (saturates r f.given) (saturates s f.given) (list_all_at (λ g. beq (saturates r g) (saturates s g)) p.generators e f.given f.has) in
     sign_zero s.row f.given.row t f.given.equal f.sign (zero_tests (product r.row f.given.row) (product s.row f.given.row) same (zero_sign r.row f.given.row t f.given.equal f.sign z))
 
-pub tight_as_back : (p : Polyhedron) (h : HasPoint p) (r s : Given) → is_tight_as p.generators r s ≡ true → (t : List ℤ) → Contains (gen p h) t → product s.row t ≡ pos 0 → product r.row t ≡ pos 0
+pub tight_as_back : (p : Polyhedron) (h : HasPoint p) (r s : LinearRow) → is_tight_as p.generators r s ≡ true → (t : List ℤ) → Contains (gen p h) t → product s.row t ≡ pos 0 → product r.row t ≡ pos 0
 tight_as_back p h r s e t k z =
     let f = system_from p.generators t (from_gen p h t k) in
     let same = beq_said (saturates r f.given) (saturates s f.given) (list_all_at (λ g. beq (saturates r g) (saturates s g)) p.generators e f.given f.has) in
     sign_zero r.row f.given.row t f.given.equal f.sign (zero_tests (product s.row f.given.row) (product r.row f.given.row) (sym same) (zero_sign s.row f.given.row t f.given.equal f.sign z))
 
-pub tight_as_from : (p : Polyhedron) (h : HasPoint p) (r s : Given) → ((t : List ℤ) → Contains (gen p h) t → product r.row t ≡ pos 0 → product s.row t ≡ pos 0) →
+pub tight_as_from : (p : Polyhedron) (h : HasPoint p) (r s : LinearRow) → ((t : List ℤ) → Contains (gen p h) t → product r.row t ≡ pos 0 → product s.row t ≡ pos 0) →
     ((t : List ℤ) → Contains (gen p h) t → product s.row t ≡ pos 0 → product r.row t ≡ pos 0) → is_tight_as p.generators r s ≡ true
 tight_as_from p h r s there back = list_all_from (λ g. beq (saturates r g) (saturates s g)) p.generators (λ g k.
     let m = in_gen p h g.row (system_has p.generators g k) in
     beq_from (saturates r g) (saturates s g) (same_test (product r.row g.row) (product s.row g.row) (there g.row m) (back g.row m)))
 
 -- a row saturates all
-pub flat_said : (p : Polyhedron) (h : HasPoint p) (r : Given) → list_all (saturates r) p.generators ≡ true → IsFlat (gen p h) r.row
+pub flat_said : (p : Polyhedron) (h : HasPoint p) (r : LinearRow) → list_all (saturates r) p.generators ≡ true → IsFlat (gen p h) r.row
 flat_said p h r e t k =
     let f = system_from p.generators t (from_gen p h t k) in
     sign_zero r.row f.given.row t f.given.equal f.sign ((signed_Decides (product r.row f.given.row) (pos 0)).0 (list_all_at (saturates r) p.generators e f.given f.has))
 
 -- ---- what is valid on the points
-pub valid_above : (p : Polyhedron) (h : HasPoint p) (r : Given) → ValidOn p.dims (Con p.rows) r → IsAbove (gen p h) r.row
+pub valid_above : (p : Polyhedron) (h : HasPoint p) (r : LinearRow) → ValidOn p.dims (Con p.rows) r → IsAbove (gen p h) r.row
 valid_above p h r valid t k =
     valid_on_rows p.dims p.generators (has_vertex p h) r.row (λ y i g. holds_at_least r.equal (product r.row y) (valid y i ((con_gen p (inr h)).1 y i g))) t (from_gen p h t k)
 
-pub test_above : (p : Polyhedron) (h : HasPoint p) (r : Given) → is_valid p r ≡ true → IsAbove (gen p h) r.row
+pub test_above : (p : Polyhedron) (h : HasPoint p) (r : LinearRow) → is_valid p r ≡ true → IsAbove (gen p h) r.row
 test_above p h r e = valid_above p h r ((valid_decides p h r).0 e)
 
 -- the constraints of a polyhedron that P lies in

@@ -4,25 +4,25 @@ use Rattle.std.proofs.Common.{List, [], ap, arith, inl, inr, length, neg_ℤ, ne
 use Rattle.std.proofs.lemmas.Int.{ints}
 use Rattle.std.proofs.lemmas.List.Elements.{Contains-append_left}
 use Rattle.std.specs.List.{Contains}
-use Rattle.lra_linear.specs.Cones.{Generated, Solves, both_ways}
-use Rattle.lra_linear.specs.Descriptions.{Con, Given, system_of}
-use Rattle.lra_linear.specs.LowestTerms.{IsPrimitive}
-use Rattle.lra_linear.specs.Points.{IsPoint}
-use Rattle.lra_linear.specs.Polyhedra.{HasPoint, IsPolyhedronOf, Polyhedron, positivity}
-use Rattle.lra_linear.proofs.Saturation.{Beside, IsExtreme}
-use Rattle.lra_linear.specs.Vectors.{behind_zero, dot, entry, product, sum_of, zeros}
-use Rattle.lra_linear.proofs.CanonicalForms.{on_lines, ray_extreme}
-use Rattle.lra_linear.proofs.Combinations.{generated_divided, generated_plus, generated_same, generated_times, generated_zero}
-use Rattle.lra_linear.proofs.Descriptions.{con_solves, solves_con, system_from, system_has}
-use Rattle.lra_linear.proofs.LinearMaps.{generated_right, generated_through, sum_generated}
-use Rattle.lra_linear.proofs.Lines.{entry_zeros, zeros_length}
-use Rattle.lra_linear.proofs.LowestTerms.{primitive_at, same_multiple}
-use Rattle.lra_linear.proofs.Membership.{contains_cases, contains_head, contains_none, contains_tail}
-use Rattle.lra_linear.proofs.OneSpelling.{columns_of, cone_solved, far, gone, gone_divisor, gone_product, positivity_product, rows_hold, some_member}
-use Rattle.lra_linear.proofs.Products.{blend_length, negated_dot, negated_length, product_comm, row_same}
-use Rattle.lra_linear.proofs.Ring.{mul_nonnegative, ring, v, ⊖, ◌⊕◌, ◌⊗◌}
-use Rattle.lra_linear.proofs.Signs.{add_nonnegative, cancel_same, not_both, times_positive}
-use Rattle.lra_linear.proofs.Spans.{all_zero}
+use Rattle.lra_linear_spec.specs.Cones.{Generated, Solves, both_ways}
+use Rattle.lra_linear_spec.specs.Descriptions.{Con, LinearRow, system_of}
+use Rattle.lra_linear_spec.specs.LowestTerms.{IsPrimitive}
+use Rattle.lra_linear_spec.specs.Points.{IsPoint}
+use Rattle.lra_linear_spec.specs.Polyhedra.{HasPoint, IsPolyhedronOf, Polyhedron, positivity}
+use Rattle.lra_linear_spec.proofs.Saturation.{Beside, IsExtreme}
+use Rattle.lra_linear_spec.specs.Vectors.{behind_zero, dot, entry, product, sum_of, zeros}
+use Rattle.lra_linear_spec.proofs.CanonicalForms.{on_lines, ray_extreme}
+use Rattle.lra_linear_spec.proofs.Combinations.{generated_divided, generated_plus, generated_same, generated_times, generated_zero}
+use Rattle.lra_linear_spec.proofs.Descriptions.{con_solves, solves_con, system_from, system_has}
+use Rattle.lra_linear_spec.proofs.LinearMaps.{generated_right, generated_through, sum_generated}
+use Rattle.lra_linear_spec.proofs.Lines.{entry_zeros, zeros_length}
+use Rattle.lra_linear_spec.proofs.LowestTerms.{primitive_at, same_multiple}
+use Rattle.lra_linear_spec.proofs.Membership.{contains_cases, contains_head, contains_none, contains_tail}
+use Rattle.lra_linear_spec.proofs.OneSpelling.{columns_of, cone_solved, far, gone, gone_divisor, gone_product, positivity_product, rows_hold, some_member}
+use Rattle.lra_linear_spec.proofs.Products.{blend_length, negated_dot, negated_length, product_comm, row_same}
+use Rattle.lra_linear_spec.proofs.Ring.{mul_nonnegative, ring, v, ⊖, ◌⊕◌, ◌⊗◌}
+use Rattle.lra_linear_spec.proofs.Signs.{add_nonnegative, cancel_same, not_both, times_positive}
+use Rattle.lra_linear_spec.proofs.Spans.{all_zero}
 use Rattle.lra_canon.proofs.Solutions.{description_exists}
 use Rattle.lra_widen.proofs.Dimension.{pivot_row}
 use Rattle.lra_widen.proofs.Faces.{IsAbove, above_generated, beside_back, con, equality_flat, facet_not_flat, gen, line_flat}
@@ -118,7 +118,7 @@ positivity_beside p h s k b = beside_same p h s (positivity p.dims) b k (ap suc 
 
 -- ---- the rows of a polyhedron
 -- what is valid on all its points is at least 0 on each vector that solves the rows and the positivity row
-solution_above : (r : Polyhedron) (k : HasPoint r) (rows : List Given) → IsPolyhedronOf r.dims (Con rows) r → (c : List ℤ) → Contains (con r k) c → (g : List ℤ) → length g ≡ suc r.dims →
+solution_above : (r : Polyhedron) (k : HasPoint r) (rows : List LinearRow) → IsPolyhedronOf r.dims (Con rows) r → (c : List ℤ) → Contains (con r k) c → (g : List ℤ) → length g ≡ suc r.dims →
     Solves (positivity r.dims ∷ system_of rows) (entry g) → pos 0 ≤ℤ product c g
 solution_above r k rows made c m g lg s = by_column (above_zero (entry g 0) (subst (λ z. pos 0 ≤ℤ z) (positivity_product r.dims g)
     (s (positivity r.dims) (contains_head (positivity r.dims) (system_of rows)))))
@@ -149,7 +149,7 @@ solution_above r k rows made c m g lg s = by_column (above_zero (entry g 0) (sub
         (mul_nonnegative (pos n) (product t g) (omega (arith, ints)) (solves_rows t i))))))
 
 -- each row is valid on the polyhedron
-system_above : (r : Polyhedron) (k : HasPoint r) (rows : List Given) → IsPolyhedronOf r.dims (Con rows) r → (t : List ℤ) → Contains (system_of rows) t → IsAbove (gen r k) t
+system_above : (r : Polyhedron) (k : HasPoint r) (rows : List LinearRow) → IsPolyhedronOf r.dims (Con rows) r → (t : List ℤ) → Contains (system_of rows) t → IsAbove (gen r k) t
 system_above r k rows made t i g m = elim (columns g m) [
   | inl d ↦ con_solves rows g (at g m d) t i
   | inr z ↦
@@ -171,8 +171,9 @@ system_above r k rows made t i g m = elim (columns g m) [
     at g m d = made.points.1 g (record { width = k.dual.row_widths g m; divisor = d }) (rows_hold r k g (k.dual.meets g m))
 
 -- a facet that isn't the positivity row stands beside one of the rows
-pub facet_row : (r : Polyhedron) (k : HasPoint r) (rows : List Given) → IsPolyhedronOf r.dims (Con rows) r → ((g : Given) → Contains rows g → length g.row ≡ suc r.dims) →
-    (f : List ℤ) → Contains k.facets f → f ≢ positivity r.dims → (g : Given) × Contains rows g × ((b : Beside (both_ways k.equalities) f g.row) × (0 < b.other))
+pub facet_row : (r : Polyhedron) (k : HasPoint r) (rows : List LinearRow) → IsPolyhedronOf r.dims (Con rows) r → ((g : LinearRow) → Contains rows g → length g.row ≡ suc r.dims) →
+    (f : List ℤ) → Contains k.facets f → f ≢ positivity r.dims →
+    (g : LinearRow) × Contains rows g × ((b : Beside (both_ways k.equalities) f g.row) × (0 < b.other))
 facet_row r k rows made widths f m other =
     let n = suc r.dims in
     let system = positivity r.dims ∷ system_of rows in

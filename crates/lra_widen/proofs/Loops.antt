@@ -3,7 +3,7 @@ use Rattle.std.proofs.Common.{Bool, List, [], add-one, ap, arith, cond, false, g
 use Rattle.std.proofs.lemmas.List.{append_assoc, length-append, take_all}
 use Rattle.std.proofs.lemmas.List.Elements.{filter-append}
 use Rattle.std.specs.List.{filter}
-use Rattle.lra_linear.specs.Descriptions.{Given}
+use Rattle.lra_linear_spec.specs.Descriptions.{LinearRow}
 use Rattle.lra_sys.specs.Listed.{Listed, given_by}
 use Rattle.lra_sys.proofs.FirstMembers.{front, given_more, member}
 
@@ -17,18 +17,19 @@ pub front_all : {K : Type 0} (equal : K → Bool) (rows : List (List ℤ)) (kind
 front_all equal rows kinds i n h = ap (λ l. given_by equal l (take i kinds)) (take_all i rows h) ∙ ap (given_by equal rows) (take_all i kinds (omega (arith, n, h)))
 
 -- ---- those that pass a test
-pub filter_step : (test : Given → Bool) (xs ys : List Given) (g : Given) → ys ≡ xs ++ g ∷ [] → filter test ys ≡ filter test xs ++ cond (test g) (g ∷ []) []
+pub filter_step : (test : LinearRow → Bool) (xs ys : List LinearRow) (g : LinearRow) → ys ≡ xs ++ g ∷ [] →
+    filter test ys ≡ filter test xs ++ cond (test g) (g ∷ []) []
 filter_step test xs ys g e = ap (filter test) e ∙ filter-append test xs (g ∷ [])
 
 -- a row that is put behind the others if it is wanted
-pub kept_step : (test : Given → Bool) (first list more xs ys : List Given) (g : Given) (b : Bool) → ys ≡ xs ++ g ∷ [] → b ≡ test g → list ≡ first ++ filter test xs →
+pub kept_step : (test : LinearRow → Bool) (first list more xs ys : List LinearRow) (g : LinearRow) (b : Bool) → ys ≡ xs ++ g ∷ [] → b ≡ test g → list ≡ first ++ filter test xs →
     more ≡ list ++ cond b (g ∷ []) [] →
     more ≡ first ++ filter test ys
 kept_step test first list more xs ys g b e t h m =
     m ∙ ap (λ l. l ++ cond b (g ∷ []) []) h ∙ append_assoc first (filter test xs) (cond b (g ∷ []) []) ∙
     ap (λ l. first ++ l) (ap (λ c. filter test xs ++ cond c (g ∷ []) []) t ∙ sym (filter_step test xs ys g e))
 
-pub count_step : (test : Given → Bool) (n m : ℕ) (xs ys : List Given) (g : Given) (b : Bool) → ys ≡ xs ++ g ∷ [] → b ≡ test g → n ≡ length (filter test xs) → m ≡ cond b 1 0 →
+pub count_step : (test : LinearRow → Bool) (n m : ℕ) (xs ys : List LinearRow) (g : LinearRow) (b : Bool) → ys ≡ xs ++ g ∷ [] → b ≡ test g → n ≡ length (filter test xs) → m ≡ cond b 1 0 →
     n + m ≡ length (filter test ys)
 count_step test n m xs ys g b e t h q =
     ap (λ k. n + k) (q ∙ one b) ∙ ap (λ k. k + length (cond b (g ∷ []) [])) h ∙ sym (length-append (filter test xs) (cond b (g ∷ []) [])) ∙

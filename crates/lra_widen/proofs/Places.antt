@@ -2,23 +2,23 @@
 use Rattle.std.proofs.Common.{Bool, Err, IsErr, List, Ok, Result, [], ap, arith, get_or, length, subst, suc, sym, zero, ℕ, ℤ, ◌++◌, ◌<◌, ◌∙◌, ◌∷◌, ◌≡◌}
 use Rattle.std.specs.List.{All, Contains}
 use Rattle.std.proofs.lemmas.List.Elements.{Contains-append_left, Contains-append_right}
-use Rattle.lra_linear.specs.CheckedArithmetic.{checked_product}
-use Rattle.lra_linear.specs.declared.Cause.TheVariants as cause
-use Rattle.lra_linear.specs.declared.ConKind.{ConKind}
-use Rattle.lra_linear.specs.declared.Excess as E
-use Rattle.lra_linear.specs.Descriptions.{Given}
-use Rattle.lra_linear.specs.Kinds.{is_equality, is_line}
-use Rattle.lra_linear.specs.Polyhedra.{Polyhedron}
-use Rattle.lra_linear.specs.Strain.{Loss}
-use Rattle.lra_linear.proofs.Membership.{contains_head, contains_tail}
+use Rattle.lra_linear_spec.specs.CheckedArithmetic.{checked_product}
+use Rattle.lra_linear_spec.specs.declared.Cause.TheVariants as cause
+use Rattle.lra_linear_spec.specs.declared.ConKind.{ConKind}
+use Rattle.lra_linear_spec.specs.declared.Excess as E
+use Rattle.lra_linear_spec.specs.Descriptions.{LinearRow}
+use Rattle.lra_linear_spec.specs.Kinds.{is_equality, is_line}
+use Rattle.lra_linear_spec.specs.Polyhedra.{Polyhedron}
+use Rattle.lra_linear_spec.specs.Strain.{Loss}
+use Rattle.lra_linear_spec.proofs.Membership.{contains_head, contains_tail}
 use Rattle.lra_duality.specs.declared.inclusion.Inclusion.TheVariants.{Wide}
 use Rattle.lra_sys.specs.FirstPlaces.{FirstAt}
 use Rattle.lra_duality.specs.Inclusions.{IsInclusion, Meets, MeetsAll, Passes}
 use Rattle.lra_sys.proofs.FirstMembers.{member}
 use Rattle.lra_duality.proofs.InclusionLemmas.{has_member}
 use Rattle.lra_sys.specs.Listed.{Listed, constraints, generators, given_by}
-use Rattle.lra_linear.specs.declared.GenKind.{GenKind}
-use Rattle.lra_linear.specs.declared.GenKind.TheVariants.{Point}
+use Rattle.lra_linear_spec.specs.declared.GenKind.{GenKind}
+use Rattle.lra_linear_spec.specs.declared.GenKind.TheVariants.{Point}
 use Rattle.lra_widen.specs.Validity.{IsValidity}
 use Rattle.lra_widen.specs.Widenings.{PassesOnBoth}
 use Rattle.lra_widen.specs.declared.validity.Validity.TheVariants as told
@@ -30,9 +30,9 @@ row_at equal [] kinds i r k n h e = absurd (omega (arith, h))
 row_at equal (x ∷ rows) [] i r k n h e = absurd (omega (arith, n))
 row_at equal (x ∷ rows) (kind ∷ kinds) zero r k n h e =
     subst (λ (y : List ℤ). Contains (given_by equal (x ∷ rows) (kind ∷ kinds)) (record { row = y; equal = equal kind })) (sym e)
-    (contains_head (let g : Given = record { row = x; equal = equal kind } in g) (given_by equal rows kinds))
+    (contains_head (let g : LinearRow = record { row = x; equal = equal kind } in g) (given_by equal rows kinds))
 row_at equal (x ∷ rows) (kind ∷ kinds) (suc i) r k n h e =
-    contains_tail (let g : Given = record { row = x; equal = equal kind } in g) (member equal kinds i r k) (given_by equal rows kinds)
+    contains_tail (let g : LinearRow = record { row = x; equal = equal kind } in g) (member equal kinds i r k) (given_by equal rows kinds)
     (row_at equal rows kinds i r k (omega (arith, n)) (omega (arith, h)) e)
 
 pub row_among : {K : Type 0} (equal : K → Bool) (all : Listed K) (rows : List (List ℤ)) (kinds : List K) (i : ℕ) (r : List ℤ) (k : K) → rows ≡ all.rows → kinds ≡ all.kinds →
@@ -46,14 +46,15 @@ pub width_at : (n : ℕ) (rows : List (List ℤ)) (i : ℕ) (r : List ℤ) → A
 width_at n rows i r h l e = ap length e ∙ h i r l
 
 -- ---- the member at the end of a beginning
-given_at : {K : Type 0} (equal : K → Bool) (rows : List (List ℤ)) (kinds : List K) (e : List Given) (m : Given) (l : List Given) → given_by equal rows kinds ≡ e ++ m ∷ l → length kinds ≡ length rows →
+given_at : {K : Type 0} (equal : K → Bool) (rows : List (List ℤ)) (kinds : List K) (e : List LinearRow) (m : LinearRow) (l : List LinearRow) → given_by equal rows kinds ≡ e ++ m ∷ l →
+    length kinds ≡ length rows →
     (length e < length rows) × ((r : List ℤ) (k : K) → r ≡ get_or rows (length e) r → m ≡ record { row = r; equal = equal (get_or kinds (length e) k) })
 given_at equal [] kinds [] m l h n = cc
 given_at equal [] kinds (y ∷ e) m l h n = cc
 given_at equal (x ∷ rows) [] e m l h n = absurd (omega (arith, n))
 given_at equal (x ∷ rows) (kind ∷ kinds) [] m l h n = (
   omega arith,
-  λ r k q. let first : m ≡ record { row = x; equal = equal kind } = cc in first ∙ ap (λ (y : List ℤ). (let g : Given = record { row = y; equal = equal kind } in g)) (sym q),
+  λ r k q. let first : m ≡ record { row = x; equal = equal kind } = cc in first ∙ ap (λ (y : List ℤ). (let g : LinearRow = record { row = y; equal = equal kind } in g)) (sym q),
 )
 given_at equal (x ∷ rows) (kind ∷ kinds) (y ∷ e) m l h n =
     let tail : given_by equal rows kinds ≡ e ++ m ∷ l = cc in
@@ -65,7 +66,7 @@ pub record WidePair (p q : Polyhedron) (rows columns : List (List ℤ)) (kinds :
   pub row_below : row < length rows
   pub column_below : generator < length columns
   pub here : (r g : List ℤ) (k : ConKind) → r ≡ get_or rows row r → g ≡ get_or columns generator g →
-      Contains q.rows (record { row = r; equal = is_equality (get_or kinds row k) }) × ((x : Given) × Contains p.generators x × (x.row ≡ g)) × IsErr (checked_product r g)
+      Contains q.rows (record { row = r; equal = is_equality (get_or kinds row k) }) × ((x : LinearRow) × Contains p.generators x × (x.row ≡ g)) × IsErr (checked_product r g)
 
 pub wide_pair : (p q : Polyhedron) (list : Listed ConKind) (by : Listed GenKind) (rows columns : List (List ℤ)) (kinds : List ConKind) (others : List GenKind) (generator row : ℕ) →
     constraints list ≡ q.rows →
@@ -86,18 +87,18 @@ wide_pair p q list by rows columns kinds others generator row el eb er ek n ec e
           let g_is : w.member.row ≡ g = column g a.1 i in (
             subst (Contains q.rows) r_is (has_member (Meets w.member) (Passes w.member) q.rows row w.here),
             (w.member, has_member (MeetsAll q.rows) (λ x. FirstAt (Meets x) (Passes x) q.rows row) p.generators generator w, g_is),
-            subst (λ (y : List ℤ). IsErr (checked_product r y)) g_is (subst (λ (y : Given). IsErr (checked_product y.row w.member.row)) r_is w.here.here),
+            subst (λ (y : List ℤ). IsErr (checked_product r y)) g_is (subst (λ (y : LinearRow). IsErr (checked_product y.row w.member.row)) r_is w.here.here),
           );
     }
   where
     column : (g : List ℤ) → ((r : List ℤ) (k : GenKind) → r ≡ get_or columns (length w.earlier) r → w.member ≡ record { row = r; equal = is_line (get_or others (length w.earlier) k) }) →
         g ≡ get_or columns generator g → w.member.row ≡ g
-    column g f i = ap (λ (y : Given). y.row) (f g Point (i ∙ ap (λ (j : ℕ). get_or columns j g) (sym w.at)))
+    column g f i = ap (λ (y : LinearRow). y.row) (f g Point (i ∙ ap (λ (j : ℕ). get_or columns j g) (sym w.at)))
 
 -- the loss of that pair
 pub pair_passes : (p q : Polyhedron) (rows columns : List (List ℤ)) (kinds : List ConKind) (generator row : ℕ) (r g : List ℤ) (k : ConKind) (e : E.Excess) (loss : Loss) →
     WidePair p q rows columns kinds generator row → r ≡ get_or rows row r → g ≡ get_or columns generator g → Err e ≡ checked_product r g →
-    loss ≡ record { chosen = []; further = record { row = r; equal = is_equality (get_or kinds row k) }; cause = cause.Excess e } → (given : List Given) → PassesOnBoth p q given loss
+    loss ≡ record { chosen = []; further = record { row = r; equal = is_equality (get_or kinds row k) }; cause = cause.Excess e } → (given : List LinearRow) → PassesOnBoth p q given loss
 pair_passes p q rows columns kinds generator row r g k e loss w er eg passes is given =
     let h = w.here r g k er eg in
     record {
@@ -119,7 +120,7 @@ never_ok (Ok y) x e h = cc
 never_ok (Err y) x e h = cc
 
 -- the loss of a given row
-pub given_passes : (p q : Polyhedron) (given : List Given) (r : Given) (e : E.Excess) (loss : Loss) → Contains given r → IsValidity (p.generators ++ q.generators) r (told.Wide e) →
+pub given_passes : (p q : Polyhedron) (given : List LinearRow) (r : LinearRow) (e : E.Excess) (loss : Loss) → Contains given r → IsValidity (p.generators ++ q.generators) r (told.Wide e) →
     loss ≡ record { chosen = []; further = r; cause = cause.Excess e } → PassesOnBoth p q given loss
 given_passes p q given r e loss has w is = record {
   excess = e;

@@ -5,25 +5,25 @@ use Rattle.std.proofs.lemmas.Bool.{cases_lt, or_cases}
 use Rattle.std.proofs.lemmas.Int.{ints}
 use Rattle.std.proofs.lemmas.List.Elements.{Contains-append_cases, Contains-append_left, Contains-append_right}
 use Rattle.std.specs.List.{Contains, filter, list_all, list_any}
-use Rattle.lra_linear.specs.Cones.{Generated, both_ways}
-use Rattle.lra_linear.specs.Descriptions.{Con, Given, Holds, HoldsWith, given_as, system_of}
-use Rattle.lra_linear.specs.Echelon.{Spanned}
-use Rattle.lra_linear.specs.Points.{IsPoint, IsWithin}
-use Rattle.lra_linear.specs.Polyhedra.{HasPoint, IsPolyhedron, IsWithoutPoint, Polyhedron, falsity}
-use Rattle.lra_linear.proofs.Saturation.{Beside}
-use Rattle.lra_linear.specs.Vectors.{dot, entry, negated, product}
-use Rattle.lra_linear.specs.Widening.{is_tight, is_tight_as, saturates}
-use Rattle.lra_linear.proofs.CanonicalForms.{ray_extreme, spanned_in_cone}
-use Rattle.lra_linear.proofs.Descriptions.{holds_at_least}
-use Rattle.lra_linear.proofs.Lines.{in_lines, in_lines_negated}
-use Rattle.lra_linear.proofs.Membership.{contains_head, contains_none, filter_from, filter_has}
-use Rattle.lra_linear.proofs.OneSpelling.{cone_solved, falsity_never, given_from, rows_hold, same_points_same_lists, some_member}
-use Rattle.lra_linear.proofs.Products.{negated_dot, product_comm}
-use Rattle.lra_linear.proofs.Signs.{between_opposites, divide_nonnegative}
-use Rattle.lra_linear.proofs.Ring.{mul_nonnegative}
-use Rattle.lra_linear.proofs.SetOperations.{has_vertex}
-use Rattle.lra_linear.proofs.Spans.{spanned_row}
-use Rattle.lra_linear.proofs.Widening.{valid_decides}
+use Rattle.lra_linear_spec.specs.Cones.{Generated, both_ways}
+use Rattle.lra_linear_spec.specs.Descriptions.{Con, LinearRow, Holds, HoldsWith, rows_as, system_of}
+use Rattle.lra_linear_spec.specs.Echelon.{Spanned}
+use Rattle.lra_linear_spec.specs.Points.{IsPoint, IsWithin}
+use Rattle.lra_linear_spec.specs.Polyhedra.{HasPoint, IsPolyhedron, IsWithoutPoint, Polyhedron, falsity}
+use Rattle.lra_linear_spec.proofs.Saturation.{Beside}
+use Rattle.lra_linear_spec.specs.Vectors.{dot, entry, negated, product}
+use Rattle.lra_linear_spec.specs.Widening.{is_tight, is_tight_as, saturates}
+use Rattle.lra_linear_spec.proofs.CanonicalForms.{ray_extreme, spanned_in_cone}
+use Rattle.lra_linear_spec.proofs.Descriptions.{holds_at_least}
+use Rattle.lra_linear_spec.proofs.Lines.{in_lines, in_lines_negated}
+use Rattle.lra_linear_spec.proofs.Membership.{contains_head, contains_none, filter_from, filter_has}
+use Rattle.lra_linear_spec.proofs.OneSpelling.{cone_solved, falsity_never, given_from, rows_hold, same_points_same_lists, some_member}
+use Rattle.lra_linear_spec.proofs.Products.{negated_dot, product_comm}
+use Rattle.lra_linear_spec.proofs.Signs.{between_opposites, divide_nonnegative}
+use Rattle.lra_linear_spec.proofs.Ring.{mul_nonnegative}
+use Rattle.lra_linear_spec.proofs.SetOperations.{has_vertex}
+use Rattle.lra_linear_spec.proofs.Spans.{spanned_row}
+use Rattle.lra_linear_spec.proofs.Widening.{valid_decides}
 use Rattle.lra_widen.specs.Rank.{Falls, equalities_from, free, held, holds_in_range, kept}
 use Rattle.lra_widen.specs.Widenings.{KeepsRows}
 use Rattle.lra_widen.proofs.Counting.{IsFree, any_from, any_said, equalities_many, free_apart, free_has, free_said, holds_valid, kept_all, kept_at, kept_fewer, kept_held}
@@ -61,12 +61,12 @@ apart_below p r h k s f m flat =
     (spanned_in_cone k.equalities [] (entry f) (s.spans (entry f) (flat_spanned p h f (k.dual.system_widths f (in_con r k f m) ∙ ap suc s.dims) flat)))
 
 -- the facet f of R comes from the facet s of P: f is a multiple of s, that isn't 0, up to the equalities
-abbrev ComesFrom : (p : Polyhedron) → HasPoint p → Given → Given → Type 0
+abbrev ComesFrom : (p : Polyhedron) → HasPoint p → LinearRow → LinearRow → Type 0
 ComesFrom p h f s = (b : Beside (both_ways h.equalities) s.row f.row) × (0 < b.other)
 
 -- ---- rows that saturate the same of P as a facet of it
 -- what stands beside a facet
-beside_facet : (p : Polyhedron) (h : HasPoint p) (s g : Given) → Contains h.facets s.row → length g.row ≡ suc p.dims → holds_in_range p g ≡ true → is_tight_as p.generators s g ≡ true →
+beside_facet : (p : Polyhedron) (h : HasPoint p) (s g : LinearRow) → Contains h.facets s.row → length g.row ≡ suc p.dims → holds_in_range p g ≡ true → is_tight_as p.generators s g ≡ true →
     ComesFrom p h g s
 beside_facet p h s g m l holds same =
     let b = same_face p h s.row g.row m l (test_above p h g (holds_valid p g holds)) (tight_as_said p h s g same) in
@@ -74,19 +74,19 @@ beside_facet p h s g m l holds same =
 
 -- ---- the facet of P that a facet of R comes from
 -- the rows that both have
-record Setting (p r : Polyhedron) (given : List Given) : Type 0 where
+record Setting (p r : Polyhedron) (given : List LinearRow) : Type 0 where
   h : HasPoint p
   k : HasPoint r
   hull : SameHull p r h k
   all_kept : kept p r given ≡ held p given
-  given_widths : (g : Given) → Contains given g → length g.row ≡ suc p.dims
+  given_widths : (g : LinearRow) → Contains given g → length g.row ≡ suc p.dims
   keeps : KeepsRows p r given
 
-held_given : (p : Polyhedron) (given : List Given) (g : Given) → Contains (held p given) g → Contains given g × (holds_in_range p g ≡ true)
+held_given : (p : Polyhedron) (given : List LinearRow) (g : LinearRow) → Contains (held p given) g → Contains given g × (holds_in_range p g ≡ true)
 held_given p given g m = filter_from (holds_in_range p) given g m
 
 -- a facet of P from which f comes isn't that of a given row, since f would be it too
-source_free : (p r : Polyhedron) (given : List Given) (c : Setting p r given) (f s : Given) → IsFree r c.k (kept p r given) f → ComesFrom p c.h f s → Contains c.h.facets s.row →
+source_free : (p r : Polyhedron) (given : List LinearRow) (c : Setting p r given) (f s : LinearRow) → IsFree r c.k (kept p r given) f → ComesFrom p c.h f s → Contains c.h.facets s.row →
     list_any (is_tight_as p.generators s) (held p given) ≡ false
 source_free p r given c f s free from m = by_value (list_any (is_tight_as p.generators s) (held p given)) refl
   where
@@ -111,20 +111,20 @@ kind_of : (b : Bool) → (b ≡ true) ⊎ (b ≡ false)
 kind_of true = inl refl
 kind_of false = inr refl
 
-equality_row : (p : Polyhedron) (h : HasPoint p) (s : Given) → Contains p.rows s → s.equal ≡ true → Contains h.equalities s.row
-equality_row p h s m e = elim (Contains-append_cases (given_as true h.equalities) (given_as false h.inequalities) s (subst (λ l. Contains l s) h.rows_are m)) [
+equality_row : (p : Polyhedron) (h : HasPoint p) (s : LinearRow) → Contains p.rows s → s.equal ≡ true → Contains h.equalities s.row
+equality_row p h s m e = elim (Contains-append_cases (rows_as true h.equalities) (rows_as false h.inequalities) s (subst (λ l. Contains l s) h.rows_are m)) [
   | inl i ↦ (given_from true h.equalities s i).1
   | inr i ↦ let f = (given_from false h.inequalities s i).0 in absurd (cc)
 ]
 
-facet_of_row : (p : Polyhedron) (h : HasPoint p) (s : Given) → Contains p.rows s → s.equal ≡ false → Contains h.facets s.row
-facet_of_row p h s m e = elim (Contains-append_cases (given_as true h.equalities) (given_as false h.inequalities) s (subst (λ l. Contains l s) h.rows_are m)) [
+facet_of_row : (p : Polyhedron) (h : HasPoint p) (s : LinearRow) → Contains p.rows s → s.equal ≡ false → Contains h.facets s.row
+facet_of_row p h s m e = elim (Contains-append_cases (rows_as true h.equalities) (rows_as false h.inequalities) s (subst (λ l. Contains l s) h.rows_are m)) [
   | inl i ↦ let f = (given_from true h.equalities s i).0 in absurd (cc)
   | inr i ↦ (h.shown s.row (given_from false h.inequalities s i).1).0
 ]
 
-source : (p r : Polyhedron) (given : List Given) (c : Setting p r given) (f : Given) → Contains (free r (kept p r given)) f →
-    (s : Given) × Contains (free p (held p given)) s × ComesFrom p c.h f s
+source : (p r : Polyhedron) (given : List LinearRow) (c : Setting p r given) (f : LinearRow) → Contains (free r (kept p r given)) f →
+    (s : LinearRow) × Contains (free p (held p given)) s × ComesFrom p c.h f s
 source p r given c f m =
     let free = free_said r c.k (kept p r given) f m in
     let shown = c.k.shown f.row free.is_inequality in
@@ -134,9 +134,9 @@ source p r given c f m =
     lines : List (List ℤ)
     lines = both_ways c.k.equalities
 
-    from_facet : IsFree r c.k (kept p r given) f → Contains c.k.facets f.row → (s : Given) → Contains p.rows s →
+    from_facet : IsFree r c.k (kept p r given) f → Contains c.k.facets f.row → (s : LinearRow) → Contains p.rows s →
         ((t : List ℤ) → Contains (gen p c.h) t → product s.row t ≡ pos 0 → product f.row t ≡ pos 0) →
-        (s : Given) × Contains (free p (held p given)) s × ComesFrom p c.h f s
+        (s : LinearRow) × Contains (free p (held p given)) s × ComesFrom p c.h f s
     from_facet free shown s i zeros = elim (kind_of s.equal) [
       | inl e ↦ absurd (apart_below p r c.h c.k c.hull f.row shown (λ t j. zeros t j (equality_flat p c.h s.row (equality_row p c.h s i e) t j)))
       | inr e ↦
@@ -147,8 +147,8 @@ source p r given c f m =
           (s, free_has p (held p given) s i e (source_free p r given c f s free from facet), from)
     ]
 
-    by_row : IsFree r c.k (kept p r given) f → Contains c.k.facets f.row → (g : Given) (b : Beside lines f.row g.row) → 0 < b.other →
-        (is_tight p g ≡ true) ⊎ (Contains given g × (holds_in_range p g ≡ true)) → (s : Given) × Contains (free p (held p given)) s × ComesFrom p c.h f s
+    by_row : IsFree r c.k (kept p r given) f → Contains c.k.facets f.row → (g : LinearRow) (b : Beside lines f.row g.row) → 0 < b.other →
+        (is_tight p g ≡ true) ⊎ (Contains given g × (holds_in_range p g ≡ true)) → (s : LinearRow) × Contains (free p (held p given)) s × ComesFrom p c.h f s
     by_row free shown g b above (inr i) =
         let there : Contains (kept p r given) g = subst (λ l. Contains l g) (sym c.all_kept) (filter_has (holds_in_range p) given g i.0 i.1) in
         let same : is_tight_as r.generators f g ≡ true = tight_as_from r c.k f g (λ t j. beside_zero lines f.row g.row b t (line_flat r c.k b.line b.on_line t j))
@@ -166,11 +166,11 @@ source p r given c f m =
     ]
 
 -- ---- no two come from the same
-same_given : (f g : Given) → f.row ≡ g.row → f.equal ≡ g.equal → f ≡ g
+same_given : (f g : LinearRow) → f.row ≡ g.row → f.equal ≡ g.equal → f ≡ g
 same_given f g e d =
-    ap (λ (r : List ℤ). (let x : Given = record { row = r; equal = f.equal } in x)) e ∙ ap (λ (b : Bool). (let x : Given = record { row = g.row; equal = b } in x)) d
+    ap (λ (r : List ℤ). (let x : LinearRow = record { row = r; equal = f.equal } in x)) e ∙ ap (λ (b : Bool). (let x : LinearRow = record { row = g.row; equal = b } in x)) d
 
-sources_apart : (p r : Polyhedron) (given : List Given) (c : Setting p r given) (f g s : Given) → Contains (free r (kept p r given)) f → Contains (free r (kept p r given)) g →
+sources_apart : (p r : Polyhedron) (given : List LinearRow) (c : Setting p r given) (f g s : LinearRow) → Contains (free r (kept p r given)) f → Contains (free r (kept p r given)) g →
     ComesFrom p c.h f s → ComesFrom p c.h g s → f ≡ g
 sources_apart p r given c f g s m n a b =
     let ff = free_said r c.k (kept p r given) f m in
@@ -190,8 +190,8 @@ sources_apart p r given c f g s m n a b =
 scaled_above : (m n : ℕ) (y z : ℤ) → 0 < n → pos m *ℤ y ≡ pos n *ℤ z → pos 0 ≤ℤ y → pos 0 ≤ℤ z
 scaled_above m n y z h e a = divide_nonnegative n z h (subst (λ x. pos 0 ≤ℤ x) e (mul_nonnegative (pos m) y (omega (arith, ints)) a))
 
-reached_within : (p r : Polyhedron) (given : List Given) (c : Setting p r given) →
-    ((s : Given) → Contains (free p (held p given)) s → (f : Given) × Contains (free r (kept p r given)) f × ComesFrom p c.h f s) → IsWithin p.dims (Con r.rows) (Con p.rows)
+reached_within : (p r : Polyhedron) (given : List LinearRow) (c : Setting p r given) →
+    ((s : LinearRow) → Contains (free p (held p given)) s → (f : LinearRow) × Contains (free r (kept p r given)) f × ComesFrom p c.h f s) → IsWithin p.dims (Con r.rows) (Con p.rows)
 reached_within p r given c reached x is_point holds s m = by_kind (kind_of s.equal)
   where
     is_point_there : IsPoint r.dims x
@@ -205,7 +205,7 @@ reached_within p r given c reached x is_point holds s m = by_kind (kind_of s.equ
     zero_here : (e : List ℤ) → Contains c.h.equalities e → product x e ≡ pos 0
     zero_here = equalities_there p r c.h c.k c.hull x zero_there
 
-    by_source : (f : Given) → ComesFrom p c.h f s → pos 0 ≤ℤ product f.row x → pos 0 ≤ℤ product s.row x
+    by_source : (f : LinearRow) → ComesFrom p c.h f s → pos 0 ≤ℤ product f.row x → pos 0 ≤ℤ product s.row x
     by_source f b a = subst (λ z. pos 0 ≤ℤ z) (product_comm x s.row) (scaled_above b.0.times b.0.other (product x f.row) (product x s.row) b.1
         (beside_product (both_ways c.h.equalities) s.row f.row b.0 x (lines_dot x c.h.equalities zero_here b.0.line b.0.on_line)) (subst (λ z. pos 0 ≤ℤ z) (product_comm f.row x) a))
 
@@ -226,7 +226,7 @@ reached_within p r given c reached x is_point holds s m = by_kind (kind_of s.equ
     by_kind (inr e) = subst (λ b. HoldsWith b (product s.row x)) (sym e) (above e (list_any (is_tight_as p.generators s) (held p given)) refl)
 
 -- ---- fewer free rows
-fewer_free : (p r : Polyhedron) (given : List Given) (c : Setting p r given) → r ≢ p → length (free r (kept p r given)) < length (free p (held p given))
+fewer_free : (p r : Polyhedron) (given : List LinearRow) (c : Setting p r given) → r ≢ p → length (free r (kept p r given)) < length (free p (held p given))
 fewer_free p r given c other =
     let m : Matched (ComesFrom p c.h) (free r (kept p r given)) (free p (held p given)) = record {
       each = source p r given c;
@@ -239,7 +239,8 @@ fewer_free p r given c other =
     ]
 
 -- ---- the numbers of the rank
-some_generators : (p : Polyhedron) → HasPoint p → (l : List Given) → p.generators ≡ l → equalities_from l p ≡ length (filter (λ (g : Given). g.equal) p.rows)
+some_generators : (p : Polyhedron) → HasPoint p → (l : List LinearRow) → p.generators ≡ l →
+    equalities_from l p ≡ length (filter (λ (g : LinearRow). g.equal) p.rows)
 some_generators p h [] e = absurd (contains_none (has_vertex p h).vertex (subst (λ l. Contains (system_of l) (has_vertex p h).vertex) e (has_vertex p h).has))
 some_generators p h (g ∷ l) e = refl
 
@@ -250,8 +251,8 @@ equalities_without : (p : Polyhedron) → p.generators ≡ [] → equalities_fro
 equalities_without p e = ap (λ l. equalities_from l p) e
 
 -- with a point in P
-falls_with_point : (p r : Polyhedron) (h : HasPoint p) (k : HasPoint r) (given : List Given) → r.dims ≡ p.dims → IsWithin p.dims (Con p.rows) (Con r.rows) → r ≢ p →
-    ((g : Given) → Contains given g → length g.row ≡ suc p.dims) → KeepsRows p r given → Falls p r given
+falls_with_point : (p r : Polyhedron) (h : HasPoint p) (k : HasPoint r) (given : List LinearRow) → r.dims ≡ p.dims → IsWithin p.dims (Con p.rows) (Con r.rows) → r ≢ p →
+    ((g : LinearRow) → Contains given g → length g.row ≡ suc p.dims) → KeepsRows p r given → Falls p r given
 falls_with_point p r h k given d w other widths keeps =
     let s = smaller_span k.equalities h.equalities k.constraints_canonical.pivots h.constraints_canonical.pivots k.constraints_canonical.echelon h.constraints_canonical.echelon
     (within_spans p r h k d w) in
@@ -294,18 +295,18 @@ vertex_inside p h =
 pub not_inside : (p r : Polyhedron) → HasPoint p → IsWithoutPoint r → r.dims ≡ p.dims → ¬ (IsWithin p.dims (Con p.rows) (Con r.rows))
 not_inside p r h none d w =
     let x = vertex_inside p h in
-    let row : Given = record { row = falsity r.dims; equal = false } in
+    let row : LinearRow = record { row = falsity r.dims; equal = false } in
     falsity_never r.dims x.0 (subst (λ (n : ℕ). IsPoint n x.0) (sym d) x.1) (w x.0 x.1 x.2 row (subst (λ l. Contains l row) (sym none.0) (contains_head row [])))
 
 both_without : (p r : Polyhedron) → IsWithoutPoint p → IsWithoutPoint r → r.dims ≡ p.dims → p ≡ r
 both_without p r h k d =
-    let rows : p.rows ≡ r.rows = h.0 ∙ ap (λ n. (let g : Given = record { row = falsity n; equal = false } in g) ∷ []) (sym d) ∙ sym k.0 in
+    let rows : p.rows ≡ r.rows = h.0 ∙ ap (λ n. (let g : LinearRow = record { row = falsity n; equal = false } in g) ∷ []) (sym d) ∙ sym k.0 in
     same_points_same_lists p r (inl h) (inl k) d (λ x i c. subst (λ l. Con l x) rows c, λ x i c. subst (λ l. Con l x) (sym rows) c)
 
 -- ---- the law
 -- P lies in R, which is another polyhedron; where P has a point, R is that of tight and given rows
-pub rank_falls : (p r : Polyhedron) (given : List Given) → IsPolyhedron p → IsPolyhedron r → r.dims ≡ p.dims → IsWithin p.dims (Con p.rows) (Con r.rows) → r ≢ p →
-    ((g : Given) → Contains given g → length g.row ≡ suc p.dims) → (HasPoint p → KeepsRows p r given) → Falls p r given
+pub rank_falls : (p r : Polyhedron) (given : List LinearRow) → IsPolyhedron p → IsPolyhedron r → r.dims ≡ p.dims → IsWithin p.dims (Con p.rows) (Con r.rows) → r ≢ p →
+    ((g : LinearRow) → Contains given g → length g.row ≡ suc p.dims) → (HasPoint p → KeepsRows p r given) → Falls p r given
 rank_falls p r given (inl h) (inl k) d w other widths keeps = absurd (other (sym (both_without p r h k d)))
 rank_falls p r given (inl h) (inr k) d w other widths keeps =
     let few = few_rows r.dims k.equalities k.constraints_canonical.pivots

@@ -1,9 +1,9 @@
 -- What a widening keeps where it is flagged.
 use Rattle.std.proofs.Common.{◌≡◌, ◌++◌, ℕ, List, [], inr, subst}
-use Rattle.lra_linear.specs.Descriptions.{Given}
-use Rattle.lra_linear.specs.OperationStrain.{tight_on, with_positivity}
-use Rattle.lra_linear.specs.Polyhedra.{Polyhedron}
-use Rattle.lra_linear.specs.declared.ConKind.{ConKind}
+use Rattle.lra_linear_spec.specs.Descriptions.{LinearRow}
+use Rattle.lra_linear_spec.specs.OperationStrain.{tight_on, with_positivity}
+use Rattle.lra_linear_spec.specs.Polyhedra.{Polyhedron}
+use Rattle.lra_linear_spec.specs.declared.ConKind.{ConKind}
 use Rattle.lra_sys.specs.Listed.{Listed, constraints}
 use Rattle.lra_poly.specs.declared.outcome.Outcome.{Outcome}
 use Rattle.lra_poly.specs.declared.outcome.Outcome.TheVariants.{Exact, Flagged}
@@ -11,14 +11,14 @@ use Rattle.lra_poly.specs.Narrowed.{IsTried}
 use Rattle.lra_widen.specs.Rank.{kept}
 use Rattle.lra_widen.specs.StayingRows.{IsOfStaying, StaysOrIsGivenUp}
 
-pub of_staying : (p q r : Polyhedron) (given : List Given) (list : Listed ConKind) (o : Outcome) → list.dims ≡ p.dims → constraints list ≡ tight_on p q ++ kept p q given →
+pub of_staying : (p q r : Polyhedron) (given : List LinearRow) (list : Listed ConKind) (o : Outcome) → list.dims ≡ p.dims → constraints list ≡ tight_on p q ++ kept p q given →
     IsTried list.dims (with_positivity list.dims []) (constraints list) r o → IsOfStaying p q given r
 of_staying p q r given list o ed er tried = record {
   outcome = o;
-  tried = subst (λ (l : List Given). IsTried p.dims (with_positivity p.dims []) l r o) er
+  tried = subst (λ (l : List LinearRow). IsTried p.dims (with_positivity p.dims []) l r o) er
       (subst (λ (n : ℕ). IsTried n (with_positivity n []) (constraints list) r o) ed tried);
 }
 
-pub staying : (p q r : Polyhedron) (given : List Given) (o : Outcome) → IsOfStaying p q given r → StaysOrIsGivenUp p q given r o
+pub staying : (p q r : Polyhedron) (given : List LinearRow) (o : Outcome) → IsOfStaying p q given r → StaysOrIsGivenUp p q given r o
 staying p q r given Exact h = tt
 staying p q r given (Flagged loss) h = inr h

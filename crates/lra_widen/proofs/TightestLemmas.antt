@@ -7,19 +7,19 @@ use Rattle.std.specs.List.{Contains, filter, list_any}
 use Rattle.std.specs.Ordering.{int_eq}
 use Rattle.std.proofs.lemmas.Bool.{and_parts}
 use Rattle.std.proofs.lemmas.Int.{ints}
-use Rattle.lra_linear.specs.Descriptions.{Con, Given, Holds, HoldsWith}
-use Rattle.lra_linear.specs.Kinds.{is_equality}
-use Rattle.lra_linear.specs.Points.{IsPoint, IsWithin, SameSet}
-use Rattle.lra_linear.specs.declared.ConKind.{ConKind}
-use Rattle.lra_linear.specs.declared.ConKind.TheVariants.{Ge, Eq}
+use Rattle.lra_linear_spec.specs.Descriptions.{Con, LinearRow, Holds, HoldsWith}
+use Rattle.lra_linear_spec.specs.Kinds.{is_equality}
+use Rattle.lra_linear_spec.specs.Points.{IsPoint, IsWithin, SameSet}
+use Rattle.lra_linear_spec.specs.declared.ConKind.{ConKind}
+use Rattle.lra_linear_spec.specs.declared.ConKind.TheVariants.{Ge, Eq}
 use Rattle.lra_sys.specs.Listed.{Listed, constraints, given_by}
-use Rattle.lra_linear.specs.Vectors.{dot, entry, product}
-use Rattle.lra_linear.proofs.Membership.{contains_cases, contains_none, filter_from, filter_has}
-use Rattle.lra_linear.proofs.Ring.{mul_nonnegative, ring, v, ◌⊕◌, ◌⊗◌}
-use Rattle.lra_linear.specs.OperationStrain.{LimitedStrains, valid_on}
-use Rattle.lra_linear.specs.Polyhedra.{HasPoint, IsPolyhedron, Polyhedron}
-use Rattle.lra_linear.specs.Widening.{Limited, is_valid}
-use Rattle.lra_linear.proofs.Widening.{valid_decides}
+use Rattle.lra_linear_spec.specs.Vectors.{dot, entry, product}
+use Rattle.lra_linear_spec.proofs.Membership.{contains_cases, contains_none, filter_from, filter_has}
+use Rattle.lra_linear_spec.proofs.Ring.{mul_nonnegative, ring, v, ◌⊕◌, ◌⊗◌}
+use Rattle.lra_linear_spec.specs.OperationStrain.{LimitedStrains, valid_on}
+use Rattle.lra_linear_spec.specs.Polyhedra.{HasPoint, IsPolyhedron, Polyhedron}
+use Rattle.lra_linear_spec.specs.Widening.{LimitedWidening, is_valid}
+use Rattle.lra_linear_spec.proofs.Widening.{valid_decides}
 use Rattle.lra_poly.specs.declared.outcome.Outcome.{Outcome}
 use Rattle.lra_poly.specs.declared.outcome.Outcome.TheVariants.{Exact, Flagged}
 use Rattle.lra_poly.specs.Outcomes.{Becomes, IfExact, IfFlagged}
@@ -94,7 +94,7 @@ lower_holds n xs ys x point l h =
     subst (λ (zs : List ℤ). pos 0 ≤ℤ product zs x) (sym l.second) (with_room l.high l.low (entry x 0) rest room here)
 
 -- ---- tighter rows
-tighter_parts : (s r : Given) → is_tighter s r ≡ true → (r.equal ≡ false) × (is_lower s.row r.row ≡ true)
+tighter_parts : (s r : LinearRow) → is_tighter s r ≡ true → (r.equal ≡ false) × (is_lower s.row r.row ≡ true)
 tighter_parts s r h =
     let b = and_parts (not r.equal) (is_lower s.row r.row) h in (turned r.equal b.0, b.1)
   where
@@ -122,7 +122,7 @@ lower_through xs ys zs a b =
     tail_same : {x y : ℤ} {xs ys : List ℤ} → x ∷ xs ≡ y ∷ ys → xs ≡ ys
     tail_same e = cc
 
-tighter_through : (t s r : Given) → is_tighter t s ≡ true → is_tighter s r ≡ true → is_tighter t r ≡ true
+tighter_through : (t s r : LinearRow) → is_tighter t s ≡ true → is_tighter s r ≡ true → is_tighter t r ≡ true
 tighter_through t s r a b =
     let (unequal, low) = tighter_parts s r b in
     let (other, lower) = tighter_parts t s a in
@@ -133,7 +133,7 @@ heads : {x y : ℤ} {xs ys : List ℤ} → x ∷ xs ≡ y ∷ ys → x ≡ y
 heads e = cc
 
 -- no row is tighter than itself
-never_itself : (r : Given) → is_tighter r r ≡ false
+never_itself : (r : LinearRow) → is_tighter r r ≡ false
 never_itself r = by_value (is_tighter r r) refl
   where
     by_value : (b : Bool) → is_tighter r r ≡ b → is_tighter r r ≡ false
@@ -145,7 +145,7 @@ never_itself r = by_value (is_tighter r r) refl
         absurd wrong
 
 -- where the tighter row holds at a point, the other one does
-tighter_holds : (n : ℕ) (s r : Given) (x : List ℤ) → IsPoint n x → is_tighter s r ≡ true → Holds s x → Holds r x
+tighter_holds : (n : ℕ) (s r : LinearRow) (x : List ℤ) → IsPoint n x → is_tighter s r ≡ true → Holds s x → Holds r x
 tighter_holds n s r x point h holds =
     let (unequal, low) = tighter_parts s r h in
     let least : pos 0 ≤ℤ product s.row x = at_least s.equal (product s.row x) holds in
@@ -190,10 +190,10 @@ not_so : (b : Bool) → b ≡ false → not b ≡ true
 not_so false e = refl
 not_so true e = cc
 
-module _ (n : ℕ) (rows : List Given) (x : List ℤ) (point : IsPoint n x) (all : Con (tightest rows) x) where
+module _ (n : ℕ) (rows : List LinearRow) (x : List ℤ) (point : IsPoint n x) (all : Con (tightest rows) x) where
   -- a row that is loose holds where each tighter one does
-  by_tighter : (r : Given) → Contains rows r
-      → ((s : Given) → Contains rows s → length (filter (λ t. is_tighter t s) rows) < length (filter (λ t. is_tighter t r) rows) → Holds s x) → Holds r x
+  by_tighter : (r : LinearRow) → Contains rows r
+      → ((s : LinearRow) → Contains rows s → length (filter (λ t. is_tighter t s) rows) < length (filter (λ t. is_tighter t r) rows) → Holds s x) → Holds r x
   by_tighter r has others = by_value (is_loose rows r) refl
     where
       by_value : (b : Bool) → is_loose rows r ≡ b → Holds r x
@@ -204,7 +204,7 @@ module _ (n : ℕ) (rows : List Given) (x : List ℤ) (point : IsPoint n x) (all
           tighter_holds n s r x point tighter (others s among less)
 
   -- a row than which fewer than so many are tighter
-  holds_below : (k : ℕ) (r : Given) → Contains rows r → length (filter (λ s. is_tighter s r) rows) < k → Holds r x
+  holds_below : (k : ℕ) (r : LinearRow) → Contains rows r → length (filter (λ s. is_tighter s r) rows) < k → Holds r x
   holds_below zero r has few = absurd (omega (arith, few))
   holds_below (suc k) r has few = by_tighter r has (λ s among less. holds_below k s among (omega (arith, less, few)))
 
@@ -220,7 +220,7 @@ both_or : (a b c : Bool) → ((a && b) || (a && c)) ≡ (a && (b || c))
 both_or true b c = refl
 both_or false b c = refl
 
-any_given : (r : Given) (rows : List (List ℤ)) (kinds : List ConKind) → length kinds ≡ length rows
+any_given : (r : LinearRow) (rows : List (List ℤ)) (kinds : List ConKind) → length kinds ≡ length rows
     → list_any (λ s. is_tighter s r) (given_by is_equality rows kinds) ≡ (not r.equal && list_any (λ xs. is_lower xs r.row) rows)
 any_given r [] kinds n = sym (and_none (not r.equal))
 any_given r (xs ∷ rows) [] n = let wrong : ⊥ = cc in absurd wrong
@@ -228,7 +228,7 @@ any_given r (xs ∷ rows) (k ∷ kinds) n =
     let same : length kinds ≡ length rows = omega (arith, n) in
     ap (λ (b : Bool). (not r.equal && is_lower xs r.row) || b) (any_given r rows kinds same) ∙ both_or (not r.equal) (is_lower xs r.row) (list_any (λ ys. is_lower ys r.row) rows)
 
-abbrev constraint_of : List ℤ → ConKind → Given
+abbrev constraint_of : List ℤ → ConKind → LinearRow
 constraint_of row kind = record { row = row; equal = is_equality kind }
 
 -- an equality is never loose
@@ -245,19 +245,19 @@ loose_by list row kind rows lower n is same told =
 
 -- ---- the widening that is limited by the tightest
 -- each of the tightest is given
-few_given : (p q : Polyhedron) (given : List Given) (g : Given) → Contains (tightest (kept p q given)) g → Contains given g
+few_given : (p q : Polyhedron) (given : List LinearRow) (g : LinearRow) → Contains (tightest (kept p q given)) g → Contains given g
 few_given p q given g k = (kept_at p q given g (filter_from (λ r. not (is_loose (kept p q given) r)) (kept p q given) g k).0).0
 
-limited_few : (p q : Polyhedron) (given : List Given) → IsWithin p.dims (Limited p q given) (Limited p q (tightest (kept p q given)))
+limited_few : (p q : Polyhedron) (given : List LinearRow) → IsWithin p.dims (LimitedWidening p q given) (LimitedWidening p q (tightest (kept p q given)))
 limited_few p q given x point l = (l.0, λ g k a b. l.1 g (few_given p q given g k) a b)
 
 -- where no product passes, the tightest limit as all do
-few_limited : (p q : Polyhedron) (given : List Given) → HasPoint p → HasPoint q → kept p q given ≡ valid_on p q given
-    → IsWithin p.dims (Limited p q (tightest (kept p q given))) (Limited p q given)
+few_limited : (p q : Polyhedron) (given : List LinearRow) → HasPoint p → HasPoint q → kept p q given ≡ valid_on p q given
+    → IsWithin p.dims (LimitedWidening p q (tightest (kept p q given))) (LimitedWidening p q given)
 few_limited p q given h k same x point l = (
   l.0,
   λ g has a b.
-      let valid : Contains (kept p q given) g = subst (λ (rows : List Given). Contains rows g) (sym same)
+      let valid : Contains (kept p q given) g = subst (λ (rows : List LinearRow). Contains rows g) (sym same)
       (filter_has (λ r. is_valid p r && is_valid q r) given g has (both (is_valid p g) (is_valid q g) ((valid_decides p h g).1 a) ((valid_decides q k g).1 b))) in
       tightest_tell p.dims (kept p q given) x point (λ t few.
       let f = kept_at p q given t (filter_from (λ r. not (is_loose (kept p q given) r)) (kept p q given) t few).0 in
@@ -269,8 +269,8 @@ few_limited p q given h k same x point l = (
     both true false e f = cc
     both false b e f = cc
 
-tightest_same : (p q : Polyhedron) (given : List Given) → IsPolyhedron p → IsPolyhedron q → q.dims ≡ p.dims → IsWithin p.dims (Con p.rows) (Con q.rows)
-    → kept p q given ≡ valid_on p q given → SameSet p.dims (Limited p q given) (Limited p q (tightest (kept p q given)))
+tightest_same : (p q : Polyhedron) (given : List LinearRow) → IsPolyhedron p → IsPolyhedron q → q.dims ≡ p.dims → IsWithin p.dims (Con p.rows) (Con q.rows)
+    → kept p q given ≡ valid_on p q given → SameSet p.dims (LimitedWidening p q given) (LimitedWidening p q (tightest (kept p q given)))
 tightest_same p q given (inr h) hq d w same = (limited_few p q given, few_limited p q given h (around_point p q h hq d w) same)
 tightest_same p q given (inl none) hq d w same =
     let e = none.1 in
@@ -279,26 +279,28 @@ tightest_same p q given (inl none) hq d w same =
     (λ x i l. other.1 x i (one.0 x i l), λ x i l. one.1 x i (other.0 x i l))
 
 -- no product passes
-pub tightest_becomes : (p q r : Polyhedron) (given few : List Given) (o : Outcome) → IsPolyhedron p → IsPolyhedron q → q.dims ≡ p.dims → IsWithin p.dims (Con p.rows) (Con q.rows)
-    → few ≡ tightest (kept p q given) → kept p q given ≡ valid_on p q given → IsWidened p q few r o → Becomes p.dims (Limited p q given) (TightestStrains p q given) r o
+pub tightest_becomes : (p q r : Polyhedron) (given few : List LinearRow) (o : Outcome) → IsPolyhedron p → IsPolyhedron q → q.dims ≡ p.dims → IsWithin p.dims (Con p.rows) (Con q.rows)
+    → few ≡ tightest (kept p q given) → kept p q given ≡ valid_on p q given → IsWidened p q few r o → Becomes p.dims (LimitedWidening p q given) (TightestStrains p q given) r o
 tightest_becomes p q r given few o hp hq d w is same made =
     let all = tightest (kept p q given) in
-    becomes_same p.dims (Limited p q given) (Limited p q all) (TightestStrains p q given) (LimitedStrains p q all) r o (tightest_same p q given hp hq d w same) (λ loss s. inl s)
-    (subst (λ (rows : List Given). Becomes p.dims (Limited p q rows) (LimitedStrains p q rows) r o) is made.becomes)
+    becomes_same p.dims (LimitedWidening p q given) (LimitedWidening p q all) (TightestStrains p q given) (LimitedStrains p q all) r o (tightest_same p q given hp hq d w same) (λ loss s. inl s)
+    (subst (λ (rows : List LinearRow). Becomes p.dims (LimitedWidening p q rows) (LimitedStrains p q rows) r o) is made.becomes)
 
 -- some product passes
-pub lost_becomes : (p q r : Polyhedron) (given few : List Given) (o lost : Outcome) → few ≡ tightest (kept p q given) → IsWidened p q few r o → ¬ (lost ≡ Exact)
-    → IfFlagged (PassesOnBoth p q given) lost → Becomes p.dims (Limited p q given) (TightestStrains p q given) r lost
+pub lost_becomes : (p q r : Polyhedron) (given few : List LinearRow) (o lost : Outcome) → few ≡ tightest (kept p q given) → IsWidened p q few r o →
+    ¬ (lost ≡ Exact)
+    → IfFlagged (PassesOnBoth p q given) lost → Becomes p.dims (LimitedWidening p q given) (TightestStrains p q given) r lost
 lost_becomes p q r given few o Exact is made other passes = absurd (other refl)
 lost_becomes p q r given few o (Flagged loss) is made other passes = record {
   dims = made.becomes.dims;
   canonical = made.becomes.canonical;
-  within = λ x point l. made.becomes.within x point (subst (λ (rows : List Given). Limited p q rows x) (sym is) (limited_few p q given x point l));
+  within = λ x point l. made.becomes.within x point (subst (λ (rows : List LinearRow). LimitedWidening p q rows x) (sym is) (limited_few p q given x point l));
   exact = tt;
   flagged = inr (passes_widening p q given loss passes);
 }
 
-pub tightest_falls : (p q r : Polyhedron) (given few : List Given) (o : Outcome) → few ≡ tightest (kept p q given) → IsPolyhedron p → HaveColumns p.dims given
+pub tightest_falls : (p q r : Polyhedron) (given few : List LinearRow) (o : Outcome) → few ≡ tightest (kept p q given) → IsPolyhedron p →
+    HaveColumns p.dims given
     → IsWidened p q few r o → r ≢ p → Falls p r given
 tightest_falls p q r given few o is h columns made other = rank_falls p r given h made.becomes.canonical made.becomes.dims made.old other columns (λ x.
     let k = made.keeps x in
@@ -308,9 +310,9 @@ tightest_falls p q r given few o is h columns made other = rank_falls p r given 
       widths = k.widths;
       told = λ g i. elim (k.told g i) [
         | inl a ↦ inl a
-        | inr b ↦ inr (few_given p q given g (subst (λ (rows : List Given). Contains rows g) is b.0), b.1)
+        | inr b ↦ inr (few_given p q given g (subst (λ (rows : List LinearRow). Contains rows g) is b.0), b.1)
       ];
     })
 
-pub kept_exact : (p q : Polyhedron) (given : List Given) (o : Outcome) → IfExact (kept p q given ≡ valid_on p q given) o → o ≡ Exact → kept p q given ≡ valid_on p q given
+pub kept_exact : (p q : Polyhedron) (given : List LinearRow) (o : Outcome) → IfExact (kept p q given ≡ valid_on p q given) o → o ≡ Exact → kept p q given ≡ valid_on p q given
 kept_exact p q given o said e = subst (IfExact (kept p q given ≡ valid_on p q given)) e said

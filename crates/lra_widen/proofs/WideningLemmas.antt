@@ -4,18 +4,18 @@ use Rattle.std.specs.Prelude.{◌↔◌, ◌⊎◌, IsTrue}
 use Rattle.std.proofs.lemmas.List.Elements.{All-contains, Contains-append_cases, Contains-append_left, Contains-append_right}
 use Rattle.std.specs.List.{All, Contains, filter}
 use Rattle.std.proofs.lemmas.List.{append-nil}
-use Rattle.lra_linear.specs.Cones.{both_ways}
-use Rattle.lra_linear.specs.Descriptions.{Con, Given, given_as, inequality}
-use Rattle.lra_linear.specs.OperationStrain.{ConstraintsStrain, FromRowsStrains, LimitedStrains, StandardStrains, WideningPasses, tight_on, valid_on}
-use Rattle.lra_linear.specs.Points.{IsEmptySet, IsPoint, IsWithin, SameSet}
-use Rattle.lra_linear.specs.Polyhedra.{HasPoint, IsPolyhedron, IsPolyhedronOf, Polyhedron, falsity}
-use Rattle.lra_linear.specs.Strain.{Loss}
-use Rattle.lra_linear.specs.Widening.{Limited, Standard, StandardFrom, is_tight}
-use Rattle.lra_linear.proofs.Descriptions.{con_none}
-use Rattle.lra_linear.proofs.Lines.{in_lines}
-use Rattle.lra_linear.proofs.Membership.{contains_cases, contains_none, filter_from}
-use Rattle.lra_linear.proofs.OneSpelling.{given_from}
-use Rattle.lra_linear.proofs.Widening.{limited_con, standard_con, valid_decides}
+use Rattle.lra_linear_spec.specs.Cones.{both_ways}
+use Rattle.lra_linear_spec.specs.Descriptions.{Con, LinearRow, rows_as, inequality}
+use Rattle.lra_linear_spec.specs.OperationStrain.{ConstraintsStrain, FromRowsStrains, LimitedStrains, StandardStrains, WideningPasses, tight_on, valid_on}
+use Rattle.lra_linear_spec.specs.Points.{IsEmptySet, IsPoint, IsWithin, SameSet}
+use Rattle.lra_linear_spec.specs.Polyhedra.{HasPoint, IsPolyhedron, IsPolyhedronOf, Polyhedron, falsity}
+use Rattle.lra_linear_spec.specs.Strain.{Loss}
+use Rattle.lra_linear_spec.specs.Widening.{LimitedWidening, StandardWidening, StandardFrom, is_tight}
+use Rattle.lra_linear_spec.proofs.Descriptions.{con_none}
+use Rattle.lra_linear_spec.proofs.Lines.{in_lines}
+use Rattle.lra_linear_spec.proofs.Membership.{contains_cases, contains_none, filter_from}
+use Rattle.lra_linear_spec.proofs.OneSpelling.{given_from}
+use Rattle.lra_linear_spec.proofs.Widening.{limited_con, standard_con, valid_decides}
 use Rattle.lra_duality.specs.declared.inclusion.Inclusion.TheVariants.{Wide, Yes}
 use Rattle.lra_poly.specs.declared.outcome.Outcome.{Outcome}
 use Rattle.lra_poly.specs.declared.outcome.Outcome.TheVariants.{Exact, Flagged}
@@ -26,8 +26,8 @@ use Rattle.lra_poly.specs.Outcomes.{Becomes, IfExact, IfFlagged, IsOfRows}
 use Rattle.lra_duality.proofs.InclusionLemmas.{has_member}
 use Rattle.lra_poly.proofs.PolyLemmas.{becomes_same, constraints_strain, exactly, if_exact, if_flagged, same_polyhedron}
 use Rattle.lra_duality.proofs.PolyhedronLemmas.{none_where_empty, some_generator, with_point}
-use Rattle.lra_linear.specs.declared.ConKind.{ConKind}
-use Rattle.lra_linear.specs.Kinds.{is_equality}
+use Rattle.lra_linear_spec.specs.declared.ConKind.{ConKind}
+use Rattle.lra_linear_spec.specs.Kinds.{is_equality}
 use Rattle.lra_sys.specs.Listed.{Listed, constraints, given_by}
 use Rattle.lra_widen.specs.Rank.{Falls, equalities_from, holds_in_range, kept}
 use Rattle.lra_widen.specs.Widenings.{HaveColumns, IsOutside, IsWidened, PassesOnBoth}
@@ -43,36 +43,36 @@ around_point p q h (inr k) d w = k
 pub given_columns : {K : Type 0} (equal : K → Bool) (n : ℕ) (rows : List (List ℤ)) (kinds : List K) → All (λ r. length r ≡ suc n) rows → HaveColumns n (given_by equal rows kinds)
 given_columns equal n [] kinds h g k = absurd (contains_none g k)
 given_columns equal n (r ∷ rows) [] h g k = absurd (contains_none g k)
-given_columns equal n (r ∷ rows) (x ∷ kinds) h g k = elim (contains_cases (let y : Given = record { row = r; equal = equal x } in y) g (given_by equal rows kinds) k) [
-  | inl e ↦ ap (λ (y : Given). length y.row) (sym e) ∙ h 0 r (omega arith)
+given_columns equal n (r ∷ rows) (x ∷ kinds) h g k = elim (contains_cases (let y : LinearRow = record { row = r; equal = equal x } in y) g (given_by equal rows kinds) k) [
+  | inl e ↦ ap (λ (y : LinearRow). length y.row) (sym e) ∙ h 0 r (omega arith)
   | inr d ↦ given_columns equal n rows kinds (λ j t m. h (suc j) t (omega (arith, m))) g d
 ]
 
 row_columns : (q : Polyhedron) → HasPoint q → HaveColumns q.dims q.rows
-row_columns q k g m = elim (Contains-append_cases (given_as true k.equalities) (given_as false k.inequalities) g (subst (λ l. Contains l g) k.rows_are m)) [
+row_columns q k g m = elim (Contains-append_cases (rows_as true k.equalities) (rows_as false k.inequalities) g (subst (λ l. Contains l g) k.rows_are m)) [
   | inl i ↦ k.dual.system_widths g.row (Contains-append_right k.facets (both_ways k.equalities) g.row (in_lines k.equalities g.row (given_from true k.equalities g i).1))
   | inr i ↦ k.dual.system_widths g.row (Contains-append_left k.facets (both_ways k.equalities) g.row (k.shown g.row (given_from false k.inequalities g i).1).0)
 ]
 
 -- ---- where P has no point
-pub limited_empty : (p q : Polyhedron) (given : List Given) → q.dims ≡ p.dims → p.generators ≡ [] → SameSet p.dims (Limited p q given) (Con q.rows)
+pub limited_empty : (p q : Polyhedron) (given : List LinearRow) → q.dims ≡ p.dims → p.generators ≡ [] → SameSet p.dims (LimitedWidening p q given) (Con q.rows)
 limited_empty p q given d e = (
   λ x i l. subst (λ gs. StandardFrom gs p q x) e l.0,
   λ x i c. (subst (λ gs. StandardFrom gs p q x) (sym e) c, λ g m a b. b x (subst (λ (n : ℕ). IsPoint n x) (sym d) i) c),
 )
 
-pub widened_empty : (p q r : Polyhedron) (given : List Given) → IsPolyhedron p → IsPolyhedron q → q.dims ≡ p.dims → IsEmptySet p.dims (Con p.rows) → r ≡ q → IsWidened p q given r Exact
+pub widened_empty : (p q r : Polyhedron) (given : List LinearRow) → IsPolyhedron p → IsPolyhedron q → q.dims ≡ p.dims → IsEmptySet p.dims (Con p.rows) → r ≡ q → IsWidened p q given r Exact
 widened_empty p q r given hp hq d empty er =
     let e = none_where_empty p hp empty in
     let s = limited_empty p q given d e in
     subst (λ (y : Polyhedron). IsWidened p q given y Exact) (sym er) (record {
-      becomes = exactly p.dims (Limited p q given) (LimitedStrains p q given) q (record { dimensions = d; canonical = hq; points = s });
+      becomes = exactly p.dims (LimitedWidening p q given) (LimitedStrains p q given) q (record { dimensions = d; canonical = hq; points = s });
       old = λ x i c. absurd (empty x i c);
       keeps = λ h. absurd (some_generator p h e);
     })
 
 -- ---- all points
-pub widened_up : (p q u : Polyhedron) (given : List Given) (loss : Loss) → IsPolyhedronOf p.dims (Con []) u → LimitedStrains p q given loss → IsWidened p q given u (Flagged loss)
+pub widened_up : (p q u : Polyhedron) (given : List LinearRow) (loss : Loss) → IsPolyhedronOf p.dims (Con []) u → LimitedStrains p q given loss → IsWidened p q given u (Flagged loss)
 widened_up p q u given loss made strains = record {
   becomes = record {
     dims = made.dimensions;
@@ -90,7 +90,8 @@ widened_up p q u given loss made strains = record {
   };
 }
 
-pub passes_widening : (p q : Polyhedron) (given : List Given) (loss : Loss) → PassesOnBoth p q given loss → WideningPasses p q given (Limited p q given) loss
+pub passes_widening : (p q : Polyhedron) (given : List LinearRow) (loss : Loss) → PassesOnBoth p q given loss →
+    WideningPasses p q given (LimitedWidening p q given) loss
 passes_widening p q given loss x = elim (Contains-append_cases p.generators q.generators x.passes.generator x.passes.has_generator) [
   | inl a ↦ record {
     excess = x.excess;
@@ -112,14 +113,15 @@ passes_widening p q given loss x = elim (Contains-append_cases p.generators q.ge
   }
 ]
 
-pub passes_limited : (p q : Polyhedron) (given : List Given) (loss : Loss) → PassesOnBoth p q given loss → LimitedStrains p q given loss
+pub passes_limited : (p q : Polyhedron) (given : List LinearRow) (loss : Loss) → PassesOnBoth p q given loss → LimitedStrains p q given loss
 passes_limited p q given loss x = inr (passes_widening p q given loss x)
 
-pub widened_wide : (p q u : Polyhedron) (given : List Given) (loss : Loss) → IsPolyhedronOf p.dims (Con []) u → PassesOnBoth p q given loss → IsWidened p q given u (Flagged loss)
+pub widened_wide : (p q u : Polyhedron) (given : List LinearRow) (loss : Loss) → IsPolyhedronOf p.dims (Con []) u → PassesOnBoth p q given loss → IsWidened p q given u (Flagged loss)
 widened_wide p q u given loss made x = widened_up p q u given loss made (passes_limited p q given loss x)
 
 -- ---- the polyhedron of the tight rows and those kept
-limited_list : (p q : Polyhedron) (given : List Given) → HasPoint p → HasPoint q → IsWithin p.dims (Limited p q given) (Con (tight_on p q ++ kept p q given))
+limited_list : (p q : Polyhedron) (given : List LinearRow) → HasPoint p → HasPoint q →
+    IsWithin p.dims (LimitedWidening p q given) (Con (tight_on p q ++ kept p q given))
 limited_list p q given h k x i l g m = elim (Contains-append_cases (tight_on p q) (kept p q given) g m) [
   | inl a ↦ (standard_con p.dims p q (some_generator p h)).0 x i l.0 g a
   | inr b ↦
@@ -127,28 +129,29 @@ limited_list p q given h k x i l g m = elim (Contains-append_cases (tight_on p q
       l.1 g f.0 ((valid_decides p h g).0 (holds_valid p g f.1)) ((valid_decides q k g).0 (holds_valid q g f.2))
 ]
 
-old_list : (p q : Polyhedron) (given : List Given) → HasPoint p → IsWithin p.dims (Con p.rows) (Con q.rows) → IsWithin p.dims (Con p.rows) (Con (tight_on p q ++ kept p q given))
+old_list : (p q : Polyhedron) (given : List LinearRow) → HasPoint p → IsWithin p.dims (Con p.rows) (Con q.rows) → IsWithin p.dims (Con p.rows) (Con (tight_on p q ++ kept p q given))
 old_list p q given h w x i c g m = elim (Contains-append_cases (tight_on p q) (kept p q given) g m) [
   | inl a ↦ w x i c g (filter_from (is_tight p) q.rows g a).0
   | inr b ↦ (valid_decides p h g).0 (holds_valid p g (kept_at p q given g b).1) x i c
 ]
 
 -- the widths of these rows
-limited_columns : (p q : Polyhedron) (given : List Given) → HasPoint q → q.dims ≡ p.dims → HaveColumns p.dims given → HaveColumns p.dims (tight_on p q ++ kept p q given)
+limited_columns : (p q : Polyhedron) (given : List LinearRow) → HasPoint q → q.dims ≡ p.dims → HaveColumns p.dims given → HaveColumns p.dims (tight_on p q ++ kept p q given)
 limited_columns p q given k d columns g i = elim (Contains-append_cases (tight_on p q) (kept p q given) g i) [
   | inl a ↦ row_columns q k g (filter_from (is_tight p) q.rows g a).0 ∙ ap suc d
   | inr b ↦ columns g (kept_at p q given g b).0
 ]
 
-limited_told : (p q : Polyhedron) (given : List Given) (g : Given) → Contains (tight_on p q ++ kept p q given) g → (is_tight p g ≡ true) ⊎ (Contains given g × (holds_in_range p g ≡ true))
+limited_told : (p q : Polyhedron) (given : List LinearRow) (g : LinearRow) → Contains (tight_on p q ++ kept p q given) g → (is_tight p g ≡ true) ⊎ (Contains given g × (holds_in_range p g ≡ true))
 limited_told p q given g i = elim (Contains-append_cases (tight_on p q) (kept p q given) g i) [
   | inl a ↦ inl (filter_from (is_tight p) q.rows g a).1
   | inr b ↦ let f = kept_at p q given g b in inr (f.0, f.1)
 ]
 
 -- the polyhedron of some of them, with what is told of it
-of_some : (p q made : Polyhedron) (given : List Given) (o : Outcome) → HasPoint p → HasPoint q → q.dims ≡ p.dims → IsWithin p.dims (Con p.rows) (Con q.rows) →
-    IsOfSome p.dims (tight_on p q ++ kept p q given) made → HaveColumns p.dims given → IfExact (IsPolyhedronOf p.dims (Limited p q given) made) o →
+of_some : (p q made : Polyhedron) (given : List LinearRow) (o : Outcome) → HasPoint p → HasPoint q → q.dims ≡ p.dims →
+    IsWithin p.dims (Con p.rows) (Con q.rows) →
+    IsOfSome p.dims (tight_on p q ++ kept p q given) made → HaveColumns p.dims given → IfExact (IsPolyhedronOf p.dims (LimitedWidening p q given) made) o →
     IfFlagged (LimitedStrains p q given) o → IsWidened p q given made o
 of_some p q made given o h k d w s columns exact strain =
     let m = s.made in
@@ -171,7 +174,7 @@ of_some p q made given o h k d w s columns exact strain =
 
 -- ---- what is told where rows are lost
 -- what the polyhedron is made of, and what is told of it
-pub record IsMade (p q made : Polyhedron) (list given : List Given) (n : ℕ) (o lost : Outcome) : Type 0 where
+pub record IsMade (p q made : Polyhedron) (list given : List LinearRow) (n : ℕ) (o lost : Outcome) : Type 0 where
   pub first : IsPolyhedron p
   pub second : IsPolyhedron q
   pub dims : q.dims ≡ p.dims
@@ -185,12 +188,12 @@ pub record IsMade (p q made : Polyhedron) (list given : List Given) (n : ℕ) (o
   pub same : IfExact (kept p q given ≡ valid_on p q given) lost
   pub passes : IfFlagged (PassesOnBoth p q given) lost
 
-some_limited : (p q made : Polyhedron) (list given : List Given) (n : ℕ) (o lost : Outcome) → IsMade p q made list given n o lost → IsOfSome p.dims (tight_on p q ++ kept p q given) made
+some_limited : (p q made : Polyhedron) (list given : List LinearRow) (n : ℕ) (o lost : Outcome) → IsMade p q made list given n o lost → IsOfSome p.dims (tight_on p q ++ kept p q given) made
 some_limited p q made list given n o lost x =
-    subst (λ (l : List Given). IsOfSome p.dims l made) x.rows (subst (λ (j : ℕ). IsOfSome j list made) x.list_dims x.some)
+    subst (λ (l : List LinearRow). IsOfSome p.dims l made) x.rows (subst (λ (j : ℕ). IsOfSome j list made) x.list_dims x.some)
 
 -- no given row passes
-pub widened_made : (p q made : Polyhedron) (list given : List Given) (n : ℕ) (o lost : Outcome) → IsMade p q made list given n o lost → lost ≡ Exact → IsWidened p q given made o
+pub widened_made : (p q made : Polyhedron) (list given : List LinearRow) (n : ℕ) (o lost : Outcome) → IsMade p q made list given n o lost → lost ≡ Exact → IsWidened p q given made o
 widened_made p q made list given n o lost x el =
     let h = with_point p x.first x.some_point in
     let k = around_point p q h x.second x.dims x.within in
@@ -199,15 +202,15 @@ widened_made p q made list given n o lost x el =
     let all = Con (tight_on p q ++ valid_on p q given) in
     let c = limited_con p q given h k in
     of_some p q made given o h k x.dims x.within (some_limited p q made list given n o lost x) x.columns
-    (if_exact (IsPolyhedronOf n (Con list) made) (IsPolyhedronOf p.dims (Limited p q given) made) o
-    (λ m. same_polyhedron p.dims (Limited p q given) all made c
-    (subst (λ (l : List Given). IsPolyhedronOf p.dims (Con l) made) e (subst (λ (j : ℕ). IsPolyhedronOf j (Con list) made) x.list_dims m))) x.becomes.exact)
+    (if_exact (IsPolyhedronOf n (Con list) made) (IsPolyhedronOf p.dims (LimitedWidening p q given) made) o
+    (λ m. same_polyhedron p.dims (LimitedWidening p q given) all made c
+    (subst (λ (l : List LinearRow). IsPolyhedronOf p.dims (Con l) made) e (subst (λ (j : ℕ). IsPolyhedronOf j (Con list) made) x.list_dims m))) x.becomes.exact)
     (if_flagged (FromRowsStrains n list) (LimitedStrains p q given) o
-    (λ loss f. inl (constraints_strain p.dims (Limited p q given) all (tight_on p q ++ valid_on p q given) loss c
-    (subst (λ (l : List Given). FromRowsStrains p.dims l loss) e (subst (λ (j : ℕ). FromRowsStrains j list loss) x.list_dims f)))) x.becomes.flagged)
+    (λ loss f. inl (constraints_strain p.dims (LimitedWidening p q given) all (tight_on p q ++ valid_on p q given) loss c
+    (subst (λ (l : List LinearRow). FromRowsStrains p.dims l loss) e (subst (λ (j : ℕ). FromRowsStrains j list loss) x.list_dims f)))) x.becomes.flagged)
 
 -- some given row passes
-pub widened_passed : (p q made : Polyhedron) (list given : List Given) (n : ℕ) (o lost : Outcome) → IsMade p q made list given n o lost → ¬ (lost ≡ Exact) → IsWidened p q given made lost
+pub widened_passed : (p q made : Polyhedron) (list given : List LinearRow) (n : ℕ) (o lost : Outcome) → IsMade p q made list given n o lost → ¬ (lost ≡ Exact) → IsWidened p q given made lost
 widened_passed p q made list given n o Exact x other = absurd (other refl)
 widened_passed p q made list given n o (Flagged loss) x other =
     let h = with_point p x.first x.some_point in
@@ -218,13 +221,13 @@ pub not_exact : (b : Bool) (o : Outcome) → IsTrue b ↔ (o ≡ Exact) → b �
 not_exact b o h f e = let t = h.1 e in cc
 
 -- ---- the standard widening is that with no given row
-standard_limited : (n : ℕ) (p q : Polyhedron) → SameSet n (Standard p q) (Limited p q [])
+standard_limited : (n : ℕ) (p q : Polyhedron) → SameSet n (StandardWidening p q) (LimitedWidening p q [])
 standard_limited n p q = (λ x i s. (s, λ g m a b. absurd (contains_none g m)), λ x i l. l.0)
 
 standard_loss : (p q : Polyhedron) (loss : Loss) → LimitedStrains p q [] loss → StandardStrains p q loss
 standard_loss p q loss (inl a) =
-    inl (constraints_strain p.dims (Standard p q) (Limited p q []) (tight_on p q) loss (standard_limited p.dims p q)
-    (subst (λ (l : List Given). ConstraintsStrain p.dims (Limited p q []) l loss) (append-nil (tight_on p q)) a))
+    inl (constraints_strain p.dims (StandardWidening p q) (LimitedWidening p q []) (tight_on p q) loss (standard_limited p.dims p q)
+    (subst (λ (l : List LinearRow). ConstraintsStrain p.dims (LimitedWidening p q []) l loss) (append-nil (tight_on p q)) a))
 standard_loss p q loss (inr b) = inr (record {
   excess = b.excess;
   is_cause = b.is_cause;
@@ -233,7 +236,8 @@ standard_loss p q loss (inr b) = inr (record {
     | inl x ↦ inl x
     | inr x ↦ elim x [
       | inl y ↦ inr (inl y)
-      | inr y ↦ inr (inr (record { result = y.result; is_result = same_polyhedron p.dims (Standard p q) (Limited p q []) y.result (standard_limited p.dims p q) y.is_result; are = y.are }))
+      | inr y ↦ inr (inr (record
+          { result = y.result; is_result = same_polyhedron p.dims (StandardWidening p q) (LimitedWidening p q []) y.result (standard_limited p.dims p q) y.is_result; are = y.are }))
     ]
   ];
   passes = b.passes;
@@ -241,16 +245,17 @@ standard_loss p q loss (inr b) = inr (record {
   nothing = b.nothing;
 })
 
-pub standard_becomes : (p q r : Polyhedron) (given : List Given) (o : Outcome) → given ≡ [] → IsWidened p q given r o → Becomes p.dims (Standard p q) (StandardStrains p q) r o
+pub standard_becomes : (p q r : Polyhedron) (given : List LinearRow) (o : Outcome) → given ≡ [] → IsWidened p q given r o → Becomes p.dims (StandardWidening p q) (StandardStrains p q) r o
 standard_becomes p q r given o e w =
-    becomes_same p.dims (Standard p q) (Limited p q []) (StandardStrains p q) (LimitedStrains p q []) r o (standard_limited p.dims p q) (standard_loss p q)
-    (subst (λ (l : List Given). Becomes p.dims (Limited p q l) (LimitedStrains p q l) r o) e w.becomes)
+    becomes_same p.dims (StandardWidening p q) (LimitedWidening p q []) (StandardStrains p q) (LimitedStrains p q []) r o (standard_limited p.dims p q)
+    (standard_loss p q)
+    (subst (λ (l : List LinearRow). Becomes p.dims (LimitedWidening p q l) (LimitedStrains p q l) r o) e w.becomes)
 
 -- ---- the rank
-pub limited_falls : (p q r : Polyhedron) (given : List Given) (o : Outcome) → IsPolyhedron p → HaveColumns p.dims given → IsWidened p q given r o → r ≢ p → Falls p r given
+pub limited_falls : (p q r : Polyhedron) (given : List LinearRow) (o : Outcome) → IsPolyhedron p → HaveColumns p.dims given → IsWidened p q given r o → r ≢ p → Falls p r given
 limited_falls p q r given o h columns w other = rank_falls p r given h w.becomes.canonical w.becomes.dims w.old other columns w.keeps
 
-pub standard_falls : (p q r : Polyhedron) (none : List Given) (o : Outcome) → none ≡ [] → IsPolyhedron p → IsWidened p q none r o → r ≢ p → (given : List Given) → HaveColumns p.dims given →
+pub standard_falls : (p q r : Polyhedron) (none : List LinearRow) (o : Outcome) → none ≡ [] → IsPolyhedron p → IsWidened p q none r o → r ≢ p → (given : List LinearRow) → HaveColumns p.dims given →
     Falls p r given
 standard_falls p q r none o e h w other given columns = rank_falls p r given h w.becomes.canonical w.becomes.dims w.old other columns (λ x.
     let k = w.keeps x in
@@ -260,7 +265,7 @@ standard_falls p q r none o e h w other given columns = rank_falls p r given h w
       widths = k.widths;
       told = λ g i. elim (k.told g i) [
         | inl a ↦ inl a
-        | inr b ↦ absurd (contains_none g (subst (λ (l : List Given). Contains l g) e b.0))
+        | inr b ↦ absurd (contains_none g (subst (λ (l : List LinearRow). Contains l g) e b.0))
       ];
     })
 
@@ -273,7 +278,7 @@ same_first B (g ∷ e) (k ∷ f) m n s t q a b x y =
     let h : e ++ m ∷ s ≡ f ++ n ∷ t = cc in
     same_first B e f m n s t h (λ j d l. a (suc j) d (omega (arith, l))) (λ j d l. b (suc j) d (omega (arith, l))) x y
 
-violation : (rows : List Given) (g : Given) → ViolatesFirst rows g → ¬ (MeetsAll rows g)
+violation : (rows : List LinearRow) (g : LinearRow) → ViolatesFirst rows g → ¬ (MeetsAll rows g)
 violation rows g v all =
     let m = All-contains (Meets g) rows v.first.member all (has_member (Meets g) (Violates g) rows v.place v.first) in
     let t = m.1 in
@@ -292,9 +297,9 @@ wide_inside p q generator row w place f =
     let passed : ¬ (MeetsAll q.rows w.member) = λ all. ok_or_err _ (All-contains (Meets w.member) q.rows w.here.member all (has_member (Meets w.member) (Passes w.member) q.rows row w.here)).0
     w.here.here in
     let same : w.member ≡ f.member = same_first (MeetsAll q.rows) w.earlier f.earlier w.member f.member w.later f.later (sym w.is ∙ f.is) w.before f.before passed (violation q.rows f.member f.here) in
-    by_rows f.member (subst (λ (g : Given). FirstAt (Meets g) (Passes g) q.rows row) same w.here) f.here
+    by_rows f.member (subst (λ (g : LinearRow). FirstAt (Meets g) (Passes g) q.rows row) same w.here) f.here
   where
-    by_rows : (g : Given) → FirstAt (Meets g) (Passes g) q.rows row → ViolatesFirst q.rows g → ⊥
+    by_rows : (g : LinearRow) → FirstAt (Meets g) (Passes g) q.rows row → ViolatesFirst q.rows g → ⊥
     by_rows g a b =
         let x = b.first in
         let same : a.member ≡ x.member = same_first (Meets g) a.earlier x.earlier a.member x.member a.later x.later (sym a.is ∙ x.is) a.before x.before
@@ -307,12 +312,12 @@ seen_columns equal n m all rows er e h =
     given_columns equal n all.rows all.kinds (subst (λ (l : List (List ℤ)). All (λ r. length r ≡ suc n) l) er (subst (λ (j : ℕ). All (λ r. length r ≡ suc j) rows) e h))
 
 -- ---- the number of equalities
-pub some_equalities : (p : Polyhedron) (rows : List Given) (b : Bool) (n : ℕ) → IsPolyhedron p → rows ≡ p.rows → b ≡ false → IsTrue b ↔ IsEmptySet p.dims (Con p.rows) →
-    n ≡ length (filter (λ (g : Given). g.equal) rows) → n ≡ equalities_from p.generators p
+pub some_equalities : (p : Polyhedron) (rows : List LinearRow) (b : Bool) (n : ℕ) → IsPolyhedron p → rows ≡ p.rows → b ≡ false → IsTrue b ↔ IsEmptySet p.dims (Con p.rows) →
+    n ≡ length (filter (λ (g : LinearRow). g.equal) rows) → n ≡ equalities_from p.generators p
 some_equalities p rows b n hp er e h m =
-    m ∙ ap (λ l. length (filter (λ (g : Given). g.equal) l)) er ∙ sym (by_list p.generators (some_generator p (with_point p hp (λ s. let t = h.1 s in cc))))
+    m ∙ ap (λ l. length (filter (λ (g : LinearRow). g.equal) l)) er ∙ sym (by_list p.generators (some_generator p (with_point p hp (λ s. let t = h.1 s in cc))))
   where
-    by_list : (l : List Given) → l ≢ [] → equalities_from l p ≡ length (filter (λ (g : Given). g.equal) p.rows)
+    by_list : (l : List LinearRow) → l ≢ [] → equalities_from l p ≡ length (filter (λ (g : LinearRow). g.equal) p.rows)
     by_list [] x = absurd (x refl)
     by_list (g ∷ l) x = refl
 

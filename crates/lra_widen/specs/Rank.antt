@@ -3,31 +3,31 @@
 use Rattle.std.specs.Prelude.{◌≡◌, ◌⊎◌, ◌<◌, ◌&&◌, ℕ, suc, Bool, true, false, not, List, [], ◌∷◌, length, Result, Ok}
 use Rattle.std.specs.Prelude.{Err}
 use Rattle.std.specs.List.{filter, list_all, list_any}
-use Rattle.lra_linear.specs.CheckedArithmetic.{checked_product}
-use Rattle.lra_linear.specs.Descriptions.{Given}
-use Rattle.lra_linear.specs.Polyhedra.{Polyhedron}
-use Rattle.lra_linear.specs.Widening.{holds_with, is_tight_as}
+use Rattle.lra_linear_spec.specs.CheckedArithmetic.{checked_product}
+use Rattle.lra_linear_spec.specs.Descriptions.{LinearRow}
+use Rattle.lra_linear_spec.specs.Polyhedra.{Polyhedron}
+use Rattle.lra_linear_spec.specs.Widening.{holds_with, is_tight_as}
 
 abbrev pub fits : {A E : Type 0} → Result A E → Bool
 fits (Ok x) = true
 fits (Err e) = false
 
 -- the row holds with each generator of P, and each product stays in the range
-abbrev pub holds_in_range : Polyhedron → Given → Bool
+abbrev pub holds_in_range : Polyhedron → LinearRow → Bool
 holds_in_range p r = list_all (λ g. fits (checked_product r.row g.row) && holds_with r g) p.generators
 
-abbrev pub held : Polyhedron → List Given → List Given
+abbrev pub held : Polyhedron → List LinearRow → List LinearRow
 held p given = filter (holds_in_range p) given
 
 -- the inequalities of P whose saturated generators are those of none of the rows
-abbrev pub is_free : Polyhedron → List Given → Given → Bool
+abbrev pub is_free : Polyhedron → List LinearRow → LinearRow → Bool
 is_free p rows r = not r.equal && not (list_any (is_tight_as p.generators r) rows)
 
-abbrev pub free : Polyhedron → List Given → List Given
+abbrev pub free : Polyhedron → List LinearRow → List LinearRow
 free p rows = filter (is_free p rows) p.rows
 
 -- the equalities, one more than the dimensions where there is no point
-abbrev pub equalities_from : List Given → Polyhedron → ℕ
+abbrev pub equalities_from : List LinearRow → Polyhedron → ℕ
 equalities_from [] p = suc p.dims
 equalities_from (g ∷ generators) p = length (filter (λ r. r.equal) p.rows)
 
@@ -36,7 +36,7 @@ pub record Rank : Type 0 where
   pub held : ℕ
   pub free : ℕ
 
-abbrev pub rank_of : Polyhedron → List Given → Rank
+abbrev pub rank_of : Polyhedron → List LinearRow → Rank
 rank_of p given = record {
   equalities = equalities_from p.generators p;
   held = length (held p given);
@@ -49,9 +49,9 @@ IsBelow a b = (a.equalities < b.equalities) ⊎ ((a.equalities ≡ b.equalities)
     ((a.held < b.held) ⊎ ((a.held ≡ b.held) × (a.free < b.free))))
 
 -- the rows that are still given at a head whose value P becomes R
-abbrev pub kept : Polyhedron → Polyhedron → List Given → List Given
+abbrev pub kept : Polyhedron → Polyhedron → List LinearRow → List LinearRow
 kept p r given = filter (λ g. holds_in_range p g && holds_in_range r g) given
 
 -- the rank falls from P to R
-abbrev pub Falls : Polyhedron → Polyhedron → List Given → Type 0
+abbrev pub Falls : Polyhedron → Polyhedron → List LinearRow → Type 0
 Falls p r given = IsBelow (rank_of r (kept p r given)) (rank_of p given)

@@ -2,7 +2,7 @@
 use Rattle.std.specs.Prelude.{Bool, true, false, ◌&&◌, ℤ, pos, List, [], ◌∷◌, Result, Ok, Err}
 use Rattle.std.specs.Bool.{beq}
 use Rattle.std.specs.Ordering.{int_eq}
-use Rattle.lra_linear.specs.CheckedArithmetic.{checked_product}
+use Rattle.lra_linear_spec.specs.CheckedArithmetic.{checked_product}
 
 -- of lists of one length: whether they have the same values
 abbrev pub same_values : List Bool → List Bool → Bool

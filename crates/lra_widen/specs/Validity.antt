@@ -2,13 +2,13 @@
 -- passes the range, decides.
 use Rattle.std.specs.Prelude.{◌≡◌, List, Err}
 use Rattle.std.specs.List.{All, Contains}
-use Rattle.lra_linear.specs.CheckedArithmetic.{checked_product}
-use Rattle.lra_linear.specs.Descriptions.{Given}
+use Rattle.lra_linear_spec.specs.CheckedArithmetic.{checked_product}
+use Rattle.lra_linear_spec.specs.Descriptions.{LinearRow}
 use Rattle.lra_duality.specs.Inclusions.{Meets, Violates}
 use Rattle.lra_widen.specs.declared.validity.Validity.{Validity}
 use Rattle.lra_widen.specs.declared.validity.Validity.TheVariants.{Holds, Fails, Wide}
 
-abbrev pub IsValidity : List Given → Given → Validity → Type 0
+abbrev pub IsValidity : List LinearRow → LinearRow → Validity → Type 0
 IsValidity generators r Holds = All (λ g. Meets g r) generators
-IsValidity generators r Fails = (g : Given) × Contains generators g × Violates g r
-IsValidity generators r (Wide e) = (g : Given) × Contains generators g × (checked_product r.row g.row ≡ Err e)
+IsValidity generators r Fails = (g : LinearRow) × Contains generators g × Violates g r
+IsValidity generators r (Wide e) = (g : LinearRow) × Contains generators g × (checked_product r.row g.row ≡ Err e)

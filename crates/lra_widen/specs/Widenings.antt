@@ -1,14 +1,14 @@
 -- What is told of a widening.
 use Rattle.std.specs.Prelude.{◌≡◌, ◌⊎◌, ℕ, suc, true, List, [], ◌++◌, length}
 use Rattle.std.specs.List.{Contains}
-use Rattle.lra_linear.specs.declared.Excess as E
-use Rattle.lra_linear.specs.declared.Cause.TheVariants.{Excess}
-use Rattle.lra_linear.specs.Descriptions.{Given, Con}
-use Rattle.lra_linear.specs.OperationStrain.{LimitedStrains, ProductsPass}
-use Rattle.lra_linear.specs.Points.{IsWithin}
-use Rattle.lra_linear.specs.Polyhedra.{HasPoint, IsPolyhedronOf, Polyhedron}
-use Rattle.lra_linear.specs.Strain as strain
-use Rattle.lra_linear.specs.Widening.{is_tight, Limited}
+use Rattle.lra_linear_spec.specs.declared.Excess as E
+use Rattle.lra_linear_spec.specs.declared.Cause.TheVariants.{Excess}
+use Rattle.lra_linear_spec.specs.Descriptions.{LinearRow, Con}
+use Rattle.lra_linear_spec.specs.OperationStrain.{LimitedStrains, ProductsPass}
+use Rattle.lra_linear_spec.specs.Points.{IsWithin}
+use Rattle.lra_linear_spec.specs.Polyhedra.{HasPoint, IsPolyhedronOf, Polyhedron}
+use Rattle.lra_linear_spec.specs.Strain as strain
+use Rattle.lra_linear_spec.specs.Widening.{is_tight, LimitedWidening}
 use Rattle.lra_duality.specs.declared.inclusion.Inclusion.TheVariants.{Yes, No, Wide}
 use Rattle.lra_poly.specs.declared.outcome.Outcome.{Outcome}
 use Rattle.lra_duality.specs.Inclusions.{IsInclusion}
@@ -38,14 +38,15 @@ abbrev pub LiesOrIsGivenUp : Polyhedron → Polyhedron → Polyhedron → Outcom
 LiesOrIsGivenUp p q r o = IsInclusion q.rows p.generators Yes ⊎ IsGivenUp p q r o
 
 -- R is the polyhedron of rows each of which is tight on P, or is given and holds in range on P
-pub record KeepsRows (p r : Polyhedron) (given : List Given) : Type 0 where
-  pub rows : List Given
+pub record KeepsRows (p r : Polyhedron) (given : List LinearRow) : Type 0 where
+  pub rows : List LinearRow
   pub made : IsPolyhedronOf r.dims (Con rows) r
-  pub widths : (g : Given) → Contains rows g → length g.row ≡ suc r.dims
-  pub told : (g : Given) → Contains rows g → (is_tight p g ≡ true) ⊎ (Contains given g × (holds_in_range p g ≡ true))
+  pub widths : (g : LinearRow) → Contains rows g → length g.row ≡ suc r.dims
+  pub told : (g : LinearRow) → Contains rows g →
+      (is_tight p g ≡ true) ⊎ (Contains given g × (holds_in_range p g ≡ true))
 
 -- the loss of a row of Q, or of a given one, whose product with a generator of P or of Q passes
-pub record PassesOnBoth (p q : Polyhedron) (given : List Given) (loss : strain.Loss) : Type 0 where
+pub record PassesOnBoth (p q : Polyhedron) (given : List LinearRow) (loss : strain.Loss) : Type 0 where
   pub excess : E.Excess
   pub is_cause : loss.cause ≡ Excess excess
   pub passes : ProductsPass (q.rows ++ given) (p.generators ++ q.generators) excess
@@ -53,11 +54,11 @@ pub record PassesOnBoth (p q : Polyhedron) (given : List Given) (loss : strain.L
   pub nothing : loss.chosen ≡ []
 
 -- R is what the widening of P by Q, limited by the given rows, gives, and the outcome what it tells
-pub record IsWidened (p q : Polyhedron) (given : List Given) (r : Polyhedron) (o : Outcome) : Type 0 where
-  pub becomes : Becomes p.dims (Limited p q given) (LimitedStrains p q given) r o
+pub record IsWidened (p q : Polyhedron) (given : List LinearRow) (r : Polyhedron) (o : Outcome) : Type 0 where
+  pub becomes : Becomes p.dims (LimitedWidening p q given) (LimitedStrains p q given) r o
   pub old : IsWithin p.dims (Con p.rows) (Con r.rows)
   pub keeps : HasPoint p → KeepsRows p r given
 
 -- the rows have a column for the constant and one for each dimension
-abbrev pub HaveColumns : ℕ → List Given → Type 0
-HaveColumns n given = (g : Given) → Contains given g → length g.row ≡ suc n
+abbrev pub HaveColumns : ℕ → List LinearRow → Type 0
+HaveColumns n given = (g : LinearRow) → Contains given g → length g.row ≡ suc n

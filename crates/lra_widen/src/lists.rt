@@ -1,16 +1,16 @@
 //! The constraints that widenings take in.
 
 ghost use Rattle.std.specs.Prelude.{◌≡◌, ◌++◌, ◌∷◌, [], suc, cond, length, map, Bool, List, IfOk, OnOk};
-ghost use Rattle.lra_linear.specs.Descriptions.{Con, Given};
-ghost use Rattle.lra_linear.specs.Kinds.{is_equality};
-ghost use Rattle.lra_linear.specs.OperationStrain.{tight_on, valid_on};
-ghost use Rattle.lra_linear.specs.Polyhedra.{IsPolyhedronOf};
-ghost use Rattle.lra_linear.specs.declared.Cause.TheVariants as of_cause;
+ghost use Rattle.lra_linear_spec.specs.Descriptions.{Con, LinearRow};
+ghost use Rattle.lra_linear_spec.specs.Kinds.{is_equality};
+ghost use Rattle.lra_linear_spec.specs.OperationStrain.{tight_on, valid_on};
+ghost use Rattle.lra_linear_spec.specs.Polyhedra.{IsPolyhedronOf};
+ghost use Rattle.lra_linear_spec.specs.declared.Cause.TheVariants as of_cause;
 ghost use Rattle.lra_sys.specs.Listed.{constraints};
 ghost use Rattle.lra_duality.specs.declared.inclusion.Inclusion.TheVariants.{Wide};
 ghost use Rattle.lra_duality.specs.Inclusions.{IsInclusion};
 ghost use Rattle.lra_poly.specs.Outcomes.{IfExact, IfFlagged};
-ghost use Rattle.lra_linear.specs.Widening.{is_tight};
+ghost use Rattle.lra_linear_spec.specs.Widening.{is_tight};
 ghost use Rattle.lra_widen.specs.Rank.{kept};
 ghost use Rattle.lra_duality.specs.Saturations.{saturated};
 ghost use Rattle.lra_widen.specs.Widenings.{PassesOnBoth};
@@ -20,7 +20,7 @@ use crate::validity::{holds_on_both, validity_on_both};
 use lra_bits::BitRow;
 use lra_cone::Loss;
 use lra_duality::mark_saturated;
-use lra_linear::{Cause, ConKind, Excess};
+use lra_linear_spec::{Cause, ConKind, Excess};
 use lra_poly::{Outcome, Poly};
 use lra_row::Row;
 use lra_sys::{ConSys, TOO_MANY_DIMENSIONS};
@@ -179,7 +179,7 @@ pub fn inclusion_loss(
 ) -> Result<Loss, AllocError>
     requires dims { q.now.dims ≡ p.now.dims }
     requires wide { IsInclusion q.now.rows p.now.generators (Wide generator row) }
-    ensures { IfOk result (λ loss. (given : List Given) → PassesOnBoth p.now q.now given loss) }
+    ensures { IfOk result (λ loss. (given : List LinearRow) → PassesOnBoth p.now q.now given loss) }
 {
     let (list, generators) = (q.rows(), p.generators());
     let (rows, kinds) = (list.rows(), list.kinds());

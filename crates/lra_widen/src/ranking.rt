@@ -2,8 +2,8 @@
 
 ghost use Rattle.std.specs.Prelude.{◌≡◌, ◌&&◌, cond, length, map, not, suc};
 ghost use Rattle.std.specs.List.{filter, list_any};
-ghost use Rattle.lra_linear.specs.Descriptions.{Given};
-ghost use Rattle.lra_linear.specs.Kinds.{is_equality};
+ghost use Rattle.lra_linear_spec.specs.Descriptions.{LinearRow};
+ghost use Rattle.lra_linear_spec.specs.Kinds.{is_equality};
 ghost use Rattle.lra_sys.specs.Listed.{constraints, generators};
 ghost use Rattle.lra_duality.specs.Saturations.{saturated, saturation_of};
 ghost use Rattle.lra_widen.specs.Rank.{equalities_from, free, held, holds_in_range, rank_of};
@@ -11,7 +11,7 @@ ghost use Rattle.lra_widen.specs.Saturated.{same_values, vanishes};
 
 use crate::validity::holds_in_range;
 use lra_bits::{BitRow, SatMatrix};
-use lra_linear::ConKind;
+use lra_linear_spec::ConKind;
 use lra_poly::Poly;
 use lra_row::Row;
 use lra_sys::{ConSys, GenSys};

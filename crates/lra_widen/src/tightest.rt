@@ -2,10 +2,10 @@
 
 ghost use Rattle.std.specs.Prelude.{◌≡◌, ◌≢◌, ℕ, IfErr, IfOk};
 ghost use Rattle.std.specs.List.{list_any};
-ghost use Rattle.lra_linear.specs.Descriptions.{Con};
-ghost use Rattle.lra_linear.specs.Kinds.{is_equality};
-ghost use Rattle.lra_linear.specs.Points.{IsWithin};
-ghost use Rattle.lra_linear.specs.Widening.{Limited};
+ghost use Rattle.lra_linear_spec.specs.Descriptions.{Con};
+ghost use Rattle.lra_linear_spec.specs.Kinds.{is_equality};
+ghost use Rattle.lra_linear_spec.specs.Points.{IsWithin};
+ghost use Rattle.lra_linear_spec.specs.Widening.{LimitedWidening};
 ghost use Rattle.lra_sys.specs.Listed.{constraints};
 ghost use Rattle.lra_poly.specs.Outcomes.{Becomes};
 ghost use Rattle.lra_widen.specs.Rank.{Falls};
@@ -15,7 +15,7 @@ ghost use Rattle.lra_widen.specs.Widenings.{IsOutside, IsRefusal};
 use crate::error::WidenError;
 use crate::lists::{given_loss, held_on_both, no_rows, push_if};
 use crate::widening::widen_limited_by;
-use lra_linear::ConKind;
+use lra_linear_spec::ConKind;
 use lra_poly::{Outcome, Poly};
 use lra_row::Row;
 use lra_sys::ConSys;
@@ -83,7 +83,7 @@ pub fn limited_by_tightest(
     requires second { q.now.dims ≡ p.now.dims }
     requires given { given.now.dims ≡ p.now.dims }
     requires within { IsWithin p.now.dims (Con p.now.rows) (Con q.now.rows) }
-    ensures becomes { IfOk result (λ r. Becomes p.now.dims (Limited p.now q.now (constraints given.now))
+    ensures becomes { IfOk result (λ r. Becomes p.now.dims (LimitedWidening p.now q.now (constraints given.now))
         (TightestStrains p.now q.now (constraints given.now)) r.0 r.1) }
     ensures old { IfOk result (λ r. IsWithin p.now.dims (Con p.now.rows) (Con r.0.rows)) }
     ensures falls { IfOk result (λ r. r.0 ≢ p.now → Falls p.now r.0 (constraints given.now)) }

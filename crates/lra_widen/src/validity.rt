@@ -2,13 +2,13 @@
 
 ghost use Rattle.std.specs.Prelude.{◌≡◌, ◌&&◌, ◌++◌, ◌⊎◌, suc, length};
 ghost use Rattle.std.specs.Option.{MatchOption};
-ghost use Rattle.lra_linear.specs.Kinds.{is_equality};
+ghost use Rattle.lra_linear_spec.specs.Kinds.{is_equality};
 ghost use Rattle.lra_sys.specs.Listed.{generators};
 ghost use Rattle.lra_widen.specs.Rank.{holds_in_range};
 ghost use Rattle.lra_widen.specs.Validity.{IsValidity};
 
 use lra_duality::accepts;
-use lra_linear::{ConKind, Excess};
+use lra_linear_spec::{ConKind, Excess};
 use lra_poly::Poly;
 use lra_row::Row;
 use lra_sys::GenSys;

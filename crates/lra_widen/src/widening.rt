@@ -1,11 +1,11 @@
 //! The standard and the limited widening (after Halbwachs 1979).
 
 ghost use Rattle.std.specs.Prelude.{◌≡◌, ◌≢◌, ℕ, List, [], IfOk, IfErr};
-ghost use Rattle.lra_linear.specs.Descriptions.{Con, Given};
-ghost use Rattle.lra_linear.specs.OperationStrain.{LimitedStrains, StandardStrains};
-ghost use Rattle.lra_linear.specs.Points.{IsEmptySet, IsWithin};
-ghost use Rattle.lra_linear.specs.Polyhedra.{IsPolyhedron};
-ghost use Rattle.lra_linear.specs.Widening.{Limited, Standard};
+ghost use Rattle.lra_linear_spec.specs.Descriptions.{Con, LinearRow};
+ghost use Rattle.lra_linear_spec.specs.OperationStrain.{LimitedStrains, StandardStrains};
+ghost use Rattle.lra_linear_spec.specs.Points.{IsEmptySet, IsWithin};
+ghost use Rattle.lra_linear_spec.specs.Polyhedra.{IsPolyhedron};
+ghost use Rattle.lra_linear_spec.specs.Widening.{LimitedWidening, StandardWidening};
 ghost use Rattle.lra_sys.specs.Listed.{constraints};
 ghost use Rattle.lra_poly.specs.Outcomes.{Becomes};
 ghost use Rattle.lra_widen.specs.Rank.{Falls};
@@ -88,9 +88,9 @@ pub fn widen_limited_by(
 pub fn standard(alloc: Global, p: &Poly, q: &Poly) -> Result<(Poly, Outcome), WidenError>
     requires { q.now.dims ≡ p.now.dims }
     ensures becomes { IfOk result (λ r.
-        Becomes p.now.dims (Standard p.now q.now) (StandardStrains p.now q.now) r.0 r.1) }
+        Becomes p.now.dims (StandardWidening p.now q.now) (StandardStrains p.now q.now) r.0 r.1) }
     ensures old { IfOk result (λ r. IsWithin p.now.dims (Con p.now.rows) (Con r.0.rows)) }
-    ensures falls { IfOk result (λ r. r.0 ≢ p.now → (given : List Given) → HaveColumns p.now.dims given →
+    ensures falls { IfOk result (λ r. r.0 ≢ p.now → (given : List LinearRow) → HaveColumns p.now.dims given →
         Falls p.now r.0 given) }
     ensures refused { IfErr result (IsRefusal p.now q.now) }
     ensures inside { IfOk result (λ _. (place : ℕ) → ¬ (IsOutside p.now q.now place)) }
@@ -112,7 +112,7 @@ pub fn limited(
 ) -> Result<(Poly, Outcome), WidenError>
     requires second { q.now.dims ≡ p.now.dims }
     requires given { given.now.dims ≡ p.now.dims }
-    ensures becomes { IfOk result (λ r. Becomes p.now.dims (Limited p.now q.now (constraints given.now))
+    ensures becomes { IfOk result (λ r. Becomes p.now.dims (LimitedWidening p.now q.now (constraints given.now))
         (LimitedStrains p.now q.now (constraints given.now)) r.0 r.1) }
     ensures old { IfOk result (λ r. IsWithin p.now.dims (Con p.now.rows) (Con r.0.rows)) }
     ensures falls { IfOk result (λ r. r.0 ≢ p.now → Falls p.now r.0 (constraints given.now)) }

@@ -3,7 +3,7 @@ use Rattle.std.proofs.Common.{◌≡◌, ◌∙◌, ◌<◌, ℕ, ℤ, List, len
 use Rattle.std.specs.Prelude.{slice_get}
 use Rattle.std.specs.List.{Contains}
 use Rattle.std.proofs.lemmas.Option.{same_Some}
-use Rattle.lra_linear.proofs.Membership.{map_from, map_has}
+use Rattle.lra_linear_spec.proofs.Membership.{map_from, map_has}
 use Rattle.lra_base.specs.declared.refusals.Place.{Place}
 use Rattle.lra_others.specs.Others.{Others}
 use Rattle.lra_box.specs.Content.{Content}

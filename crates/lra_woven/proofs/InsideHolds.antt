@@ -3,7 +3,7 @@ use Rattle.std.proofs.Common.{◌≡◌, ◌∙◌, ℕ, List, length, Option, S
 use Rattle.std.specs.Prelude.{slice_get}
 use Rattle.std.specs.List.{Contains}
 use Rattle.std.proofs.lemmas.Option.{same_Some, slice_get_read}
-use Rattle.lra_linear.proofs.Membership.{map_from}
+use Rattle.lra_linear_spec.proofs.Membership.{map_from}
 use Rattle.lra_base.specs.declared.refusals.Place.{Place}
 use Rattle.lra_domain.specs.Meaning.{Meaning}
 use Rattle.lra_domain.specs.Laws.{Laws}

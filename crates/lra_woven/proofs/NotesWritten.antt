@@ -6,7 +6,7 @@ use Rattle.std.specs.Option.{option_map}
 use Rattle.std.specs.List.{Contains}
 use Rattle.std.proofs.lemmas.Bool.Decides.{nat_tests}
 use Rattle.std.proofs.lemmas.Option.{same_Some, none-some, slice_get-map}
-use Rattle.lra_linear.proofs.Membership.{contains_cases, contains_none}
+use Rattle.lra_linear_spec.proofs.Membership.{contains_cases, contains_none}
 use Rattle.lra_box.specs.declared.interval.Interval.{Interval}
 use Rattle.lra_box.specs.Bounds.{InInterval}
 use Rattle.lra_box.specs.Content.{Content}

@@ -2,7 +2,7 @@
 use Rattle.std.proofs.Common.{rules, map, ◌≡◌, [], ◌∷◌, ◌++◌, ◌∙◌, append_assoc, FitsSigned}
 use Rattle.std.specs.Prelude.{neg_ℤ}
 use Rattle.std.specs.Int.{w128}
-use Rattle.lra_linear.specs.Range.{InRange}
+use Rattle.lra_linear_spec.specs.Range.{InRange}
 use Rattle.std.proofs.lemmas.List.Elements.{All-push}
 use Rattle.lra_box.proofs.bounds.opposite_row.Goals as goal
 

@@ -1,7 +1,7 @@
 -- Goals of `wide_row`: the form's coefficients, as wider numbers.
 use Rattle.std.proofs.Common.{rules, ◌≡◌, [], ◌∷◌, ◌++◌, ◌∙◌, List, ℤ, pos, get_or, sym, ap, FitsSigned}
 use Rattle.std.specs.Int.{w64}
-use Rattle.lra_linear.specs.Range.{InRange}
+use Rattle.lra_linear_spec.specs.Range.{InRange}
 use Rattle.std.proofs.lemmas.List.{take_more}
 use Rattle.std.proofs.lemmas.List.Elements.{All-push}
 use Rattle.lra_box.proofs.bounds.wide_row.Goals as goal

@@ -1,5 +1,5 @@
 use Rattle.std.proofs.Common.{◌≡◌, ◌+◌, ◌++◌, length, replicate}
-use Rattle.lra_linear.specs.declared.ConKind.TheVariants.{Eq}
+use Rattle.lra_linear_spec.specs.declared.ConKind.TheVariants.{Eq}
 use Rattle.lra_box.specs.Bounds.{AllSound}
 use Rattle.lra_box.specs.Parts.{equal_rows}
 use Rattle.lra_box.proofs.parts.push_equals.Given as goal

@@ -2,7 +2,7 @@
 use Rattle.std.proofs.Common.{arith, sym, subst, Err, None}
 use Rattle.lra_base.specs.declared.refusals.Place.{Place}
 use Rattle.lra_base.proofs.Limit.{limit_is, taken}
-use Rattle.lra_linear.proofs.Polyhedra.{con_gen}
+use Rattle.lra_linear_spec.proofs.Polyhedra.{con_gen}
 use Rattle.lra_duality.proofs.GreatestValues.{maximum_tells}
 use Rattle.lra_duality.proofs.InclusionLemmas.{inclusion_tells}
 use Rattle.lra_script.specs.ScriptText.{lines}

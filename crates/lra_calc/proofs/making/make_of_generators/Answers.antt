@@ -1,7 +1,7 @@
 -- Goals of `make_of_generators`: the polyhedron of the points that the generators generate.
 use Rattle.std.proofs.Common.{map, ◌∙◌}
-use Rattle.lra_linear.specs.Descriptions.{Gen as generated_by}
-use Rattle.lra_linear.specs.OperationStrain.{FromGeneratorsStrains}
+use Rattle.lra_linear_spec.specs.Descriptions.{Gen as generated_by}
+use Rattle.lra_linear_spec.specs.OperationStrain.{FromGeneratorsStrains}
 use Rattle.lra_script.specs.LineForms.{given_of}
 use Rattle.lra_script.specs.Views.{generator_view}
 use Rattle.lra_calc.proofs.MakingLemmas.{made_as_told, map_map}

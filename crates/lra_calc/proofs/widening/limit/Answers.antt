@@ -1,9 +1,9 @@
 -- Goals of `limit`: the first set widened by the second, with those of the given constraints that are valid on
 -- both.
 use Rattle.std.proofs.Common.{List, map, subst, Ok}
-use Rattle.lra_linear.specs.Descriptions.{Given}
-use Rattle.lra_linear.specs.OperationStrain.{LimitedStrains}
-use Rattle.lra_linear.specs.Widening.{Limited}
+use Rattle.lra_linear_spec.specs.Descriptions.{LinearRow}
+use Rattle.lra_linear_spec.specs.OperationStrain.{LimitedStrains}
+use Rattle.lra_linear_spec.specs.Widening.{LimitedWidening}
 use Rattle.lra_sys.specs.Listed.{constraints}
 use Rattle.lra_script.specs.Views.{constraint_of}
 use Rattle.lra_calc.specs.MadeSets.{IsLimited}
@@ -17,8 +17,9 @@ returns-in-Ok-clause-gives c =
     let p = c.args.first.now in
     let q = c.args.second.now in
     let given = constraints c.in_ok-given.given in
-    subst (λ (gs : List Given). Widens p.dims p q (IsLimited p.dims gs p q) (Ok (made_of c.make_with.result))) c.in_ok-given.ensures.made
-    (made_widens p q c.in-Ok.polyhedron c.make_with.result.polyhedron (Limited p q given) (LimitedStrains p q given) c.in-Ok.outcome c.make_with.result.is_flagged c.make_with.ensures.polyhedron
+    subst (λ (gs : List LinearRow). Widens p.dims p q (IsLimited p.dims gs p q) (Ok (made_of c.make_with.result))) c.in_ok-given.ensures.made
+    (made_widens p q c.in-Ok.polyhedron c.make_with.result.polyhedron (LimitedWidening p q given) (LimitedStrains p q given) c.in-Ok.outcome c.make_with.result.is_flagged
+    c.make_with.ensures.polyhedron
     c.make_with.ensures.flagged c.make_with.ensures.formed c.in-Ok.ensures.becomes c.in-Ok.ensures.known)
 
 pub tell_outside-requires-clause-placed : goal.tell_outside-requires-clause-placed

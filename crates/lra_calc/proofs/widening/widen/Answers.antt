@@ -1,6 +1,6 @@
 -- Goals of `widen`: the first set widened by the second.
-use Rattle.lra_linear.specs.OperationStrain.{StandardStrains}
-use Rattle.lra_linear.specs.Widening.{Standard}
+use Rattle.lra_linear_spec.specs.OperationStrain.{StandardStrains}
+use Rattle.lra_linear_spec.specs.Widening.{StandardWidening}
 use Rattle.lra_calc.specs.MadeSets.{IsWidened}
 use Rattle.lra_calc.proofs.WidenLemmas.{made_widens, outside_widens, refusal_placed}
 use Rattle.lra_calc.proofs.widening.widen.Goals as goal
@@ -9,7 +9,7 @@ pub returns-in-Ok-clause-gives : goal.returns-in-Ok-clause-gives
 returns-in-Ok-clause-gives c =
     let p = c.args.first.now in
     let q = c.args.second.now in
-    made_widens p q c.in-Ok.polyhedron c.make_with.result.polyhedron (Standard p q) (StandardStrains p q) c.in-Ok.outcome c.make_with.result.is_flagged c.make_with.ensures.polyhedron
+    made_widens p q c.in-Ok.polyhedron c.make_with.result.polyhedron (StandardWidening p q) (StandardStrains p q) c.in-Ok.outcome c.make_with.result.is_flagged c.make_with.ensures.polyhedron
     c.make_with.ensures.flagged c.make_with.ensures.formed c.in-Ok.ensures.becomes c.in-Ok.ensures.known
 
 pub tell_outside-requires-clause-placed : goal.tell_outside-requires-clause-placed

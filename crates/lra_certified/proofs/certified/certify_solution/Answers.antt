@@ -1,7 +1,7 @@
 -- Goals of `certify_solution`: the lines behind the source, by what the iteration found of its program.
 use Rattle.std.proofs.Common.{◌≡◌, ◌∙◌, List, length, map, ap, subst}
 use Rattle.std.proofs.lemmas.List.{length-map}
-use Rattle.lra_linear.specs.Polyhedra.{Polyhedron, IsPolyhedron}
+use Rattle.lra_linear_spec.specs.Polyhedra.{Polyhedron, IsPolyhedron}
 use Rattle.std.specs.List.{AllByRecursion}
 use Rattle.lra_tree.specs.Views.{tree_view}
 use Rattle.lra_meaning.specs.Resolve.{resolve}

@@ -2,8 +2,8 @@
 use Rattle.std.proofs.Common.{◌≡◌, ◌∙◌, ◌<◌, List, length, sym, ap, arith}
 use Rattle.std.specs.Prelude.{Some, option_map}
 use Rattle.std.proofs.lemmas.Grind.{common_steps}
-use Rattle.lra_linear.specs.Descriptions.{Given}
-use Rattle.lra_linear.specs.declared.ConKind.{ConKind}
+use Rattle.lra_linear_spec.specs.Descriptions.{LinearRow}
+use Rattle.lra_linear_spec.specs.declared.ConKind.{ConKind}
 use Rattle.lra_sys.specs.Listed.{Listed, constraints}
 use Rattle.lra_certified.proofs.TakenSteps.{rows_kept}
 use Rattle.lra_certified.proofs.taken.state_of.Goals as goal
@@ -13,7 +13,7 @@ returns-in_ok-copy-clause-state c =
     let gens = c.generators.result.now in
     let long : length gens.kinds ≡ length gens.rows = sym (ap length c.kinds.ensures.kinds) ∙ c.kinds.ensures.len in
     let some : 0 < length gens.kinds = grind (arith, common_steps) in
-    ap (λ (rows : List Given). Some rows) (ap constraints c.in_ok-copy.ensures ∙ c.rows-rows.ensures.rows)
+    ap (λ (rows : List LinearRow). Some rows) (ap constraints c.in_ok-copy.ensures ∙ c.rows-rows.ensures.rows)
     ∙ sym (rows_kept gens c.args.value.now.generators c.args.value.now.rows long some c.generators.ensures.generators)
 
 pub returns-in_ok-copy-clause-dims : goal.returns-in_ok-copy-clause-dims
@@ -22,5 +22,5 @@ returns-in_ok-copy-clause-dims c =
     let long : length gens.kinds ≡ length gens.rows = sym (ap length c.kinds.ensures.kinds) ∙ c.kinds.ensures.len in
     let some : 0 < length gens.kinds = grind (arith, common_steps) in
     ap Some (ap (λ (l : Listed ConKind). l.dims) c.in_ok-copy.ensures ∙ c.rows-rows.ensures.dims)
-    ∙ sym (ap (option_map (λ (rows : List Given). c.args.value.now.dims))
+    ∙ sym (ap (option_map (λ (rows : List LinearRow). c.args.value.now.dims))
     (rows_kept gens c.args.value.now.generators c.args.value.now.rows long some c.generators.ensures.generators))

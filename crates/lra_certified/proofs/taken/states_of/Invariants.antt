@@ -1,7 +1,7 @@
 -- So far the states of the first values are there, with their dimensions.
 use Rattle.std.proofs.Common.{◌≡◌, map, take}
 use Rattle.std.specs.List.{AllByRecursion}
-use Rattle.lra_linear.specs.Polyhedra.{IsPolyhedron}
+use Rattle.lra_linear_spec.specs.Polyhedra.{IsPolyhedron}
 use Rattle.lra_verify.specs.PointViews.{state_view}
 use Rattle.lra_certified.specs.Taken.{state_by, dims_by, dims_in}
 use Rattle.lra_certified.proofs.taken.states_of.Given as goal

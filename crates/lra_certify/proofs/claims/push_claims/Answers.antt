@@ -1,9 +1,9 @@
 -- Goals of `push_claims`: the lines of the claims of all rows.
 use Rattle.std.proofs.Common.{◌+◌, [], drop, ap, arith, string_bytes}
 use Rattle.std.proofs.lemmas.List.{drop_all}
-use Rattle.lra_linear.specs.Cones.{with_row}
-use Rattle.lra_linear.specs.Descriptions.{system_of}
-use Rattle.lra_linear.specs.Kinds.{is_equality}
+use Rattle.lra_linear_spec.specs.Cones.{with_row}
+use Rattle.lra_linear_spec.specs.Descriptions.{system_of}
+use Rattle.lra_linear_spec.specs.Kinds.{is_equality}
 use Rattle.lra_sys.specs.Listed.{constraints}
 use Rattle.lra_lines.proofs.ShowSteps.{constraint_from}
 use Rattle.lra_lines.proofs.TrackSteps.{constraints_few}

@@ -1,7 +1,7 @@
 -- Goals of `push_rows`: the lines of the rows.
 use Rattle.std.proofs.Common.{◌+◌, ◌++◌, drop, arith, string_bytes}
 use Rattle.std.proofs.lemmas.List.{drop_all}
-use Rattle.lra_linear.specs.Kinds.{is_equality}
+use Rattle.lra_linear_spec.specs.Kinds.{is_equality}
 use Rattle.lra_sys.specs.Listed.{constraints}
 use Rattle.lra_lines.proofs.ShowSteps.{constraint_from}
 use Rattle.lra_lines.proofs.TrackSteps.{constraints_few}

@@ -1,6 +1,6 @@
 use Rattle.std.proofs.Common.{◌≡◌, take}
 use Rattle.lra_sys.specs.Listed.{given_by}
-use Rattle.lra_linear.specs.Kinds.{is_equality}
+use Rattle.lra_linear_spec.specs.Kinds.{is_equality}
 use Rattle.lra_cone.proofs.losses.given_rows.Given as goal
 
 abbrev pub invariant-loop-place : goal.invariant-loop-place

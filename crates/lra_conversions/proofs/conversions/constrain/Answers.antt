@@ -1,11 +1,11 @@
 -- Goals of `constrain`: the constraints of the generators, and the generators that were not taken in.
 use Rattle.std.proofs.Common.{◌≡◌, ◌∙◌, ap, refl, sym, subst, length, List, ℕ, ◌∷◌, []}
 use Rattle.std.specs.List.{Contains}
-use Rattle.lra_linear.specs.OperationStrain.{unit_row}
-use Rattle.lra_linear.specs.Vectors.{negated}
+use Rattle.lra_linear_spec.specs.OperationStrain.{unit_row}
+use Rattle.lra_linear_spec.specs.Vectors.{negated}
 use Rattle.lra_sys.specs.Listed.{constraints}
-use Rattle.lra_linear.specs.declared.GenKind.{GenKind}
-use Rattle.lra_linear.specs.declared.GenKind.TheVariants.{Point}
+use Rattle.lra_linear_spec.specs.declared.GenKind.{GenKind}
+use Rattle.lra_linear_spec.specs.declared.GenKind.TheVariants.{Point}
 use Rattle.lra_pair.proofs.ConstraintLists.{nothing_constrained, constrained}
 use Rattle.lra_cone.specs.Cones.{whole_space}
 use Rattle.lra_pair.proofs.GeneratorPairs.{taken}

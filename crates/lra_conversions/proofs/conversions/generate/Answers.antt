@@ -3,7 +3,7 @@ use Rattle.std.proofs.Common.{◌∙◌, ap, sym, subst, suc, ℕ, List}
 use Rattle.lra_sys.specs.Listed.{constraints, generators}
 use Rattle.lra_pair.proofs.GeneratorLists.{generated, same_points}
 use Rattle.lra_cone.proofs.Stepped.{lines_have_width, rays_have_width}
-use Rattle.lra_linear.specs.Descriptions.{Given}
+use Rattle.lra_linear_spec.specs.Descriptions.{LinearRow}
 use Rattle.lra_cone.specs.Conversions.{AreTried}
 use Rattle.lra_pair.proofs.PairLosses.{behind_positivity}
 use Rattle.lra_conversions.proofs.conversions.generate.Goals as goal
@@ -44,5 +44,5 @@ returns-clause-tried c =
     let losses = conversion.losses.items in
     let first = behind_positivity n c.dims-n.result c.in_ok-positive_cone.field-0.taken c.dims-n.ensures c.in_ok-positive_cone.ensures.taken in
     let dims = c.in_ok-conversion.ensures.dims ∙ c.in_ok-positive_cone.ensures.dims ∙ c.dims-n.ensures in
-    subst (λ (l : List Given). AreTried (suc n) l rows kept losses) first
+    subst (λ (l : List LinearRow). AreTried (suc n) l rows kept losses) first
     (subst (λ (m : ℕ). AreTried (suc m) c.in_ok-positive_cone.field-0.taken rows kept losses) dims c.in_ok-conversion.ensures.taken.tried)

@@ -2,7 +2,7 @@
 use Rattle.std.proofs.Common.{◌≡◌, ◌∙◌, ◌++◌, ap, length, replicate, subst, suc, sym, List, ℕ, ℤ}
 use Rattle.std.specs.List.{All}
 use Rattle.lra_bits.specs.Matrix.{Matrix}
-use Rattle.lra_linear.specs.declared.ConKind.TheVariants.{Ge}
+use Rattle.lra_linear_spec.specs.declared.ConKind.TheVariants.{Ge}
 use Rattle.lra_canon.specs.MarkedRows.{bits_in, rows_in}
 use Rattle.lra_canon.specs.declared.order.Marked.{Marked}
 use Rattle.lra_canon.proofs.MarkedOrder.{rows_length, rows_shuffled}

@@ -1,9 +1,9 @@
 -- Goals of `facet_cone`: the cone of what is valid on the generators, by the constraints; none where `cone_of` gives
 -- none, or there are as many constraints, equalities counted with them, as a cone may have rays.
 use Rattle.std.proofs.Common.{◌∙◌, ℕ, List, ap, refl, subst, sym}
-use Rattle.lra_linear.specs.Descriptions.{Given}
+use Rattle.lra_linear_spec.specs.Descriptions.{LinearRow}
 use Rattle.lra_cone.specs.Cones.{Shape, saturation_of as by_rays}
-use Rattle.lra_linear.specs.Kinds.{is_equality, is_line}
+use Rattle.lra_linear_spec.specs.Kinds.{is_equality, is_line}
 use Rattle.lra_sys.specs.Listed.{constraints, generators}
 use Rattle.lra_duality.specs.Onward.{MayGoOn}
 use Rattle.lra_duality.proofs.FacetLemmas.{seen, taken_generators}
@@ -28,7 +28,7 @@ pub of_lists-cone-requires-clause-saturation : goal.of_lists-cone-requires-claus
 of_lists-cone-requires-clause-saturation c =
     let given = c.args.by_generators.now in
     c.in_ok-rays.ensures.saturation ∙
-    ap (λ (l : List Given). by_rays l c.in_ok-rays.rays.items) (sym (taken_generators given c.in_ok-taken.taken c.in_ok-taken.ensures.rows c.in_ok-taken.ensures.kinds))
+    ap (λ (l : List LinearRow). by_rays l c.in_ok-rays.rays.items) (sym (taken_generators given c.in_ok-taken.taken c.in_ok-taken.ensures.rows c.in_ok-taken.ensures.kinds))
 
 pub returns-clause-taken : goal.returns-clause-taken
 returns-clause-taken c =

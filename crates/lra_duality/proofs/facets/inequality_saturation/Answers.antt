@@ -2,10 +2,10 @@
 use Rattle.std.proofs.Common.{◌≡◌, ◌<◌, ◌≤◌, ◌∙◌, List, [], ap, arith, get_or, length, refl, subst, sym}
 use Rattle.std.proofs.lemmas.List.{get_or_default}
 use Rattle.lra_bits.specs.Matrix.{Matrix}
-use Rattle.lra_linear.specs.Descriptions.{Given, rays_of}
-use Rattle.lra_linear.specs.Kinds.{is_equality}
-use Rattle.lra_linear.specs.declared.ConKind.{ConKind}
-use Rattle.lra_linear.specs.declared.ConKind.TheVariants.{Ge}
+use Rattle.lra_linear_spec.specs.Descriptions.{LinearRow, rays_of}
+use Rattle.lra_linear_spec.specs.Kinds.{is_equality}
+use Rattle.lra_linear_spec.specs.declared.ConKind.{ConKind}
+use Rattle.lra_linear_spec.specs.declared.ConKind.TheVariants.{Ge}
 use Rattle.lra_cone.specs.Cones.{saturation_of as by_rays}
 use Rattle.lra_sys.specs.Listed.{given_by}
 use Rattle.lra_duality.specs.Saturations.{saturation_of}
@@ -55,5 +55,5 @@ returns c generators e =
     let all : length list.rows ≤ c.loop-place.place = let past = c.loop-place-test.false in omega (arith, n, past) in
     let seen : m ≡ saturation_of (given_by is_equality list.rows kinds) generators = subst (λ (k : List ConKind). m ≡ saturation_of (given_by is_equality list.rows k) generators)
     (sym c.kinds-kinds.ensures.kinds) e in
-    seen_all is_equality (λ (l : List Given). made ≡ by_rays generators (rays_of l)) list.rows list.rows kinds list.kinds c.loop-place.place refl c.kinds-kinds.ensures.kinds n all
+    seen_all is_equality (λ (l : List LinearRow). made ≡ by_rays generators (rays_of l)) list.rows list.rows kinds list.kinds c.loop-place.place refl c.kinds-kinds.ensures.kinds n all
     (c.loop-place.invariant.rows generators seen)

@@ -1,10 +1,10 @@
 -- Goals of `inclusion_of`: whether each of the generators meets each of the constraints.
 use Rattle.std.proofs.Common.{arith, ap, sym, ◌∙◌, ◌≡◌, length, List}
 use Rattle.std.specs.List.{All}
-use Rattle.lra_linear.specs.Descriptions.{Given}
+use Rattle.lra_linear_spec.specs.Descriptions.{LinearRow}
 use Rattle.lra_sys.specs.declared.membership.Holds.TheVariants as holds
-use Rattle.lra_linear.specs.declared.GenKind.TheVariants.{Point}
-use Rattle.lra_linear.specs.Kinds.{is_line}
+use Rattle.lra_linear_spec.specs.declared.GenKind.TheVariants.{Point}
+use Rattle.lra_linear_spec.specs.Kinds.{is_line}
 use Rattle.lra_sys.specs.Listed.{constraints}
 use Rattle.lra_sys.specs.FirstPlaces.{FirstAt}
 use Rattle.lra_duality.specs.Inclusions.{Meets, MeetsAll, Passes, ViolatesFirst}
@@ -16,7 +16,7 @@ pub returns-in-No : goal.returns-in-No
 returns-in-No c =
     let rows = constraints c.args.list.now in
     let many : length c.kinds-kinds.result.now ≡ length c.rows-rows.result.now = c.kinds-kinds.ensures.len ∙ ap length (sym c.rows-rows.ensures.rows) in
-    seen_generators (λ (l : List Given). FirstAt (MeetsAll rows) (ViolatesFirst rows) l c.loop-place.place) c.args.by_generators.now c.rows-rows.result.now c.kinds-kinds.result.now
+    seen_generators (λ (l : List LinearRow). FirstAt (MeetsAll rows) (ViolatesFirst rows) l c.loop-place.place) c.args.by_generators.now c.rows-rows.result.now c.kinds-kinds.result.now
     c.rows-rows.ensures.rows c.kinds-kinds.ensures.kinds
     (first_at (MeetsAll rows) (ViolatesFirst rows) is_line c.rows-rows.result.now c.kinds-kinds.result.now c.loop-place.place c.index-rows-place.result Point many c.loop-place-test.true
     c.index-rows-place.is c.loop-place.invariant (record {
@@ -29,7 +29,7 @@ pub returns-in-Wide : goal.returns-in-Wide
 returns-in-Wide c =
     let rows = constraints c.args.list.now in
     let many : length c.kinds-kinds.result.now ≡ length c.rows-rows.result.now = c.kinds-kinds.ensures.len ∙ ap length (sym c.rows-rows.ensures.rows) in
-    seen_generators (λ (l : List Given). FirstAt (MeetsAll rows) (λ g. FirstAt (Meets g) (Passes g) rows c.in-Wide.row) l c.loop-place.place) c.args.by_generators.now c.rows-rows.result.now
+    seen_generators (λ (l : List LinearRow). FirstAt (MeetsAll rows) (λ g. FirstAt (Meets g) (Passes g) rows c.in-Wide.row) l c.loop-place.place) c.args.by_generators.now c.rows-rows.result.now
     c.kinds-kinds.result.now c.rows-rows.ensures.rows c.kinds-kinds.ensures.kinds
     (first_at (MeetsAll rows) (λ g. FirstAt (Meets g) (Passes g) rows c.in-Wide.row) is_line c.rows-rows.result.now c.kinds-kinds.result.now c.loop-place.place c.index-rows-place.result Point many
     c.loop-place-test.true c.index-rows-place.is c.loop-place.invariant

@@ -1,5 +1,5 @@
 use Rattle.std.specs.List.{All}
-use Rattle.lra_linear.specs.Kinds.{is_line}
+use Rattle.lra_linear_spec.specs.Kinds.{is_line}
 use Rattle.lra_sys.specs.Listed.{constraints}
 use Rattle.lra_duality.specs.Inclusions.{MeetsAll}
 use Rattle.lra_sys.proofs.FirstMembers.{front}

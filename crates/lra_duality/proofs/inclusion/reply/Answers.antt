@@ -2,9 +2,9 @@
 use Rattle.std.proofs.Common.{rules, arith, refl, FitsSigned}
 use Rattle.std.specs.Int.{w128}
 use Rattle.std.proofs.lemmas.Int.{to_z-of_z}
-use Rattle.lra_linear.specs.Descriptions.{Given}
-use Rattle.lra_linear.specs.declared.ConKind.TheVariants.{Ge}
-use Rattle.lra_linear.specs.Kinds.{is_equality}
+use Rattle.lra_linear_spec.specs.Descriptions.{LinearRow}
+use Rattle.lra_linear_spec.specs.declared.ConKind.TheVariants.{Ge}
+use Rattle.lra_linear_spec.specs.Kinds.{is_equality}
 use Rattle.lra_duality.specs.Inclusions.{Meets, Violates, Passes}
 use Rattle.lra_sys.proofs.FirstMembers.{member, first_at, one_more, all_gone_through, ok_of, err_of}
 use Rattle.lra_duality.proofs.inclusion.reply.Goals as goal
@@ -12,7 +12,7 @@ use Rattle.lra_duality.proofs.inclusion.reply.Goals as goal
 pub returns-then-not-accepts : goal.returns-then-not-accepts
 returns-then-not-accepts c =
     let fp : FitsSigned w128 c.in-Ok.product = search rules in
-    let g : Given = record { row = c.args.generator.now; equal = c.args.line } in
+    let g : LinearRow = record { row = c.args.generator.now; equal = c.args.line } in
     let said = simp to_z-of_z at c.if-not-accepts.ensures in
     first_at (Meets g) (Violates g) is_equality c.args.rows.now c.args.kinds.now c.loop-place.place c.index-rows-place.result Ge c.requires.kinds c.loop-place-test.true c.index-rows-place.is
     c.loop-place.invariant (
@@ -22,14 +22,14 @@ returns-then-not-accepts c =
 
 pub returns-in-Err : goal.returns-in-Err
 returns-in-Err c =
-    let g : Given = record { row = c.args.generator.now; equal = c.args.line } in
+    let g : LinearRow = record { row = c.args.generator.now; equal = c.args.line } in
     first_at (Meets g) (Passes g) is_equality c.args.rows.now c.args.kinds.now c.loop-place.place c.index-rows-place.result Ge c.requires.kinds c.loop-place-test.true c.index-rows-place.is
     c.loop-place.invariant (err_of c.in-Err.field-0 _ c.in-Err.ensures.exact)
 
 pub loop-place-preserved : goal.loop-place-preserved
 loop-place-preserved c =
     let fp : FitsSigned w128 c.in-Ok.product = search rules in
-    let g : Given = record { row = c.args.generator.now; equal = c.args.line } in
+    let g : LinearRow = record { row = c.args.generator.now; equal = c.args.line } in
     let said = simp to_z-of_z at c.if-not-accepts.ensures in
     one_more (Meets g) is_equality c.args.rows.now c.args.kinds.now c.loop-place.place c.index-rows-place.result Ge c.requires.kinds c.loop-place-test.true c.index-rows-place.is
     c.loop-place.invariant (
@@ -39,5 +39,5 @@ loop-place-preserved c =
 
 pub returns : goal.returns
 returns c =
-    let g : Given = record { row = c.args.generator.now; equal = c.args.line } in
+    let g : LinearRow = record { row = c.args.generator.now; equal = c.args.line } in
     all_gone_through (Meets g) is_equality c.args.rows.now c.args.kinds.now c.loop-place.place c.requires.kinds (omega arith) c.loop-place.invariant

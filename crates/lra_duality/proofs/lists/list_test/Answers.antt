@@ -1,6 +1,6 @@
 -- Goals of `list_test`: the constraint of the test, alone.
 use Rattle.std.proofs.Common.{◌≡◌, ◌∙◌, ◌++◌, ◌∷◌, [], List, ℤ, ap, length, refl, sym}
-use Rattle.lra_linear.specs.Kinds.{is_equality}
+use Rattle.lra_linear_spec.specs.Kinds.{is_equality}
 use Rattle.lra_sys.specs.Listed.{given_by}
 use Rattle.lra_lin.specs.Form.{form_row}
 use Rattle.lra_duality.specs.Rows.{test_row}

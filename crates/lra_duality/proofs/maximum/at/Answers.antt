@@ -2,7 +2,7 @@
 use Rattle.std.proofs.Common.{rules, FitsSigned}
 use Rattle.std.specs.Int.{w128}
 use Rattle.std.proofs.lemmas.Int.{to_z-of_z, quot_is, quot_fits}
-use Rattle.lra_linear.specs.Vectors.{entry, product}
+use Rattle.lra_linear_spec.specs.Vectors.{entry, product}
 use Rattle.lra_duality.specs.Maxima.{directed}
 use Rattle.lra_duality.proofs.MaximumLemmas.{in_lowest_terms, quotient_above, quotient_in_range}
 use Rattle.lra_duality.proofs.maximum.at.Goals as goal

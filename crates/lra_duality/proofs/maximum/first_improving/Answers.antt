@@ -1,9 +1,9 @@
 -- Goals of `first_improving`: the first ray along which the form grows, or line along which it changes.
 use Rattle.std.proofs.Common.{◌≡◌, ◌∙◌, ap, arith, false, length, List, refl, sym, true}
 use Rattle.std.specs.List.{All}
-use Rattle.lra_linear.specs.Descriptions.{Given}
-use Rattle.lra_linear.specs.Kinds.{is_line}
-use Rattle.lra_linear.specs.declared.GenKind.TheVariants.{Point}
+use Rattle.lra_linear_spec.specs.Descriptions.{LinearRow}
+use Rattle.lra_linear_spec.specs.Kinds.{is_line}
+use Rattle.lra_linear_spec.specs.declared.GenKind.TheVariants.{Point}
 use Rattle.lra_sys.specs.FirstPlaces.{FirstAt}
 use Rattle.lra_duality.specs.Maxima.{DoesNotImprove, Improves, StaysInRange, directed}
 use Rattle.lra_sys.proofs.FirstMembers.{all_gone_through, at_member, first_at, member, one_more}
@@ -29,7 +29,7 @@ returns-then-improves c =
     let before = DoesNotImprove (directed c.args.form.now c.args.is_opposite) in
     let here = Improves (directed c.args.form.now c.args.is_opposite) in
     let n : length kinds ≡ length rows = c.kinds-kinds.ensures.len ∙ ap length (sym c.rows-rows.ensures.rows) in
-    seen_generators (λ (l : List Given). FirstAt before here l c.loop-place.place) c.args.list.now rows kinds
+    seen_generators (λ (l : List LinearRow). FirstAt before here l c.loop-place.place) c.args.list.now rows kinds
     c.rows-rows.ensures.rows c.kinds-kinds.ensures.kinds
     (first_at before here is_line rows kinds c.loop-place.place c.index-rows-place.result Point n c.loop-place-test.true
     c.index-rows-place.is c.loop-place.invariant

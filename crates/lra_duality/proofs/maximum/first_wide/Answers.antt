@@ -1,9 +1,9 @@
 -- Goals of `first_wide`: the first generator with which the product passes the range.
 use Rattle.std.proofs.Common.{arith, List, sym}
 use Rattle.std.specs.List.{All}
-use Rattle.lra_linear.specs.Descriptions.{Given}
-use Rattle.lra_linear.specs.Kinds.{is_line}
-use Rattle.lra_linear.specs.declared.GenKind.TheVariants.{Point}
+use Rattle.lra_linear_spec.specs.Descriptions.{LinearRow}
+use Rattle.lra_linear_spec.specs.Kinds.{is_line}
+use Rattle.lra_linear_spec.specs.declared.GenKind.TheVariants.{Point}
 use Rattle.lra_sys.specs.FirstPlaces.{FirstAt}
 use Rattle.lra_duality.specs.Maxima.{StaysInRange, PassesRange, directed}
 use Rattle.lra_sys.proofs.FirstMembers.{first_at, one_more, all_gone_through, ok_of}
@@ -18,7 +18,7 @@ returns-in-None c =
     let passes = PassesRange (directed c.args.form.now c.args.is_opposite) in
     let n = many list rows c.kinds-kinds.result.now c.rows-rows.ensures.rows c.kinds-kinds.ensures.kinds
     c.kinds-kinds.ensures.len in
-    seen_rows (λ (l : List Given). FirstAt stays passes l c.loop-place.place) list rows c.rows-rows.ensures.rows
+    seen_rows (λ (l : List LinearRow). FirstAt stays passes l c.loop-place.place) list rows c.rows-rows.ensures.rows
     (first_at stays passes is_line rows list.kinds c.loop-place.place c.index-rows-place.result Point n
     c.loop-place-test.true c.index-rows-place.is c.loop-place.invariant c.in-None.ensures)
 

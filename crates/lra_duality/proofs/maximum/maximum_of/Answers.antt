@@ -1,9 +1,9 @@
 -- Goals of `maximum_of`: the greatest value on the points of the generators.
 use Rattle.std.proofs.Common.{◌<◌, ap, length, subst, sym, ℕ}
 use Rattle.std.specs.List.{All}
-use Rattle.lra_linear.specs.Kinds.{is_line}
+use Rattle.lra_linear_spec.specs.Kinds.{is_line}
 use Rattle.lra_sys.specs.Listed.{generators}
-use Rattle.lra_linear.specs.declared.GenKind.TheVariants.{Point}
+use Rattle.lra_linear_spec.specs.declared.GenKind.TheVariants.{Point}
 use Rattle.lra_duality.specs.Maxima.{StaysInRange, directed}
 use Rattle.lra_sys.proofs.FirstMembers.{at_member}
 use Rattle.lra_duality.proofs.MaximumLemmas.{greatest_there, many, row_there, rows_seen}

@@ -1,8 +1,8 @@
 -- Goals of `place_of_greatest`: the first point at which the form's value is the greatest.
 use Rattle.std.proofs.Common.{arith, refl}
 use Rattle.std.specs.List.{All}
-use Rattle.lra_linear.specs.Kinds.{is_line}
-use Rattle.lra_linear.specs.declared.GenKind.TheVariants.{Point}
+use Rattle.lra_linear_spec.specs.Kinds.{is_line}
+use Rattle.lra_linear_spec.specs.declared.GenKind.TheVariants.{Point}
 use Rattle.lra_duality.specs.Maxima.{StaysInRange, directed}
 use Rattle.lra_sys.proofs.FirstMembers.{at_member}
 use Rattle.lra_duality.proofs.MaximumLemmas.{best_found, best_kept, best_taken, many, rows_seen}

@@ -2,8 +2,8 @@
 use Rattle.std.proofs.Common.{ap, arith, get_or, length, pos, sym, true, List, ℤ, [], ◌∙◌, ◌≡◌}
 use Rattle.std.specs.Ordering.{int_eq}
 use Rattle.std.proofs.lemmas.List.{get_or_default}
-use Rattle.lra_linear.specs.Kinds.{is_line}
-use Rattle.lra_linear.specs.Vectors.{product}
+use Rattle.lra_linear_spec.specs.Kinds.{is_line}
+use Rattle.lra_linear_spec.specs.Vectors.{product}
 use Rattle.lra_steps.proofs.Filling.{filled_more}
 use Rattle.lra_steps.proofs.Thirds.{filled_skip}
 use Rattle.lra_duality.proofs.SaturationLemmas.{filled_saturated}

@@ -1,7 +1,7 @@
 -- Goals of `lines_among`: the lines among the generators.
 use Rattle.std.proofs.Common.{◌≡◌, ◌∙◌, ap, length, sym}
-use Rattle.lra_linear.specs.Kinds.{is_line}
-use Rattle.lra_linear.specs.declared.GenKind.TheVariants.{Point}
+use Rattle.lra_linear_spec.specs.Kinds.{is_line}
+use Rattle.lra_linear_spec.specs.declared.GenKind.TheVariants.{Point}
 use Rattle.lra_duality.proofs.StartLemmas.{line_more, line_left}
 use Rattle.lra_duality.proofs.start.lines_among.Goals.{then-goes_both_ways+in_ok-copy+in_ok-push, else-goes_both_ways}
 use Rattle.lra_duality.proofs.start.lines_among.Goals as goal

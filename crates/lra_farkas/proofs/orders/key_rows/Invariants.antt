@@ -1,6 +1,6 @@
 use Rattle.std.proofs.Common.{◌≡◌, suc, map, take, length}
 use Rattle.std.specs.List.{All}
-use Rattle.lra_linear.specs.Kinds.{is_equality}
+use Rattle.lra_linear_spec.specs.Kinds.{is_equality}
 use Rattle.lra_sys.specs.Listed.{given_by}
 use Rattle.lra_farkas.specs.KeyedRows.{given_of}
 use Rattle.lra_farkas.specs.declared.orders.Keyed.{Keyed}

@@ -1,7 +1,7 @@
 -- Goals of `unkey_rows`: the rows, without what decided their places.
 use Rattle.std.proofs.Common.{◌≡◌, ℤ, List, suc, map, length, ap, sym, ◌∙◌, subst, arith}
 use Rattle.std.proofs.lemmas.List.{take_all}
-use Rattle.lra_linear.specs.declared.ConKind.{ConKind}
+use Rattle.lra_linear_spec.specs.declared.ConKind.{ConKind}
 use Rattle.lra_multipliers.proofs.ListedKinds.{kinds_pushed}
 use Rattle.lra_farkas.specs.KeyedRows.{given_of}
 use Rattle.lra_farkas.specs.declared.orders.Keyed.{Keyed}

@@ -1,7 +1,7 @@
 use Rattle.std.proofs.Common.{◌≡◌, ◌++◌, length}
 use Rattle.std.specs.Prelude.{neg_ℤ}
 use Rattle.std.specs.List.{All}
-use Rattle.lra_linear.specs.Range.{InRange}
+use Rattle.lra_linear_spec.specs.Range.{InRange}
 use Rattle.lra_flow.specs.Given.{row_of}
 use Rattle.lra_forms.proofs.thresholds.row_less.Given as goal
 

@@ -1,9 +1,9 @@
 -- Goals of `convert_image`: the image, where the generators are converted.
 use Rattle.std.proofs.Common.{arith, inl, inr, suc, subst, List}
-use Rattle.lra_linear.specs.CheckedArithmetic.{checked_product}
-use Rattle.lra_linear.specs.Descriptions.{Con, Given}
-use Rattle.lra_linear.specs.OperationStrain.{FormingPasses, ImageStrains, mapped}
-use Rattle.lra_linear.specs.SetOperations.{Forget, Image}
+use Rattle.lra_linear_spec.specs.CheckedArithmetic.{checked_product}
+use Rattle.lra_linear_spec.specs.Descriptions.{Con, LinearRow}
+use Rattle.lra_linear_spec.specs.OperationStrain.{FormingPasses, ImageStrains, mapped}
+use Rattle.lra_linear_spec.specs.SetOperations.{Forget, Image}
 use Rattle.lra_images.proofs.AssignedSets.{image_forgets, image_taken}
 use Rattle.lra_images.proofs.GivenUp.{forgotten_for_image}
 use Rattle.lra_poly.proofs.TakenGenerators.{Takes, taken_becomes, taken_inside}
@@ -43,5 +43,5 @@ returns-in_ok-give_up-in-Err-clause-becomes c =
     let loss = c.in-Err.loss in
     let passes = rw c.in-Err.is at c.in_ok-list.ensures.lost in
     forgotten_for_image k row p c.give_up.new.p loss (omega arith)
-    (inl (subst (λ (l : List Given). FormingPasses (λ g. checked_product row g.row) l loss) c.generators.ensures.generators passes))
+    (inl (subst (λ (l : List LinearRow). FormingPasses (λ g. checked_product row g.row) l loss) c.generators.ensures.generators passes))
     c.in_ok-give_up-in-Err.ensures.forgotten

@@ -2,9 +2,9 @@
 use Rattle.std.proofs.Common.{◌≡◌, ◌∙◌, suc, subst, List}
 use Rattle.std.specs.Prelude.{IfNone, IfSome}
 use Rattle.std.specs.List.{Contains}
-use Rattle.lra_linear.specs.CheckedArithmetic.{checked_substitution}
-use Rattle.lra_linear.specs.Descriptions.{Given}
-use Rattle.lra_linear.specs.OperationStrain.{FormingPasses, substituted_rows}
+use Rattle.lra_linear_spec.specs.CheckedArithmetic.{checked_substitution}
+use Rattle.lra_linear_spec.specs.Descriptions.{LinearRow}
+use Rattle.lra_linear_spec.specs.OperationStrain.{FormingPasses, substituted_rows}
 use Rattle.lra_sys.specs.Listed.{constraints}
 use Rattle.lra_images.proofs.SubstitutedSets.{assignment_of, preimage_becomes}
 use Rattle.lra_images.proofs.KeptLists.{of_formed}
@@ -20,9 +20,9 @@ returns-clause-becomes c =
     let seen = c.rows.ensures.rows in
     preimage_becomes p c.in_ok-made.made k row c.in_ok-formed.formed.list.dims list c.in_ok-formed.formed.lost c.in_ok-made.outcome c.first_told.result
     (assignment_of p c.args.x row c.rows.ensures.canonical c.requires.column c.requires.form) (told.dims ∙ c.rows.ensures.dims) c.first_told.ensures.none c.first_told.ensures.some
-    (subst (λ (l : List Given). IfNone c.in_ok-formed.formed.lost (list ≡ substituted_rows k row l)) seen told.all)
-    (subst (λ (l : List Given). (g : Given) → Contains list g → Contains (substituted_rows k row l) g) seen told.among)
-    (subst (λ (l : List Given). IfSome c.in_ok-formed.formed.lost (FormingPasses (λ g. checked_substitution k row g.row) l)) seen told.lost)
+    (subst (λ (l : List LinearRow). IfNone c.in_ok-formed.formed.lost (list ≡ substituted_rows k row l)) seen told.all)
+    (subst (λ (l : List LinearRow). (g : LinearRow) → Contains list g → Contains (substituted_rows k row l) g) seen told.among)
+    (subst (λ (l : List LinearRow). IfSome c.in_ok-formed.formed.lost (FormingPasses (λ g. checked_substitution k row g.row) l)) seen told.lost)
     c.in_ok-made.ensures.becomes
 
 pub returns-clause-formed : goal.returns-clause-formed

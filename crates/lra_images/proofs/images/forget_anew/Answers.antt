@@ -1,8 +1,8 @@
 -- Goals of `forget_anew`: lets the coordinate x be anything, where the generators are converted from nothing.
 use Rattle.std.proofs.Common.{◌++◌, ◌∷◌, [], suc}
-use Rattle.lra_linear.specs.Descriptions.{Con, line}
-use Rattle.lra_linear.specs.OperationStrain.{ForgetStrains, unit_row}
-use Rattle.lra_linear.specs.SetOperations.{Forget}
+use Rattle.lra_linear_spec.specs.Descriptions.{Con, line}
+use Rattle.lra_linear_spec.specs.OperationStrain.{ForgetStrains, unit_row}
+use Rattle.lra_linear_spec.specs.SetOperations.{Forget}
 use Rattle.lra_images.proofs.ForgetLemmas.{forget_takes}
 use Rattle.lra_poly.proofs.TakenGenerators.{taken_becomes}
 use Rattle.lra_poly.proofs.UnitedLists.{tried_as}

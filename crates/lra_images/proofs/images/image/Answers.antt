@@ -1,8 +1,8 @@
 -- Goals of `image`: gives the coordinate x the form's value.
 use Rattle.std.proofs.Common.{suc, subst, List, ℤ}
-use Rattle.lra_linear.specs.Descriptions.{Con}
-use Rattle.lra_linear.specs.OperationStrain.{ImageStrains}
-use Rattle.lra_linear.specs.SetOperations.{Image}
+use Rattle.lra_linear_spec.specs.Descriptions.{Con}
+use Rattle.lra_linear_spec.specs.OperationStrain.{ImageStrains}
+use Rattle.lra_linear_spec.specs.SetOperations.{Image}
 use Rattle.lra_lin.specs.Form.{form_row}
 use Rattle.lra_poly.specs.Outcomes.{Becomes}
 use Rattle.lra_poly.proofs.PolyLemmas.{exactly}

@@ -1,9 +1,9 @@
 -- Goals of `preimage`: becomes the set of the points that are brought into it when the coordinate x is given the
 -- form's value.
 use Rattle.std.proofs.Common.{suc, subst, List, ℤ}
-use Rattle.lra_linear.specs.Descriptions.{Con}
-use Rattle.lra_linear.specs.OperationStrain.{PreimageStrains}
-use Rattle.lra_linear.specs.SetOperations.{Preimage}
+use Rattle.lra_linear_spec.specs.Descriptions.{Con}
+use Rattle.lra_linear_spec.specs.OperationStrain.{PreimageStrains}
+use Rattle.lra_linear_spec.specs.SetOperations.{Preimage}
 use Rattle.lra_poly.specs.Outcomes.{Becomes}
 use Rattle.lra_lin.specs.Form.{form_row}
 use Rattle.lra_poly.proofs.PolyLemmas.{exactly}

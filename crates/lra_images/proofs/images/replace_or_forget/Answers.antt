@@ -1,8 +1,8 @@
 -- Goals of `replace_or_forget`: becomes the polyhedron of generators that give no more than what some value of the
 -- coordinate x brings into it; where that is flagged, the coordinate x is forgotten.
 use Rattle.std.proofs.Common.{refl, rules, suc, sym, subst}
-use Rattle.lra_linear.specs.Polyhedra.{Polyhedron}
-use Rattle.lra_linear.specs.Strain.{Loss}
+use Rattle.lra_linear_spec.specs.Polyhedra.{Polyhedron}
+use Rattle.lra_linear_spec.specs.Strain.{Loss}
 use Rattle.lra_sys.specs.Listed.{generators}
 use Rattle.lra_poly.specs.Outcomes.{IsOfGenerators}
 use Rattle.lra_poly.proofs.MetRows.{never}

@@ -1,9 +1,9 @@
 -- Goals of `move_lists`: the image under the assignment of the form to the column, which the other form takes back.
 use Rattle.std.proofs.Common.{subst, sym}
 use Rattle.std.proofs.lemmas.Result.{err_from_is_err_and}
-use Rattle.lra_linear.specs.Descriptions.{Con}
-use Rattle.lra_linear.specs.Polyhedra.{IsPolyhedronOf}
-use Rattle.lra_linear.specs.SetOperations.{Image}
+use Rattle.lra_linear_spec.specs.Descriptions.{Con}
+use Rattle.lra_linear_spec.specs.Polyhedra.{IsPolyhedronOf}
+use Rattle.lra_linear_spec.specs.SetOperations.{Image}
 use Rattle.lra_sys.specs.Listed.{constraints, generators}
 use Rattle.lra_images.proofs.KeptLists.{generators_pass, rows_pass}
 use Rattle.lra_images.proofs.MovedPolyhedra.{image_limit, is_moving, moved_image}

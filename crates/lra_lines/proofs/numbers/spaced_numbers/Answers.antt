@@ -4,7 +4,7 @@ use Rattle.std.specs.Int.{w128}
 use Rattle.std.proofs.lemmas.Grind.{common_steps}
 use Rattle.std.proofs.lemmas.Int.{to_z-of_z}
 use Rattle.std.proofs.lemmas.List.Elements.{All-append, All-cons, All-nil}
-use Rattle.lra_linear.specs.Range.{InRange}
+use Rattle.lra_linear_spec.specs.Range.{InRange}
 use Rattle.lra_certificate.specs.Judged.{spaced_numbers, words_of}
 use Rattle.lra_certificate.proofs.NumberSteps.{number_more, too_many}
 use Rattle.lra_lines.proofs.numbers.spaced_numbers.Goals as goal

@@ -1,6 +1,6 @@
 use Rattle.std.proofs.Common.{◌≡◌, ◌≤◌, ◌-◌, length}
 use Rattle.std.specs.List.{All}
-use Rattle.lra_linear.specs.Range.{InRange}
+use Rattle.lra_linear_spec.specs.Range.{InRange}
 use Rattle.lra_certificate.specs.Judged.{spaced_numbers, words_of}
 use Rattle.lra_certificate.proofs.NumberSteps.{onto}
 use Rattle.lra_lines.proofs.numbers.spaced_numbers.Given as goal

@@ -1,5 +1,5 @@
 use Rattle.std.proofs.Common.{◌≡◌, ◌≤◌, ◌++◌, ◌-◌, length}
-use Rattle.lra_linear.specs.Vectors.{zeros}
+use Rattle.lra_linear_spec.specs.Vectors.{zeros}
 use Rattle.lra_lines.proofs.tracks.pad.Given as goal
 
 abbrev pub invariant-columns : goal.invariant-columns

@@ -1,6 +1,6 @@
 -- Goals of `push_rows`: the rows come last.
 use Rattle.std.proofs.Common.{◌++◌, List, arith, ap, refl, ◌∙◌}
-use Rattle.lra_linear.specs.Descriptions.{Given}
+use Rattle.lra_linear_spec.specs.Descriptions.{LinearRow}
 use Rattle.lra_sys.specs.Listed.{constraints}
 use Rattle.lra_lines.proofs.TrackSteps.{row_pushed, all_constraints}
 use Rattle.lra_multipliers.proofs.ListedKinds.{kinds_pushed}
@@ -21,4 +21,4 @@ returns-clause-rows c =
     let h = c.loop-place-test.false in
     let l = c.len-place-end.ensures.rows in
     c.loop-place.invariant.so_far ∙
-    ap (λ (gs : List Given). constraints c.args.all.now ++ gs) (all_constraints c.args.rows.now c.loop-place.place (omega (arith, h, l)))
+    ap (λ (gs : List LinearRow). constraints c.args.all.now ++ gs) (all_constraints c.args.rows.now c.loop-place.place (omega (arith, h, l)))

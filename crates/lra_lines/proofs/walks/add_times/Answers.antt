@@ -3,9 +3,9 @@ use Rattle.std.proofs.Common.{ℕ, ap, rules, to_z, ◌≡◌, ◌∙◌, sym, s
 use Rattle.std.specs.Int.{w128}
 use Rattle.std.proofs.lemmas.Int.{to_z-of_z}
 use Rattle.std.proofs.lemmas.Result.{IfOk-weaker, IfErr-weaker}
-use Rattle.lra_linear.specs.declared.Excess.{Excess}
-use Rattle.lra_linear.specs.CheckedArithmetic.{checked_added}
-use Rattle.lra_linear.proofs.CheckedArithmetic.{checked_blend_in_range}
+use Rattle.lra_linear_spec.specs.declared.Excess.{Excess}
+use Rattle.lra_linear_spec.specs.CheckedArithmetic.{checked_added}
+use Rattle.lra_linear_spec.proofs.CheckedArithmetic.{checked_blend_in_range}
 use Rattle.lra_row.specs.Rows.{IsExcessOf}
 use Rattle.lra_row.proofs.Combination.{blend_added}
 use Rattle.lra_certificate.proofs.WalkedRows.{added_value}

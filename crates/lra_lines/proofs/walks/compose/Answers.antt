@@ -3,9 +3,9 @@ use Rattle.std.proofs.Common.{rules, arith, suc, ◌+◌, ◌<◌, inl, inr, sym
 use Rattle.std.specs.Int.{w128}
 use Rattle.std.specs.Prelude.{slice_set}
 use Rattle.std.specs.List.{All}
-use Rattle.lra_linear.specs.Vectors.{zeros}
+use Rattle.lra_linear_spec.specs.Vectors.{zeros}
 use Rattle.std.proofs.lemmas.Int.{to_z-of_z}
-use Rattle.lra_linear.specs.Range.{InRange}
+use Rattle.lra_linear_spec.specs.Range.{InRange}
 use Rattle.lra_lines.proofs.WalkSteps.{begun, first_in, goes_on, passes_on, ends}
 use Rattle.lra_lines.proofs.walks.compose.Goals as goal
 use Rattle.lra_lines.proofs.walks.compose.Goals.{then-columns-test+else-place-width, else-columns-test}

@@ -1,9 +1,9 @@
 -- Goals of `assign_list`: the generators, each with the form's value as coordinate x; or what is told of the
 -- first with which a number passes.
 use Rattle.std.proofs.Common.{arith, refl, subst, suc, sym}
-use Rattle.lra_linear.specs.CheckedArithmetic.{checked_product}
-use Rattle.lra_linear.specs.SetOperations.{assigned}
-use Rattle.lra_linear.specs.declared.Excess as E
+use Rattle.lra_linear_spec.specs.CheckedArithmetic.{checked_product}
+use Rattle.lra_linear_spec.specs.SetOperations.{assigned}
+use Rattle.lra_linear_spec.specs.declared.Excess as E
 use Rattle.lra_sys.specs.Listed.{generators}
 use Rattle.lra_lists.specs.Forming.{IsLossAt}
 use Rattle.lra_lists.proofs.Assigning.{assigned_level}

@@ -1,5 +1,5 @@
 use Rattle.std.proofs.Common.{◌≡◌, map, suc, take}
-use Rattle.lra_linear.specs.SetOperations.{assigned}
+use Rattle.lra_linear_spec.specs.SetOperations.{assigned}
 use Rattle.lra_lists.proofs.forming.assign_list.Given as goal
 
 abbrev pub invariant-loop-place : goal.invariant-loop-place

@@ -2,7 +2,7 @@
 use Rattle.std.proofs.Common.{◌≡◌, ◌++◌, ◌∷◌, [], arith, pos, subst, sym}
 use Rattle.std.specs.List.{All}
 use Rattle.std.proofs.lemmas.List.Elements.{All-push}
-use Rattle.lra_linear.specs.Range.{InRange}
+use Rattle.lra_linear_spec.specs.Range.{InRange}
 use Rattle.lra_lists.proofs.PushedLists.{zero_pushed}
 use Rattle.lra_lists.proofs.lists.lengthen.Goals as goal
 

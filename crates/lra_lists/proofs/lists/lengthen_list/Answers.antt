@@ -1,6 +1,6 @@
 -- Goals of `lengthen_list`: the generators with k more columns of zeros.
 use Rattle.std.proofs.Common.{◌∙◌, ◌++◌, ◌<◌, ap, arith, length, subst, suc, sym, ℕ}
-use Rattle.lra_linear.specs.Vectors.{zeros}
+use Rattle.lra_linear_spec.specs.Vectors.{zeros}
 use Rattle.lra_lists.proofs.ListLemmas.{kinds_more, longer_entry, mapped_kinds, mapped_listed, mapped_more}
 use Rattle.lra_lists.proofs.PushedLists.{longer_length}
 use Rattle.lra_lists.proofs.lists.lengthen_list.Goals as goal

@@ -1,6 +1,6 @@
 use Rattle.std.proofs.Common.{◌≡◌, ◌++◌, length}
-use Rattle.lra_linear.specs.OperationStrain.{as_directions}
-use Rattle.lra_linear.specs.Kinds.{is_line}
+use Rattle.lra_linear_spec.specs.OperationStrain.{as_directions}
+use Rattle.lra_linear_spec.specs.Kinds.{is_line}
 use Rattle.lra_sys.specs.Listed.{FitKinds, generators}
 use Rattle.lra_sys.proofs.FirstMembers.{front}
 use Rattle.lra_lists.proofs.lists.push_directions.Given as goal

@@ -1,8 +1,8 @@
 -- Goals of `assign_canonically`: the generators with the form's value in the column, as a canonical list.
 use Rattle.std.proofs.Common.{◌+◌, arith, ◌∙◌}
 use Rattle.std.proofs.lemmas.Result.{err_from_is_err_and}
-use Rattle.lra_linear.specs.Kinds.{is_line}
-use Rattle.lra_linear.specs.SetOperations.{assigned}
+use Rattle.lra_linear_spec.specs.Kinds.{is_line}
+use Rattle.lra_linear_spec.specs.SetOperations.{assigned}
 use Rattle.lra_sys.specs.Listed.{generators}
 use Rattle.lra_lists.proofs.MovedLists.{KeepsWidth, lines_wide, rays_wide}
 use Rattle.lra_lists.proofs.TakenBack.{assigned_width}

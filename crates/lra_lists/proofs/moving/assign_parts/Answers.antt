@@ -1,10 +1,10 @@
 -- Goals of `assign_parts`: the generators with the form's value in the column, lines apart.
 use Rattle.std.proofs.Common.{◌≡◌, ◌∙◌, ap, length, sym}
 use Rattle.std.proofs.lemmas.Result.{err_from_is_err_and}
-use Rattle.lra_linear.specs.CheckedArithmetic.{checked_product}
-use Rattle.lra_linear.specs.Kinds.{is_line}
-use Rattle.lra_linear.specs.SetOperations.{assigned}
-use Rattle.lra_linear.specs.declared.GenKind.TheVariants.{Point}
+use Rattle.lra_linear_spec.specs.CheckedArithmetic.{checked_product}
+use Rattle.lra_linear_spec.specs.Kinds.{is_line}
+use Rattle.lra_linear_spec.specs.SetOperations.{assigned}
+use Rattle.lra_linear_spec.specs.declared.GenKind.TheVariants.{Point}
 use Rattle.lra_lists.proofs.MovedLists.{part_seen}
 use Rattle.lra_lists.proofs.MovingLosses.{some_passes}
 use Rattle.lra_lists.proofs.moving.assign_parts.Goals as goal

@@ -1,5 +1,5 @@
-use Rattle.lra_linear.specs.SetOperations.{assigned}
-use Rattle.lra_linear.specs.Kinds.{is_line}
+use Rattle.lra_linear_spec.specs.SetOperations.{assigned}
+use Rattle.lra_linear_spec.specs.Kinds.{is_line}
 use Rattle.lra_lists.proofs.MovedLists.{ArePartsOf}
 use Rattle.lra_lists.proofs.moving.assign_parts.Given as goal
 

@@ -1,5 +1,5 @@
-use Rattle.lra_linear.specs.Kinds.{is_equality}
-use Rattle.lra_linear.specs.Vectors.{substituted}
+use Rattle.lra_linear_spec.specs.Kinds.{is_equality}
+use Rattle.lra_linear_spec.specs.Vectors.{substituted}
 use Rattle.lra_lists.proofs.MovedLists.{ArePartsOf}
 use Rattle.lra_lists.proofs.moving.substitute_parts.Given as goal
 

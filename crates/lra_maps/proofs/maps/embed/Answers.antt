@@ -1,8 +1,8 @@
 -- Goals of `embed`: adds k dimensions, the last ones, in which the coordinates may be anything.
 use Rattle.std.proofs.Common.{◌+◌}
-use Rattle.lra_linear.specs.Descriptions.{Con}
-use Rattle.lra_linear.specs.OperationStrain.{EmbedStrains, embedded}
-use Rattle.lra_linear.specs.SetOperations.{Embed}
+use Rattle.lra_linear_spec.specs.Descriptions.{Con}
+use Rattle.lra_linear_spec.specs.OperationStrain.{EmbedStrains, embedded}
+use Rattle.lra_linear_spec.specs.SetOperations.{Embed}
 use Rattle.lra_maps.proofs.EmbeddedSets.{embed_takes}
 use Rattle.lra_poly.proofs.TakenGenerators.{taken_becomes}
 use Rattle.lra_poly.proofs.UnitedLists.{tried_as}

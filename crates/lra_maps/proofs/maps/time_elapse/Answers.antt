@@ -1,8 +1,8 @@
 -- Goals of `time_elapse`: lets time elapse.
 use Rattle.std.proofs.Common.{inl, refl}
-use Rattle.lra_linear.specs.Descriptions.{Con}
-use Rattle.lra_linear.specs.OperationStrain.{TimeElapseStrains}
-use Rattle.lra_linear.specs.SetOperations.{TimeElapse}
+use Rattle.lra_linear_spec.specs.Descriptions.{Con}
+use Rattle.lra_linear_spec.specs.OperationStrain.{TimeElapseStrains}
+use Rattle.lra_linear_spec.specs.SetOperations.{TimeElapse}
 use Rattle.lra_poly.proofs.PolyLemmas.{exactly}
 use Rattle.lra_maps.proofs.ElapsedSets.{elapse_copied, elapse_nothing}
 use Rattle.lra_maps.proofs.maps.time_elapse.Goals as goal

@@ -1,6 +1,6 @@
 -- Goals of `push_unequals`: adds the inequalities.
 use Rattle.std.proofs.Common.{rules, ◌-◌, ◌+◌, ◌*◌, ◌∙◌, ◌++◌}
-use Rattle.lra_linear.specs.declared.ConKind.TheVariants.{Ge}
+use Rattle.lra_linear_spec.specs.declared.ConKind.TheVariants.{Ge}
 use Rattle.lra_dbm.specs.Cells.{entry_at}
 use Rattle.lra_oct.specs.Parts.{kind_row, rows_with, unequal_rows}
 use Rattle.lra_oct.proofs.PartLemmas.{pushing_more, pushed_then, unequal_next}

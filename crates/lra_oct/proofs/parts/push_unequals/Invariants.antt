@@ -1,5 +1,5 @@
 use Rattle.std.proofs.Common.{◌≡◌, ◌-◌}
-use Rattle.lra_linear.specs.declared.ConKind.TheVariants.{Ge}
+use Rattle.lra_linear_spec.specs.declared.ConKind.TheVariants.{Ge}
 use Rattle.lra_dbm.specs.Cells.{entry_at}
 use Rattle.lra_oct.specs.Parts.{unequal_rows}
 use Rattle.lra_oct.proofs.PartLemmas.{Pushing}

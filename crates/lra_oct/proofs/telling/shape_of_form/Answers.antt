@@ -3,7 +3,7 @@ use Rattle.std.proofs.Common.{rules, arith, ◌≡◌, [], ◌∷◌, to_z, of_z
 use Rattle.std.specs.Int.{w64, w128}
 use Rattle.std.proofs.lemmas.List.{nil_from_length}
 use Rattle.std.proofs.lemmas.List.Elements.{All-cons, All-nil}
-use Rattle.lra_linear.specs.Range.{InRange}
+use Rattle.lra_linear_spec.specs.Range.{InRange}
 use Rattle.lra_oct.specs.Forms.{terms_from}
 use Rattle.lra_oct.proofs.FormLemmas.{read_all, read_more, shape_fits}
 use Rattle.lra_oct.proofs.telling.shape_of_form.Goals as goal

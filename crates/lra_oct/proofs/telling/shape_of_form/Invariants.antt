@@ -1,6 +1,6 @@
 use Rattle.std.proofs.Common.{◌≡◌, ◌+◌, length}
 use Rattle.std.specs.List.{All}
-use Rattle.lra_linear.specs.Range.{InRange}
+use Rattle.lra_linear_spec.specs.Range.{InRange}
 use Rattle.lra_oct.specs.Forms.{terms_from}
 use Rattle.lra_oct.proofs.FormLemmas.{ShapeRead}
 use Rattle.lra_oct.proofs.telling.shape_of_form.Given as goal

@@ -4,7 +4,7 @@ use Rattle.std.specs.Prelude.{option_map, IfOk}
 use Rattle.lra_operations.specs.GraphViews.{node_view}
 use Rattle.lra_program.specs.ProgramViews.{cond_view}
 use Rattle.lra_sys.specs.Listed.{Listed}
-use Rattle.lra_linear.specs.declared.ConKind.{ConKind}
+use Rattle.lra_linear_spec.specs.declared.ConKind.{ConKind}
 use Rattle.lra_flow.specs.Given.{given_rows}
 use Rattle.lra_flow.specs.Thresholds.{loop_rows, threshold_rows}
 use Rattle.lra_outcomes.proofs.GivenLoops.{rows_by_condition, rows_by_thresholds}

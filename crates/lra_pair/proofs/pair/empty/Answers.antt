@@ -1,7 +1,7 @@
 -- Goals of `empty`: the polyhedron without a point.
-use Rattle.lra_linear.specs.OperationStrain.{unit_row}
-use Rattle.lra_linear.specs.Vectors.{negated}
-use Rattle.lra_linear.specs.declared.ConKind.TheVariants.{Ge}
+use Rattle.lra_linear_spec.specs.OperationStrain.{unit_row}
+use Rattle.lra_linear_spec.specs.Vectors.{negated}
+use Rattle.lra_linear_spec.specs.declared.ConKind.TheVariants.{Ge}
 use Rattle.lra_pair.proofs.ConstraintLists.{nothing_is}
 use Rattle.lra_pair.proofs.KnownPairs.{nothing_known}
 use Rattle.lra_pair.proofs.PairLists.{empty_lists}

@@ -2,7 +2,7 @@
 use Rattle.std.proofs.Common.{◌∙◌, arith, ap, sym, length}
 use Rattle.std.proofs.Common.{◌<◌, ◌-◌}
 use Rattle.std.proofs.lemmas.Result.{IfOk-weaker}
-use Rattle.lra_linear.specs.Kinds.{is_equality}
+use Rattle.lra_linear_spec.specs.Kinds.{is_equality}
 use Rattle.lra_pair.specs.OwnLists.{IsOwnLoss}
 use Rattle.lra_pair.proofs.OwnRows.{some_rows}
 use Rattle.lra_pair.proofs.PairLosses.{own_loss_is}

@@ -2,12 +2,12 @@
 use Rattle.std.proofs.Common.{◌∙◌, ap, subst, List, ℕ, ◌∷◌, []}
 use Rattle.std.specs.List.{Contains}
 use Rattle.std.proofs.lemmas.Result.{IfOk-weaker}
-use Rattle.lra_linear.specs.Descriptions.{Gen, inequality}
-use Rattle.lra_linear.specs.OperationStrain.{FromGeneratorsStrains}
-use Rattle.lra_linear.specs.Polyhedra.{falsity}
+use Rattle.lra_linear_spec.specs.Descriptions.{Gen, inequality}
+use Rattle.lra_linear_spec.specs.OperationStrain.{FromGeneratorsStrains}
+use Rattle.lra_linear_spec.specs.Polyhedra.{falsity}
 use Rattle.lra_sys.specs.Listed.{generators}
-use Rattle.lra_linear.specs.declared.GenKind.{GenKind}
-use Rattle.lra_linear.specs.declared.GenKind.TheVariants.{Point}
+use Rattle.lra_linear_spec.specs.declared.GenKind.{GenKind}
+use Rattle.lra_linear_spec.specs.declared.GenKind.TheVariants.{Point}
 use Rattle.lra_pair.proofs.ConstraintLists.{no_point_given}
 use Rattle.lra_pair.proofs.MadeLemmas.{points_made, whole_made}
 use Rattle.lra_pair.proofs.PairLists.{empty_pair}

@@ -3,8 +3,8 @@ use Rattle.std.proofs.Common.{◌≡◌, ◌≢◌, arith, sym, subst, length, �
 use Rattle.std.specs.Vec.{vec_len}
 use Rattle.std.proofs.lemmas.Grind.{common_steps}
 use Rattle.std.proofs.lemmas.Result.{IfOk-weaker}
-use Rattle.lra_linear.specs.Descriptions.{Gen}
-use Rattle.lra_linear.specs.Points.{IsEmptySet}
+use Rattle.lra_linear_spec.specs.Descriptions.{Gen}
+use Rattle.lra_linear_spec.specs.Points.{IsEmptySet}
 use Rattle.lra_sys.specs.Listed.{generators}
 use Rattle.lra_pair.proofs.OwnRows.{none_of, some_of}
 use Rattle.lra_pair.proofs.GeneratorPairs.{all_taken, if_both, some_lost}

@@ -3,9 +3,9 @@
 use Rattle.std.proofs.Common.{◌≡◌, ◌≢◌, ◌∙◌, arith, length, subst, sym, IfSome, List, ℕ, []}
 use Rattle.std.specs.Vec.{vec_len}
 use Rattle.std.proofs.lemmas.Grind.{common_steps}
-use Rattle.lra_linear.specs.Descriptions.{Given, Gen}
-use Rattle.lra_linear.specs.Points.{IsEmptySet}
-use Rattle.lra_linear.specs.Polyhedra.{IsPolyhedronOf}
+use Rattle.lra_linear_spec.specs.Descriptions.{LinearRow, Gen}
+use Rattle.lra_linear_spec.specs.Points.{IsEmptySet}
+use Rattle.lra_linear_spec.specs.Polyhedra.{IsPolyhedronOf}
 use Rattle.lra_sys.specs.Listed.{constraints, generators}
 use Rattle.lra_pair.proofs.GeneratorPairs.{further_columns, further_rows, further_taken}
 use Rattle.lra_pair.proofs.OwnRows.{none_of, some_of}
@@ -33,7 +33,7 @@ convert_own_list-requires-clause-some c =
     let taken = further_taken more c.in_ok-rows.rows c.args.start conversion.cone (constraints conversion.kept) losses c.in_ok-rows.ensures.rows c.in_ok-rows.ensures.kinds
     c.in_ok-conversion.ensures.taken none in
     subst (λ (n : ℕ). ¬ (IsEmptySet n (Gen conversion.cone.taken))) (sym c.dims-n.ensures)
-    (subst (λ (l : List Given). ¬ (IsEmptySet more.dims (Gen l))) (sym taken) c.requires.some)
+    (subst (λ (l : List LinearRow). ¬ (IsEmptySet more.dims (Gen l))) (sym taken) c.requires.some)
 
 pub returns-clause-pair : goal.returns-clause-pair
 returns-clause-pair c =
@@ -45,7 +45,7 @@ returns-clause-pair c =
     let taken = further_taken more c.in_ok-rows.rows c.args.start conversion.cone (constraints conversion.kept) losses c.in_ok-rows.ensures.rows c.in_ok-rows.ensures.kinds
     c.in_ok-conversion.ensures.taken none in
     let pair = c.in_ok-pair.pair in
-    subst (λ (l : List Given). IfSome pair (IsPolyhedronOf more.dims (Gen l))) taken
+    subst (λ (l : List LinearRow). IfSome pair (IsPolyhedronOf more.dims (Gen l))) taken
     (subst (λ (n : ℕ). IfSome pair (IsPolyhedronOf n (Gen conversion.cone.taken))) c.dims-n.ensures c.in_ok-pair.ensures.pair)
 
 pub returns-then-not-is_empty-clause-none : goal.returns-then-not-is_empty-clause-none

@@ -1,7 +1,7 @@
 -- Goals of `grow_by_widening`: the growth by a widening with the join; all points where the join is flagged.
 use Rattle.std.proofs.Common.{rules, ◌≡◌}
 use Rattle.lra_domain.specs.declared.Exactness.TheVariants as degree
-use Rattle.lra_linear.specs.Kinds.{is_equality}
+use Rattle.lra_linear_spec.specs.Kinds.{is_equality}
 use Rattle.lra_sys.specs.Listed.{constraints}
 use Rattle.lra_widen.proofs.WideningLemmas.{seen_columns}
 use Rattle.lra_polydom.proofs.GrowthLemmas.{grown_by_widening, grown_up}

@@ -1,7 +1,7 @@
 -- Goals of `row_passes`: whether the product of the row with one of the generators does.
 use Rattle.std.proofs.Common.{ap, length, sym, ◌∙◌}
 use Rattle.std.specs.List.{list_any}
-use Rattle.lra_linear.specs.Kinds.{is_line}
+use Rattle.lra_linear_spec.specs.Kinds.{is_line}
 use Rattle.lra_polydom.specs.Growth.{product_passes}
 use Rattle.lra_polydom.proofs.ListLemmas.{any_given}
 use Rattle.lra_polydom.proofs.lists.row_passes.Goals as goal

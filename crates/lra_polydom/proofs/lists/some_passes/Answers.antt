@@ -1,7 +1,7 @@
 -- Goals of `some_passes`: whether the product of one of the constraints with one of the generators does.
 use Rattle.std.proofs.Common.{ap, length, sym, ◌∙◌}
 use Rattle.std.specs.List.{list_any}
-use Rattle.lra_linear.specs.Kinds.{is_equality}
+use Rattle.lra_linear_spec.specs.Kinds.{is_equality}
 use Rattle.lra_sys.specs.Listed.{generators}
 use Rattle.lra_polydom.specs.Growth.{row_passes}
 use Rattle.lra_polydom.proofs.ListLemmas.{any_given}

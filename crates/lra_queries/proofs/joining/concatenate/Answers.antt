@@ -1,6 +1,6 @@
 -- Goals of `concatenate`: the polyhedron of both, side by side.
 use Rattle.std.proofs.Common.{◌+◌, ◌∙◌, ap, arith, length}
-use Rattle.lra_linear.specs.Descriptions.{Con}
+use Rattle.lra_linear_spec.specs.Descriptions.{Con}
 use Rattle.lra_queries.specs.Joined.{Concatenated, concatenated}
 use Rattle.lra_queries.proofs.JoinedSets.{joined_takes}
 use Rattle.lra_queries.proofs.TakenRows.{rows_becomes}

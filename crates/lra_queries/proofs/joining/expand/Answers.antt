@@ -1,6 +1,6 @@
 -- Goals of `expand`: the points with a twin of a coordinate.
 use Rattle.std.proofs.Common.{◌+◌, ◌∙◌, ap, arith, length}
-use Rattle.lra_linear.specs.Descriptions.{Con}
+use Rattle.lra_linear_spec.specs.Descriptions.{Con}
 use Rattle.lra_queries.specs.Expanded.{Expanded, expanded}
 use Rattle.lra_queries.proofs.ExpandedSets.{expanded_takes, twin_length}
 use Rattle.lra_queries.proofs.TakenRows.{rows_becomes}

@@ -1,7 +1,7 @@
 -- Goals of `extend_with`: the points with one further coordinate that meet the constraint.
 use Rattle.std.proofs.Common.{◌+◌, ◌∙◌, ap, arith, length}
-use Rattle.lra_linear.specs.Descriptions.{Con, Given}
-use Rattle.lra_linear.specs.Kinds.{is_equality}
+use Rattle.lra_linear_spec.specs.Descriptions.{Con, LinearRow}
+use Rattle.lra_linear_spec.specs.Kinds.{is_equality}
 use Rattle.lra_queries.specs.Related.{Extended, extended}
 use Rattle.lra_queries.proofs.RelatedSets.{extended_takes}
 use Rattle.lra_queries.proofs.TakenRows.{rows_becomes}
@@ -17,7 +17,7 @@ push_moved-requires c =
 pub returns : goal.returns
 returns c =
     let p = c.args.p.now in
-    let g : Given = record { row = c.args.row.now; equal = is_equality c.args.kind } in
+    let g : LinearRow = record { row = c.args.row.now; equal = is_equality c.args.kind } in
     rows_becomes (p.dims + 1) (Extended p.dims g (Con p.rows)) (extended g p) c.push_copy.new.self
     c.in_ok-made.made c.in_ok-made.outcome
     (extended_takes p c.new-none.result c.in_ok-own.own c.push_copy.new.self c.rows.result.now

@@ -1,6 +1,6 @@
 -- Goals of `push_moved`: the constraints, then those of the list along these dimensions.
 use Rattle.std.proofs.Common.{◌∙◌, ap, arith, length, suc, sym}
-use Rattle.lra_linear.specs.declared.ConKind.TheVariants.{Ge}
+use Rattle.lra_linear_spec.specs.declared.ConKind.TheVariants.{Ge}
 use Rattle.lra_sys.specs.Listed.{constraints}
 use Rattle.lra_queries.proofs.JoinedSets.{all_moved, one_moved}
 use Rattle.lra_queries.proofs.MovedSets.{chosen_width}

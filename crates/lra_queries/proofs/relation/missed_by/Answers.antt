@@ -1,10 +1,10 @@
 -- Goals of `missed_by`: which signs the form misses with each of the generators.
 use Rattle.std.proofs.Common.{◌≡◌, ◌∙◌, ◌∷◌, [], ap, length, sym, List}
 use Rattle.std.proofs.lemmas.Result.{err_from_is_err_and}
-use Rattle.lra_linear.specs.Descriptions.{Given, inequality}
-use Rattle.lra_linear.specs.Kinds.{is_line}
-use Rattle.lra_linear.specs.OperationStrain.{ProductsPass}
-use Rattle.lra_linear.specs.declared.GenKind.TheVariants.{Point}
+use Rattle.lra_linear_spec.specs.Descriptions.{LinearRow, inequality}
+use Rattle.lra_linear_spec.specs.Kinds.{is_line}
+use Rattle.lra_linear_spec.specs.OperationStrain.{ProductsPass}
+use Rattle.lra_linear_spec.specs.declared.GenKind.TheVariants.{Point}
 use Rattle.lra_duality.specs.Maxima.{StaysInRange}
 use Rattle.lra_duality.proofs.InclusionLemmas.{seen_generators}
 use Rattle.lra_sys.proofs.FirstMembers.{one_more}
@@ -19,7 +19,7 @@ returns-in_err-here-clause-wide c =
     let p = err_from_is_err_and c.from_residual.result c.from_residual.ensures.1 in
     let excess = c.in_err-here.field-0.0 in
     rw (p.1, p.2)
-    (seen_generators (λ (l : List Given). ProductsPass (inequality c.args.form.now ∷ []) l excess) c.args.list.now rows
+    (seen_generators (λ (l : List LinearRow). ProductsPass (inequality c.args.form.now ∷ []) l excess) c.args.list.now rows
     kinds c.rows-rows.ensures.rows c.kinds-kinds.ensures.kinds
     (one_passes c.args.form.now rows kinds c.loop-place.place c.index-rows-place.result Point excess n
     c.loop-place-test.true c.index-rows-place.is c.in_err-here.ensures.wide))

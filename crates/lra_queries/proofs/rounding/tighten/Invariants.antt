@@ -1,5 +1,5 @@
 use Rattle.std.proofs.Common.{◌≡◌, length, take}
-use Rattle.lra_linear.specs.Kinds.{is_equality}
+use Rattle.lra_linear_spec.specs.Kinds.{is_equality}
 use Rattle.lra_sys.specs.Listed.{constraints, given_by}
 use Rattle.lra_queries.specs.Tightened.{AreTightened}
 use Rattle.lra_queries.proofs.rounding.tighten.Given as goal

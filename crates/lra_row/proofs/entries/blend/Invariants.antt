@@ -2,7 +2,7 @@
 use Rattle.std.proofs.Common.{◌≡◌, ◌+◌, ◌≤◌, length}
 use Rattle.std.specs.Slice.Iter.{iter_rest}
 use Rattle.std.specs.Iterator.Adapters.{zip_first, zip_second}
-use Rattle.lra_linear.specs.CheckedArithmetic.{checked_blend}
+use Rattle.lra_linear_spec.specs.CheckedArithmetic.{checked_blend}
 use Rattle.lra_row.proofs.CheckedRows.{prepend}
 use Rattle.lra_row.proofs.entries.blend.Given as goal
 

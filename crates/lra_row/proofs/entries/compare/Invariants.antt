@@ -1,5 +1,5 @@
 use Rattle.std.proofs.Common.{◌≡◌}
-use Rattle.lra_linear.specs.RowOrder.{row_cmp}
+use Rattle.lra_linear_spec.specs.RowOrder.{row_cmp}
 use Rattle.lra_row.proofs.OrderLemmas.{column_cmp}
 use Rattle.lra_row.proofs.entries.compare.Given as goal
 

@@ -1,5 +1,5 @@
 use Rattle.std.proofs.Common.{ℕ, drop, pos, ◌≤ℤ◌, unsigned_abs}
-use Rattle.lra_linear.specs.Range.{InRange}
+use Rattle.lra_linear_spec.specs.Range.{InRange}
 use Rattle.lra_row.proofs.RowDivisors.{IsGcdWith}
 use Rattle.lra_row.proofs.entries.divisor_of.Given as goal
 

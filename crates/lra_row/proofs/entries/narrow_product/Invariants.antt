@@ -3,7 +3,7 @@ use Rattle.std.proofs.Common.{◌≡◌, ℕ, ◌+◌, pos, length}
 use Rattle.std.specs.List.{All}
 use Rattle.std.specs.Slice.Iter.{iter_rest}
 use Rattle.std.specs.Iterator.Adapters.{zip_first, zip_second}
-use Rattle.lra_linear.specs.CheckedArithmetic.{checked_product_from}
+use Rattle.lra_linear_spec.specs.CheckedArithmetic.{checked_product_from}
 use Rattle.lra_row.specs.Words.{IsNarrow, IsNarrowSum}
 use Rattle.lra_row.proofs.entries.narrow_product.Given as goal
 

@@ -1,5 +1,5 @@
 use Rattle.std.proofs.Common.{◌≡◌, ◌++◌, drop}
-use Rattle.lra_linear.specs.Vectors.{negated}
+use Rattle.lra_linear_spec.specs.Vectors.{negated}
 use Rattle.lra_row.proofs.entries.negate_entries.Given as goal
 
 abbrev pub invariant-loop-x : goal.invariant-loop-x

@@ -1,5 +1,5 @@
 use Rattle.std.proofs.Common.{◌≡◌, drop}
-use Rattle.lra_linear.specs.Echelon.{pivot, lead_from}
+use Rattle.lra_linear_spec.specs.Echelon.{pivot, lead_from}
 use Rattle.lra_row.proofs.entries.pivot_of.Given as goal
 
 abbrev pub invariant-loop-j : goal.invariant-loop-j

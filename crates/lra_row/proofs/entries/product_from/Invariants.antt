@@ -1,7 +1,7 @@
 use Rattle.std.proofs.Common.{◌≡◌}
 use Rattle.std.specs.Slice.Iter.{iter_rest}
 use Rattle.std.specs.Iterator.Adapters.{zip_first, zip_second}
-use Rattle.lra_linear.specs.CheckedArithmetic.{checked_product_from}
+use Rattle.lra_linear_spec.specs.CheckedArithmetic.{checked_product_from}
 use Rattle.lra_row.proofs.entries.product_from.Given as goal
 
 abbrev pub invariant-loop-x : goal.invariant-loop-x

@@ -2,7 +2,7 @@
 use Rattle.std.proofs.Common.{rules, arith, ◌≡◌, ◌<◌, pos, ℤ, ◌-ℤ◌, FitsSigned, to_z, of_z, sym, ◌∙◌, ap, subst, ◌<ℤ◌}
 use Rattle.std.proofs.lemmas.Int.{ints, to_z-of_z}
 use Rattle.std.specs.Int.{w128}
-use Rattle.lra_linear.specs.Range.{InRange}
+use Rattle.lra_linear_spec.specs.Range.{InRange}
 use Rattle.lra_row.specs.Division.{floor_quotient}
 use Rattle.lra_row.proofs.Division.{floor_law, floor_above, floor_exact, floor_below, in_range_bits, lower_fits}
 use Rattle.lra_row.proofs.number.floor_div.Goals as goal

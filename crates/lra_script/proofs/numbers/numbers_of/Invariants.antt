@@ -1,6 +1,6 @@
 use Rattle.std.proofs.Common.{◌≡◌, drop}
 use Rattle.std.specs.List.{All}
-use Rattle.lra_linear.specs.Range.{InRange}
+use Rattle.lra_linear_spec.specs.Range.{InRange}
 use Rattle.lra_script.specs.ScriptText.{number_of}
 use Rattle.lra_script.specs.LineForms.{all_of}
 use Rattle.lra_script.specs.Views.{texts}

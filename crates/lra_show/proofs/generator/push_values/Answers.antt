@@ -1,6 +1,6 @@
 -- Goals of `push_values`: appends the values of the variables.
 use Rattle.std.proofs.Common.{arith, string_bytes, nat_abs, ap, ◌∙◌, ◌++◌, codes}
-use Rattle.lra_linear.specs.Vectors.{entry}
+use Rattle.lra_linear_spec.specs.Vectors.{entry}
 use Rattle.lra_show.specs.Texts.{value_text}
 use Rattle.lra_show.proofs.Values.{value_step, values_end}
 use Rattle.lra_show.proofs.generator.push_values.Goals as goal

@@ -1,6 +1,6 @@
 -- Goals of `push_each_row`: appends the lines of all rows.
 use Rattle.std.proofs.Common.{arith, get_or}
-use Rattle.lra_linear.specs.declared.ConKind.TheVariants as con
+use Rattle.lra_linear_spec.specs.declared.ConKind.TheVariants as con
 use Rattle.lra_show.proofs.Lists.{drop_front, drop_at, row_step, rows_end}
 use Rattle.lra_show.specs.Shown.{report_row}
 use Rattle.lra_show.specs.Lines.{row_line}

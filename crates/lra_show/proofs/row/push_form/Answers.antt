@@ -1,6 +1,6 @@
 -- Goals of `push_form`: appends the terms of the coefficients.
 use Rattle.std.proofs.Common.{refl, ◌+◌, arith, string_bytes, ap, ◌∙◌, ◌++◌, ◌∷◌, []}
-use Rattle.lra_linear.specs.Vectors.{entry}
+use Rattle.lra_linear_spec.specs.Vectors.{entry}
 use Rattle.lra_show.specs.Texts.{turned}
 use Rattle.lra_show.specs.Shown.{rest_text}
 use Rattle.lra_show.proofs.Terms.{term_step, terms_end}

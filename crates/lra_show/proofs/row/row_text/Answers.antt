@@ -2,8 +2,8 @@
 use Rattle.std.proofs.Common.{◌≡◌, ap, ap₂, sym, ◌∙◌, arith, rules, string_bytes, FitsSigned}
 use Rattle.std.specs.Int.{w128, cast_signed}
 use Rattle.std.proofs.lemmas.Int.{to_z-of_z}
-use Rattle.lra_linear.specs.Vectors.{entry}
-use Rattle.lra_linear.specs.declared.ConKind.{ConKind}
+use Rattle.lra_linear_spec.specs.Vectors.{entry}
+use Rattle.lra_linear_spec.specs.declared.ConKind.{ConKind}
 use Rattle.lra_show.specs.Texts.{relation_text}
 use Rattle.lra_show.proofs.RowTexts.{no_entry, pieces_make}
 use Rattle.lra_show.proofs.row.row_text.Goals as goal

@@ -1,6 +1,6 @@
 -- Goals of `push_plain_generators`: appends the generators, each on a line.
 use Rattle.std.proofs.Common.{arith, get_or}
-use Rattle.lra_linear.specs.declared.GenKind.TheVariants as gen
+use Rattle.lra_linear_spec.specs.declared.GenKind.TheVariants as gen
 use Rattle.lra_show.proofs.Lists.{drop_front, drop_at, row_step, rows_end, first_fits, further_fit}
 use Rattle.lra_show.specs.Shown.{report_generator}
 use Rattle.lra_show.specs.Whole.{plain_generator}

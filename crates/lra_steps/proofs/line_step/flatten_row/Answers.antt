@@ -2,7 +2,7 @@
 use Rattle.std.proofs.Common.{rules, FitsSigned, subst, List, ℤ}
 use Rattle.std.specs.Int.{w128}
 use Rattle.std.proofs.lemmas.Int.{to_z-of_z}
-use Rattle.lra_linear.specs.LowestTerms.{IsLowest}
+use Rattle.lra_linear_spec.specs.LowestTerms.{IsLowest}
 use Rattle.lra_steps.proofs.Flattening.{flattened_above, flattened_below, below_sum}
 use Rattle.lra_steps.proofs.line_step.flatten_row.Goals as goal
 use Rattle.lra_steps.proofs.line_step.flatten_row.Goals.{then-product-gt0+in_ok-flat, else-product-gt0+in_ok-flat-2}

@@ -2,7 +2,7 @@
 use Rattle.std.proofs.Common.{rules, FitsSigned, get_or, pos, ap, sym, ◌∙◌, cond, ◌+◌, Bool}
 use Rattle.std.specs.Int.{w128}
 use Rattle.std.proofs.lemmas.Int.{to_z-of_z}
-use Rattle.lra_linear.specs.Kinds.{is_equality}
+use Rattle.lra_linear_spec.specs.Kinds.{is_equality}
 use Rattle.lra_steps.proofs.PairLists.{counted, plus_none}
 use Rattle.lra_steps.proofs.ray_step.count_inside.Goals as goal
 use Rattle.lra_steps.proofs.ray_step.count_inside.Goals.{then-accepts, else-accepts}

@@ -1,5 +1,5 @@
 use Rattle.std.proofs.Common.{◌≡◌, ◌≤◌, take}
-use Rattle.lra_linear.specs.Kinds.{is_equality}
+use Rattle.lra_linear_spec.specs.Kinds.{is_equality}
 use Rattle.lra_steps.specs.Steps.{inside_count}
 use Rattle.lra_steps.proofs.ray_step.count_inside.Given as goal
 

@@ -3,7 +3,7 @@
 use Rattle.std.proofs.Common.{rules, arith, FitsSigned, get_or, pos}
 use Rattle.std.specs.Int.{w128}
 use Rattle.std.proofs.lemmas.Int.{to_z-of_z}
-use Rattle.lra_linear.specs.Kinds.{is_equality}
+use Rattle.lra_linear_spec.specs.Kinds.{is_equality}
 use Rattle.lra_steps.proofs.Filling.{marks_more, marks_end}
 use Rattle.lra_steps.proofs.ray_step.mark_outside.Goals as goal
 

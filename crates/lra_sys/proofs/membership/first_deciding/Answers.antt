@@ -2,8 +2,8 @@
 use Rattle.std.proofs.Common.{rules, arith, FitsSigned, ◌∷◌, refl}
 use Rattle.std.specs.Int.{w128}
 use Rattle.std.proofs.lemmas.Int.{to_z-of_z}
-use Rattle.lra_linear.specs.declared.ConKind.TheVariants.{Ge}
-use Rattle.lra_linear.specs.Kinds.{is_equality}
+use Rattle.lra_linear_spec.specs.declared.ConKind.TheVariants.{Ge}
+use Rattle.lra_linear_spec.specs.Kinds.{is_equality}
 use Rattle.lra_sys.specs.Membership.{HoldsInRange, FailsInRange, IsWide}
 use Rattle.lra_sys.proofs.FirstMembers.{member, first_at, one_more, all_gone_through, err_of}
 use Rattle.lra_sys.proofs.Places.{holds_here, fails_here}

@@ -1,6 +1,6 @@
 use Rattle.std.proofs.Common.{◌∷◌}
 use Rattle.std.specs.List.{All}
-use Rattle.lra_linear.specs.Kinds.{is_equality}
+use Rattle.lra_linear_spec.specs.Kinds.{is_equality}
 use Rattle.lra_sys.specs.Membership.{HoldsInRange}
 use Rattle.lra_sys.proofs.FirstMembers.{front}
 use Rattle.lra_sys.proofs.membership.first_deciding.Given as goal

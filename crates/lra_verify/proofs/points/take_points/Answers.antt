@@ -1,6 +1,6 @@
 -- Goals of `take_points`: what is said of each point, in order.
 use Rattle.std.proofs.Common.{◌≡◌, ◌++◌, ◌∷◌, ◌+◌, [], ℕ, List, Option, Some, length, map, drop, ap, sym, ◌∙◌, subst, arith, length-append, IfSome}
-use Rattle.lra_linear.specs.declared.ConKind.{ConKind}
+use Rattle.lra_linear_spec.specs.declared.ConKind.{ConKind}
 use Rattle.lra_sys.specs.Listed.{Listed}
 use Rattle.lra_operations.specs.GraphViews.{site_view}
 use Rattle.lra_certificate.specs.Judged.{judged_states}

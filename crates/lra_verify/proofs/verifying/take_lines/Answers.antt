@@ -1,6 +1,6 @@
 -- Goals of `take_lines`: all lines behind the source.
 use Rattle.std.proofs.Common.{◌≡◌, List, Option, Ok, map, sym, subst}
-use Rattle.lra_linear.specs.declared.ConKind.{ConKind}
+use Rattle.lra_linear_spec.specs.declared.ConKind.{ConKind}
 use Rattle.lra_sys.specs.Listed.{Listed}
 use Rattle.lra_operations.specs.GraphViews.{site_view}
 use Rattle.lra_certificate.specs.Judged.{judged, judged_states}

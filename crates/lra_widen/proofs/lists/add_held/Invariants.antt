@@ -1,5 +1,5 @@
 use Rattle.std.proofs.Common.{◌≡◌, ◌++◌}
-use Rattle.lra_linear.specs.Kinds.{is_equality}
+use Rattle.lra_linear_spec.specs.Kinds.{is_equality}
 use Rattle.lra_sys.proofs.FirstMembers.{front}
 use Rattle.lra_sys.specs.Listed.{constraints}
 use Rattle.lra_widen.specs.Rank.{kept}

@@ -1,10 +1,10 @@
 -- Goals of `given_loss`: the loss of the first given constraint that isn't known to fail and a product of which
 -- passes the range.
 use Rattle.std.proofs.Common.{arith, ap, sym, subst, ◌∙◌, ◌≡◌, ◌+◌, ◌++◌, length, List}
-use Rattle.lra_linear.specs.declared.ConKind.TheVariants.{Ge}
-use Rattle.lra_linear.specs.Descriptions.{Given}
-use Rattle.lra_linear.specs.Kinds.{is_equality}
-use Rattle.lra_linear.specs.OperationStrain.{valid_on}
+use Rattle.lra_linear_spec.specs.declared.ConKind.TheVariants.{Ge}
+use Rattle.lra_linear_spec.specs.Descriptions.{LinearRow}
+use Rattle.lra_linear_spec.specs.Kinds.{is_equality}
+use Rattle.lra_linear_spec.specs.OperationStrain.{valid_on}
 use Rattle.lra_sys.proofs.FirstMembers.{front, member}
 use Rattle.lra_sys.specs.Listed.{constraints}
 use Rattle.lra_widen.specs.Rank.{kept}
@@ -16,7 +16,7 @@ use Rattle.lra_widen.proofs.lists.given_loss.Goals as goal
 
 pub returns-in-Some-clause-flagged : goal.returns-in-Some-clause-flagged
 returns-in-Some-clause-flagged c =
-    let g : Given = member is_equality c.kinds-kinds.result.now c.loop-place.place c.index-rows-place.result Ge in
+    let g : LinearRow = member is_equality c.kinds-kinds.result.now c.loop-place.place c.index-rows-place.result Ge in
     given_passes c.args.p.now c.args.q.now (constraints c.args.given.now) g c.in-Some.excess c.in_ok-loss-in-Some.loss
     (row_among is_equality c.args.given.now c.rows-rows.result.now c.kinds-kinds.result.now c.loop-place.place c.index-rows-place.result Ge c.rows-rows.ensures.rows c.kinds-kinds.ensures.kinds
     c.kinds-kinds.ensures.len c.loop-place-test.true c.index-rows-place.is)
@@ -33,6 +33,6 @@ loop-place-preserved c =
 
 pub returns-clause-exact : goal.returns-clause-exact
 returns-clause-exact c =
-    subst (λ (l : List Given). kept c.args.p.now c.args.q.now l ≡ valid_on c.args.p.now c.args.q.now l)
+    subst (λ (l : List LinearRow). kept c.args.p.now c.args.q.now l ≡ valid_on c.args.p.now c.args.q.now l)
     (front_seen is_equality c.args.given.now c.rows-rows.result.now c.kinds-kinds.result.now c.loop-place.place c.rows-rows.ensures.rows c.kinds-kinds.ensures.kinds c.kinds-kinds.ensures.len
     (omega (arith, c.loop-place-test.false))) c.loop-place.invariant

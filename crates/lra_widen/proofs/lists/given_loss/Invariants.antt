@@ -1,6 +1,6 @@
 use Rattle.std.proofs.Common.{◌≡◌}
-use Rattle.lra_linear.specs.Kinds.{is_equality}
-use Rattle.lra_linear.specs.OperationStrain.{valid_on}
+use Rattle.lra_linear_spec.specs.Kinds.{is_equality}
+use Rattle.lra_linear_spec.specs.OperationStrain.{valid_on}
 use Rattle.lra_sys.proofs.FirstMembers.{front}
 use Rattle.lra_widen.specs.Rank.{kept}
 use Rattle.lra_widen.proofs.lists.given_loss.Given as goal

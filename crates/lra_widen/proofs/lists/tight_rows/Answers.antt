@@ -1,10 +1,10 @@
 -- Goals of `tight_rows`: the constraints of the second that are tight on the first.
 use Rattle.std.proofs.Common.{arith, ap, sym, ◌∙◌, ◌≡◌, ◌+◌, [], length, map, suc, List}
 use Rattle.std.specs.List.{filter}
-use Rattle.lra_linear.specs.declared.ConKind.TheVariants.{Ge}
-use Rattle.lra_linear.specs.Descriptions.{Given}
-use Rattle.lra_linear.specs.Kinds.{is_equality}
-use Rattle.lra_linear.specs.Widening.{is_tight}
+use Rattle.lra_linear_spec.specs.declared.ConKind.TheVariants.{Ge}
+use Rattle.lra_linear_spec.specs.Descriptions.{LinearRow}
+use Rattle.lra_linear_spec.specs.Kinds.{is_equality}
+use Rattle.lra_linear_spec.specs.Widening.{is_tight}
 use Rattle.lra_sys.proofs.FirstMembers.{front, member}
 use Rattle.lra_sys.specs.Listed.{constraints}
 use Rattle.lra_duality.specs.Saturations.{saturated}
@@ -19,8 +19,8 @@ is_tight-requires-clause-width c =
 pub is_tight-requires-clause-classes : goal.is_tight-requires-clause-classes
 is_tight-requires-clause-classes c =
     c.deref.ensures.value ∙ c.in_ok-classes.ensures ∙
-    ap (λ (l : List Given). map (λ (s : Given). saturated l s.row) (constraints c.rows-own.result.now)) c.generators-generators.ensures.generators ∙
-    ap (map (λ (s : Given). saturated c.args.p.now.generators s.row)) c.rows-own.ensures.rows
+    ap (λ (l : List LinearRow). map (λ (s : LinearRow). saturated l s.row) (constraints c.rows-own.result.now)) c.generators-generators.ensures.generators ∙
+    ap (map (λ (s : LinearRow). saturated c.args.p.now.generators s.row)) c.rows-own.ensures.rows
 
 pub push_if-requires : goal.push_if-requires
 push_if-requires c =

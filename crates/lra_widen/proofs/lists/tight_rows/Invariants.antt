@@ -1,7 +1,7 @@
 use Rattle.std.proofs.Common.{◌≡◌, ◌++◌, []}
 use Rattle.std.specs.List.{filter}
-use Rattle.lra_linear.specs.Kinds.{is_equality}
-use Rattle.lra_linear.specs.Widening.{is_tight}
+use Rattle.lra_linear_spec.specs.Kinds.{is_equality}
+use Rattle.lra_linear_spec.specs.Widening.{is_tight}
 use Rattle.lra_sys.proofs.FirstMembers.{front}
 use Rattle.lra_sys.specs.Listed.{constraints}
 use Rattle.lra_widen.proofs.lists.tight_rows.Given as goal

@@ -1,12 +1,12 @@
 use Rattle.std.proofs.Common.{◌≡◌, ◌≤◌, length}
 use Rattle.std.specs.List.{filter}
-use Rattle.lra_linear.specs.Descriptions.{Given}
-use Rattle.lra_linear.specs.Kinds.{is_equality}
+use Rattle.lra_linear_spec.specs.Descriptions.{LinearRow}
+use Rattle.lra_linear_spec.specs.Kinds.{is_equality}
 use Rattle.lra_sys.proofs.FirstMembers.{front}
 use Rattle.lra_widen.proofs.ranking.count_equalities.Given as goal
 
 abbrev pub invariant-loop-place : goal.invariant-loop-place
 invariant-loop-place l = record {
   few : l.count ≤ l.place;
-  counted : l.count ≡ length (filter (λ (g : Given). g.equal) (front is_equality l.list.rows l.kinds l.place));
+  counted : l.count ≡ length (filter (λ (g : LinearRow). g.equal) (front is_equality l.list.rows l.kinds l.place));
 }

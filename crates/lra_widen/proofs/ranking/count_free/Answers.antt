@@ -4,9 +4,9 @@ use Rattle.std.specs.Prelude.{slice_index_or}
 use Rattle.std.specs.List.{filter}
 use Rattle.std.proofs.lemmas.List.{get_or_default, length-map, take_all}
 use Rattle.lra_bits.specs.Matrix.{Matrix}
-use Rattle.lra_linear.specs.declared.ConKind.TheVariants.{Ge}
-use Rattle.lra_linear.specs.Descriptions.{Given}
-use Rattle.lra_linear.specs.Kinds.{is_equality}
+use Rattle.lra_linear_spec.specs.declared.ConKind.TheVariants.{Ge}
+use Rattle.lra_linear_spec.specs.Descriptions.{LinearRow}
+use Rattle.lra_linear_spec.specs.Kinds.{is_equality}
 use Rattle.lra_sys.proofs.FirstMembers.{member}
 use Rattle.lra_sys.specs.Listed.{constraints, given_by}
 use Rattle.lra_duality.proofs.SaturationLemmas.{given_length}
@@ -20,7 +20,7 @@ pub row-requires : goal.row-requires
 row-requires c =
     let list = c.rows-list.result.now in
     let long : length c.saturation-matrix.result.now.rows ≡ length c.rows-rows.result.now =
-    ap (λ (m : Matrix). length m.rows) c.saturation-matrix.ensures ∙ length-map c.args.p.now.rows (λ (s : Given). saturated c.args.p.now.generators s.row) ∙
+    ap (λ (m : Matrix). length m.rows) c.saturation-matrix.ensures ∙ length-map c.args.p.now.rows (λ (s : LinearRow). saturated c.args.p.now.generators s.row) ∙
     ap length (sym c.rows-list.ensures.rows) ∙ given_length is_equality list.rows list.kinds (ap length (sym c.kinds-kinds.ensures.kinds) ∙ c.kinds-kinds.ensures.len) ∙
     ap length (sym c.rows-rows.ensures.rows) in
     subst (λ (n : ℕ). c.loop-place.place < n) (sym long) c.loop-place-test.true
@@ -36,13 +36,14 @@ loop-place-preserved c =
     let kinds = c.kinds-kinds.result.now in
     let i = c.loop-place.place in
     let r = get_or rows i [] in
-    let g : Given = member is_equality kinds i r Ge in
+    let g : LinearRow = member is_equality kinds i r Ge in
     let inside : i < length rows = subst (λ (n : ℕ). i < n) (ap length c.rows-rows.ensures.rows) c.loop-place-test.true in
     let is : r ≡ get_or rows i r = get_or_default rows i [] r inside in
     let own : p.rows ≡ given_by is_equality rows kinds = sym c.rows-list.ensures.rows ∙ ap (given_by is_equality rows) (sym c.kinds-kinds.ensures.kinds) in
     let bits : c.row.result.now ≡ saturated p.generators r =
     c.row.ensures.row ∙ ap (λ (m : Matrix). slice_index_or m.rows i []) c.saturation-matrix.ensures ∙
-    ap (λ (l : List Given). slice_index_or (map (λ (s : Given). saturated p.generators s.row) l) i []) own ∙ bits_at is_equality p.generators rows kinds i r c.kinds-kinds.ensures.len inside is in
+    ap (λ (l : List LinearRow). slice_index_or (map (λ (s : LinearRow). saturated p.generators s.row) l) i []) own
+    ∙ bits_at is_equality p.generators rows kinds i r c.kinds-kinds.ensures.len inside is in
     record {
       few = count_few c.loop-place.count c.one_if-count.result i c.is_free.result c.loop-place.invariant.few c.one_if-count.ensures;
       counted = count_step (is_free p (held p given)) c.loop-place.count c.one_if-count.result (take i p.rows) (take (i + 1) p.rows) g c.is_free.result

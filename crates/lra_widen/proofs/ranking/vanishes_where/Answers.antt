@@ -2,8 +2,8 @@
 use Rattle.std.proofs.Common.{arith, ap, subst, sym, ◌∙◌, ◌≡◌, ◌≢◌, ◌<◌, [], get_or, length, map, false, true, Bool, List, ℕ, ℤ}
 use Rattle.std.proofs.lemmas.List.{get_or_default}
 use Rattle.lra_bits.specs.TruthValues.{value_at}
-use Rattle.lra_linear.specs.Descriptions.{Given}
-use Rattle.lra_linear.specs.Kinds.{is_line}
+use Rattle.lra_linear_spec.specs.Descriptions.{LinearRow}
+use Rattle.lra_linear_spec.specs.Kinds.{is_line}
 use Rattle.lra_duality.proofs.InclusionLemmas.{seen_generators}
 use Rattle.lra_duality.proofs.SaturationLemmas.{given_length}
 use Rattle.lra_widen.specs.Saturated.{same_values, vanishes}
@@ -30,7 +30,7 @@ returns-then-vanishes-get c =
     let many : length c.kinds-kinds.result.now ≡ length rows = c.kinds-kinds.ensures.len ∙ ap length (sym c.rows-rows.ensures.rows) in
     let wide : length c.args.bits.now ≡ length rows = c.requires.bits ∙
     given_length is_line c.args.list.now.rows c.args.list.now.kinds (ap length (sym c.kinds-kinds.ensures.kinds) ∙ c.kinds-kinds.ensures.len) ∙ ap length (sym c.rows-rows.ensures.rows) in
-    seen_generators (λ (l : List Given). false ≡ same_values c.args.bits.now (map (λ (g : Given). vanishes c.args.row.now g.row) l)) c.args.list.now rows c.kinds-kinds.result.now
+    seen_generators (λ (l : List LinearRow). false ≡ same_values c.args.bits.now (map (λ (g : LinearRow). vanishes c.args.row.now g.row) l)) c.args.list.now rows c.kinds-kinds.result.now
     c.rows-rows.ensures.rows c.kinds-kinds.ensures.kinds
     (differ_at is_line (vanishes c.args.row.now) rows c.kinds-kinds.result.now c.args.bits.now i many wide c.loop-place-test.true
     (apart_there (vanishes c.args.row.now) rows i r (value_at c.args.bits.now i) c.vanishes.result c.get.result c.loop-place-test.true c.index-rows-place.is c.vanishes.ensures c.get.ensures
@@ -40,6 +40,6 @@ pub returns : goal.returns
 returns c =
     let rows = c.rows-rows.result.now in
     let many : length c.kinds-kinds.result.now ≡ length rows = c.kinds-kinds.ensures.len ∙ ap length (sym c.rows-rows.ensures.rows) in
-    seen_generators (λ (l : List Given). true ≡ same_values c.args.bits.now (map (λ (g : Given). vanishes c.args.row.now g.row) l)) c.args.list.now rows c.kinds-kinds.result.now
+    seen_generators (λ (l : List LinearRow). true ≡ same_values c.args.bits.now (map (λ (g : LinearRow). vanishes c.args.row.now g.row) l)) c.args.list.now rows c.kinds-kinds.result.now
     c.rows-rows.ensures.rows c.kinds-kinds.ensures.kinds
     (agree_all is_line (vanishes c.args.row.now) rows c.kinds-kinds.result.now c.args.bits.now many (λ j m. c.loop-place.invariant j (omega (arith, m, c.loop-place-test.false))))

@@ -1,8 +1,8 @@
 -- Goals of `tightest`: of the constraints those than which none of the others is tighter.
 use Rattle.std.proofs.Common.{arith, ap, sym, not, ◌∙◌, ◌≡◌, ◌+◌, [], length, suc}
 use Rattle.std.specs.List.{filter}
-use Rattle.lra_linear.specs.declared.ConKind.TheVariants.{Ge}
-use Rattle.lra_linear.specs.Kinds.{is_equality}
+use Rattle.lra_linear_spec.specs.declared.ConKind.TheVariants.{Ge}
+use Rattle.lra_linear_spec.specs.Kinds.{is_equality}
 use Rattle.lra_sys.proofs.FirstMembers.{front, member}
 use Rattle.lra_sys.specs.Listed.{constraints}
 use Rattle.lra_widen.specs.Tightest.{is_loose}

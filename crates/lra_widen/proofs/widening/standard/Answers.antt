@@ -1,7 +1,7 @@
 -- Goals of `standard`: the standard widening of P by Q, which P lies in.
 use Rattle.lra_sys.specs.Listed.{constraints}
 use Rattle.std.proofs.Common.{List, subst}
-use Rattle.lra_linear.specs.Descriptions.{Given}
+use Rattle.lra_linear_spec.specs.Descriptions.{LinearRow}
 use Rattle.lra_widen.specs.StayingRows.{StaysOrIsGivenUp}
 use Rattle.lra_widen.proofs.WideningLemmas.{standard_becomes, standard_falls}
 use Rattle.lra_widen.proofs.widening.standard.Goals as goal
@@ -14,4 +14,4 @@ returns-clause-falls c = standard_falls c.args.p.now c.args.q.now c.in_ok-made.m
     c.in_ok-made.ensures.widened
 
 pub returns-clause-staying : goal.returns-clause-staying
-returns-clause-staying c = subst (λ (l : List Given). StaysOrIsGivenUp c.args.p.now c.args.q.now l c.in_ok-made.made c.in_ok-made.outcome) c.in_ok-none.ensures.none c.in_ok-made.ensures.staying
+returns-clause-staying c = subst (λ (l : List LinearRow). StaysOrIsGivenUp c.args.p.now c.args.q.now l c.in_ok-made.made c.in_ok-made.outcome) c.in_ok-none.ensures.none c.in_ok-made.ensures.staying

@@ -1,7 +1,7 @@
 -- Goals of `widen_limited_by`: the widening of the first by the second, limited by the given constraints.
 use Rattle.std.proofs.Common.{subst, refl, inl, inr, ℕ, []}
-use Rattle.lra_linear.specs.Descriptions.{Con}
-use Rattle.lra_linear.specs.Polyhedra.{IsPolyhedronOf}
+use Rattle.lra_linear_spec.specs.Descriptions.{Con}
+use Rattle.lra_linear_spec.specs.Polyhedra.{IsPolyhedronOf}
 use Rattle.lra_sys.specs.Listed.{constraints}
 use Rattle.lra_widen.proofs.WideningLemmas.{wide_inside, widened_empty, widened_wide, yes_inside}
 use Rattle.lra_widen.proofs.StayingLemmas.{staying}

@@ -4,7 +4,7 @@ use Rattle.std.specs.Map.{update}
 use Rattle.std.specs.BTreeMap.{get_by_text}
 use Rattle.std.proofs.lemmas.Map.Text.{btree_map_updates_text}
 use Rattle.std.proofs.Math.Path.{fun_ext}
-use Rattle.lra_linear.specs.Polyhedra.{Polyhedron}
+use Rattle.lra_linear_spec.specs.Polyhedra.{Polyhedron}
 use Rattle.lra_calc.specs.Script as script
 use Rattle.lra_calc.specs.Views.{session_of, made_of}
 use Rattle.lra_calc.proofs.SessionLemmas.{fit_with}

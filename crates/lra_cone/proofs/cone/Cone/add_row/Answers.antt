@@ -1,8 +1,8 @@
 -- Goals of `Cone::add_row`: takes a row in.
 use Rattle.std.proofs.Common.{sym, ◌∙◌, ap, subst, map, length, suc, ◌≡◌, List, ℤ, Some}
-use Rattle.lra_linear.specs.Kinds.{is_equality}
+use Rattle.lra_linear_spec.specs.Kinds.{is_equality}
 use Rattle.lra_steps.specs.Steps.{IsLastAcross}
-use Rattle.lra_linear.specs.Vectors.{product}
+use Rattle.lra_linear_spec.specs.Vectors.{product}
 use Rattle.lra_sys.specs.Listed.{constraints}
 use Rattle.lra_cone.specs.Cones.{Shape}
 use Rattle.lra_cone.proofs.Stepped.{lines_have_width, rays_have_width, none_across}

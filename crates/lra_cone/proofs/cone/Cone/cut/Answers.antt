@@ -5,10 +5,10 @@ use Rattle.std.proofs.lemmas.Result.{err_from_is_err_and}
 use Rattle.std.proofs.lemmas.List.{length-map}
 use Rattle.std.proofs.lemmas.List.Elements.{All-contains}
 use Rattle.lra_bits.specs.Matrix.{Matrix}
-use Rattle.lra_linear.specs.Vectors.{product}
-use Rattle.lra_linear.specs.Descriptions.{Given}
+use Rattle.lra_linear_spec.specs.Vectors.{product}
+use Rattle.lra_linear_spec.specs.Descriptions.{LinearRow}
 use Rattle.lra_sys.specs.Listed.{constraints}
-use Rattle.lra_linear.specs.Kinds.{is_equality}
+use Rattle.lra_linear_spec.specs.Kinds.{is_equality}
 use Rattle.lra_cone.specs.Cones.{Shape, IsCone, saturation_of, saturation_rows}
 use Rattle.lra_steps.specs.Pairs.{IsCut}
 use Rattle.lra_steps.specs.Thirds.{FewHaveThird}
@@ -25,7 +25,7 @@ cut_rays-requires-clause-matrix c =
     let s : Shape = record { dims = i.taken.dims; taken = constraints i.taken; lines = i.lines.items; rays = i.rays.items } in
     let k : IsCone s = c.self.invariant.0 in
     let row = c.args.row.now in
-    let g : Given = record { row = row; equal = is_equality c.args.kind } in
+    let g : LinearRow = record { row = row; equal = is_equality c.args.kind } in
     let products = c.args.products.now in
     let er : products ≡ map (product row) s.rays = c.requires.of_rays ∙ ap (λ (x : Shape). map (product row) x.rays) (sym c.self.view_is) in
     ap length er ∙ length-map s.rays (product row) ∙ sym (rows_length s.taken s.rays) ∙ sym (ap (λ (m : Matrix). length m.rows) c.self.invariant.1)
@@ -39,7 +39,7 @@ cut_rays-requires-clause-widths c =
     let s : Shape = record { dims = i.taken.dims; taken = constraints i.taken; lines = i.lines.items; rays = i.rays.items } in
     let k : IsCone s = c.self.invariant.0 in
     let row = c.args.row.now in
-    let g : Given = record { row = row; equal = is_equality c.args.kind } in
+    let g : LinearRow = record { row = row; equal = is_equality c.args.kind } in
     let products = c.args.products.now in
     let er : products ≡ map (product row) s.rays = c.requires.of_rays ∙ ap (λ (x : Shape). map (product row) x.rays) (sym c.self.view_is) in
     rays_have_one_width s c.deref.result.now k c.deref.ensures.value
@@ -69,7 +69,7 @@ returns-in_err-made-clause-strained c =
     let s : Shape = record { dims = i.taken.dims; taken = constraints i.taken; lines = i.lines.items; rays = i.rays.items } in
     let k : IsCone s = c.self.invariant.0 in
     let row = c.args.row.now in
-    let g : Given = record { row = row; equal = is_equality c.args.kind } in
+    let g : LinearRow = record { row = row; equal = is_equality c.args.kind } in
     let products = c.args.products.now in
     let er : products ≡ map (product row) s.rays = c.requires.of_rays ∙ ap (λ (x : Shape). map (product row) x.rays) (sym c.self.view_is) in
     let w : length row ≡ suc s.dims = c.requires.width ∙ ap (λ (z : Shape). suc z.dims) (sym c.self.view_is) in

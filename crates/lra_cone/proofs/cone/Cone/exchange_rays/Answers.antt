@@ -6,13 +6,13 @@ use Rattle.std.proofs.lemmas.Grind.{common_steps}
 use Rattle.std.proofs.lemmas.List.{length-map}
 use Rattle.std.proofs.lemmas.List.Elements.{All-contains}
 use Rattle.lra_bits.specs.Matrix.{Matrix, unmarked}
-use Rattle.lra_linear.specs.Vectors.{product}
-use Rattle.lra_linear.specs.Cones.{all_rows}
-use Rattle.lra_linear.specs.ConeStrain.{IsMet}
-use Rattle.lra_linear.specs.Descriptions.{Given}
+use Rattle.lra_linear_spec.specs.Vectors.{product}
+use Rattle.lra_linear_spec.specs.Cones.{all_rows}
+use Rattle.lra_linear_spec.specs.ConeStrain.{IsIntersection}
+use Rattle.lra_linear_spec.specs.Descriptions.{LinearRow}
 use Rattle.lra_sys.specs.Listed.{constraints, given_by}
-use Rattle.lra_linear.specs.Kinds.{is_equality}
-use Rattle.lra_linear.specs.declared.ConKind.{ConKind}
+use Rattle.lra_linear_spec.specs.Kinds.{is_equality}
+use Rattle.lra_linear_spec.specs.declared.ConKind.{ConKind}
 use Rattle.lra_cone.specs.Cones.{Shape, IsCone, IsTakenIn, saturation_of}
 use Rattle.lra_steps.specs.Pairs.{IsCut}
 use Rattle.lra_steps.proofs.Cuts.{exchanged_matrix, marks_many, tight_many}
@@ -27,7 +27,7 @@ exchange-requires-clause-width c =
     let i = c.self.inside in
     let s : Shape = record { dims = i.taken.dims; taken = constraints i.taken; lines = i.lines.items; rays = i.rays.items } in
     let row = c.args.row.now in
-    let g : Given = record { row = row; equal = is_equality c.args.kind } in
+    let g : LinearRow = record { row = row; equal = is_equality c.args.kind } in
     let products = map (product row) s.rays in
     let cut = c.args.made in
     let x : IsCut g.equal products s.rays i.saturation cut = subst (λ (m : Matrix). IsCut g.equal products s.rays m cut) (sym c.self.invariant.1)
@@ -39,7 +39,7 @@ exchange-requires-clause-each c =
     let i = c.self.inside in
     let s : Shape = record { dims = i.taken.dims; taken = constraints i.taken; lines = i.lines.items; rays = i.rays.items } in
     let row = c.args.row.now in
-    let g : Given = record { row = row; equal = is_equality c.args.kind } in
+    let g : LinearRow = record { row = row; equal = is_equality c.args.kind } in
     let products = map (product row) s.rays in
     let cut = c.args.made in
     let x : IsCut g.equal products s.rays i.saturation cut = subst (λ (m : Matrix). IsCut g.equal products s.rays m cut) (sym c.self.invariant.1)
@@ -53,7 +53,7 @@ exchange-requires-clause-marks c =
     let i = c.self.inside in
     let s : Shape = record { dims = i.taken.dims; taken = constraints i.taken; lines = i.lines.items; rays = i.rays.items } in
     let row = c.args.row.now in
-    let g : Given = record { row = row; equal = is_equality c.args.kind } in
+    let g : LinearRow = record { row = row; equal = is_equality c.args.kind } in
     let products = map (product row) s.rays in
     let cut = c.args.made in
     let x : IsCut g.equal products s.rays i.saturation cut = subst (λ (m : Matrix). IsCut g.equal products s.rays m cut) (sym c.self.invariant.1)
@@ -68,7 +68,7 @@ remove_marked-requires c =
     let s : Shape = record { dims = i.taken.dims; taken = constraints i.taken; lines = i.lines.items; rays = i.rays.items } in
     let k : IsCone s = c.self.invariant.0 in
     let row = c.args.row.now in
-    let g : Given = record { row = row; equal = is_equality c.args.kind } in
+    let g : LinearRow = record { row = row; equal = is_equality c.args.kind } in
     let products = map (product row) s.rays in
     let er : products ≡ map (product row) s.rays = refl in
     let cut = c.args.made in
@@ -86,7 +86,7 @@ invariant_of-self-in-Ok c =
     let s : Shape = record { dims = i.taken.dims; taken = constraints i.taken; lines = i.lines.items; rays = i.rays.items } in
     let k : IsCone s = c.self.invariant.0 in
     let row = c.args.row.now in
-    let g : Given = record { row = row; equal = is_equality c.args.kind } in
+    let g : LinearRow = record { row = row; equal = is_equality c.args.kind } in
     let products = map (product row) s.rays in
     let er : products ≡ map (product row) s.rays = refl in
     let cut = c.args.made in
@@ -116,7 +116,7 @@ invariant_of-self-in-Ok c =
     (cone_of s g s.lines fresh k met (ray_canonical s g fresh k flat case) (cut_few s g products i.saturation cut er x)) in (
       subst (λ (y : List (List ℤ)). IsCone (record { dims = c.push_copy.new.self.dims; taken = constraints c.push_copy.new.self; lines = s.lines; rays = y }))
           (sym new) cone,
-      cut_matrix s g products i.saturation cut c.exchange.new.self k er c.self.invariant.1 x exchanged ∙ ap (λ (y : List Given). saturation_of y fresh)
+      cut_matrix s g products i.saturation cut c.exchange.new.self k er c.self.invariant.1 x exchanged ∙ ap (λ (y : List LinearRow). saturation_of y fresh)
           (sym taken) ∙ ap (saturation_of (constraints c.push_copy.new.self)) (sym new),
       grind (arith, common_steps, ap length rows, ap length kinds, c.self.invariant.2),
     )
@@ -127,7 +127,7 @@ returns-in-Ok-clause-ok c =
     let s : Shape = record { dims = i.taken.dims; taken = constraints i.taken; lines = i.lines.items; rays = i.rays.items } in
     let k : IsCone s = c.self.invariant.0 in
     let row = c.args.row.now in
-    let g : Given = record { row = row; equal = is_equality c.args.kind } in
+    let g : LinearRow = record { row = row; equal = is_equality c.args.kind } in
     let products = map (product row) s.rays in
     let er : products ≡ map (product row) s.rays = refl in
     let cut = c.args.made in
@@ -160,7 +160,7 @@ returns-in-Ok-clause-ok c =
       dims = c.in_ok-push_copy.ensures.dims;
       taken = taken;
       met = subst
-          (λ (y : List (List ℤ)). IsMet (suc s.dims) g.equal row (all_rows s.lines s.rays) (all_rows s.lines y)) (sym new) met;
+          (λ (y : List (List ℤ)). IsIntersection (suc s.dims) g.equal row (all_rows s.lines s.rays) (all_rows s.lines y)) (sym new) met;
     })
 
 -- the row is taken out again

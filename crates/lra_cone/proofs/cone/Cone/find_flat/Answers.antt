@@ -5,7 +5,7 @@ use Rattle.std.proofs.lemmas.Int.{to_z-of_z}
 use Rattle.std.proofs.lemmas.Result.{err_from_is_err_and}
 use Rattle.std.proofs.lemmas.List.Elements.{Contains-get_or}
 use Rattle.lra_sys.specs.Listed.{constraints}
-use Rattle.lra_linear.specs.Kinds.{is_equality}
+use Rattle.lra_linear_spec.specs.Kinds.{is_equality}
 use Rattle.lra_cone.specs.Cones.{Shape}
 use Rattle.lra_steps.specs.Steps.{IsTurned, AreFlatLines, AreFlatRays, flat_matrix}
 use Rattle.lra_cone.specs.Flat.{AreFlat, IsFlatError}

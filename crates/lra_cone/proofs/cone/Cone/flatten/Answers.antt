@@ -4,12 +4,12 @@ use Rattle.std.proofs.Common.{arith, sym, ◌∙◌, ap, length, subst, ◌<◌,
 use Rattle.std.proofs.lemmas.Grind.{common_steps}
 use Rattle.std.proofs.lemmas.Result.{err_from_is_err_and}
 use Rattle.std.proofs.lemmas.List.{length-map}
-use Rattle.lra_linear.specs.Vectors.{product}
-use Rattle.lra_linear.specs.Descriptions.{Given}
+use Rattle.lra_linear_spec.specs.Vectors.{product}
+use Rattle.lra_linear_spec.specs.Descriptions.{LinearRow}
 use Rattle.lra_sys.specs.Listed.{constraints, given_by}
-use Rattle.lra_linear.specs.Kinds.{is_equality}
-use Rattle.lra_linear.specs.declared.ConKind.{ConKind}
-use Rattle.lra_linear.specs.ConeStrain.{row_limit}
+use Rattle.lra_linear_spec.specs.Kinds.{is_equality}
+use Rattle.lra_linear_spec.specs.declared.ConKind.{ConKind}
+use Rattle.lra_linear_spec.specs.ConeStrain.{row_limit}
 use Rattle.lra_cone.specs.Cones.{Shape, IsCone, IsTakenIn, saturation_of}
 use Rattle.lra_cone.specs.Flat.{AreFlat}
 use Rattle.lra_cone.proofs.FlatCones.{flat_error}
@@ -31,7 +31,7 @@ pub returns-then-count-gt-RAY_LIMIT-clause-strained : goal.returns-then-count-gt
 returns-then-count-gt-RAY_LIMIT-clause-strained c =
     let s = c.args.self.now in
     let row = c.args.row.now in
-    let g : Given = record { row = row; equal = is_equality c.args.kind } in
+    let g : LinearRow = record { row = row; equal = is_equality c.args.kind } in
     let lines = c.in_ok-flat.flat.lines.items in
     let rays = c.in_ok-flat.flat.rays.items in
     let f = c.in_ok-flat.ensures.flat in
@@ -47,7 +47,7 @@ invariant_of-self-2 c =
     let s : Shape = record { dims = i.taken.dims; taken = constraints i.taken; lines = i.lines.items; rays = i.rays.items } in
     let k : IsCone s = c.self.invariant.0 in
     let row = c.args.row.now in
-    let g : Given = record { row = row; equal = is_equality c.args.kind } in
+    let g : LinearRow = record { row = row; equal = is_equality c.args.kind } in
     let lines = c.in_ok-flat.flat.lines.items in
     let rays = c.in_ok-flat.flat.rays.items in
     let f = subst (λ (z : Shape). AreFlat g.equal z c.args.place c.args.of_lines.now c.args.of_rays.now lines rays c.in_ok-flat.flat.saturation) (sym c.self.view_is) c.in_ok-flat.ensures.flat in
@@ -63,7 +63,7 @@ invariant_of-self-2 c =
     constraints_push is_equality i.taken.rows i.taken.kinds row c.args.kind c.self.invariant.2 in (
       cone_again s g lines rays c.push_copy.new.self.dims (constraints c.push_copy.new.self) c.in_ok-push_copy.ensures.dims taken
           (cone_of s g lines rays k (line_met s g lines rays k w x) (line_canonical s g lines rays k x) few),
-      f.is_matrix ∙ line_matrix s g lines rays k x ∙ ap (λ (y : List Given). saturation_of y rays) (sym taken),
+      f.is_matrix ∙ line_matrix s g lines rays k x ∙ ap (λ (y : List LinearRow). saturation_of y rays) (sym taken),
       grind (arith, common_steps, ap length rows, ap length kinds, c.self.invariant.2),
     )
 
@@ -73,7 +73,7 @@ returns-clause-ok c =
     let s : Shape = record { dims = i.taken.dims; taken = constraints i.taken; lines = i.lines.items; rays = i.rays.items } in
     let k : IsCone s = c.self.invariant.0 in
     let row = c.args.row.now in
-    let g : Given = record { row = row; equal = is_equality c.args.kind } in
+    let g : LinearRow = record { row = row; equal = is_equality c.args.kind } in
     let lines = c.in_ok-flat.flat.lines.items in
     let rays = c.in_ok-flat.flat.rays.items in
     let f = subst (λ (z : Shape). AreFlat g.equal z c.args.place c.args.of_lines.now c.args.of_rays.now lines rays c.in_ok-flat.flat.saturation) (sym c.self.view_is) c.in_ok-flat.ensures.flat in

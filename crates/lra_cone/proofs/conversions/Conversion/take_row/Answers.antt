@@ -1,8 +1,8 @@
 -- Goals of `Conversion::take_row`: takes a row in, or leaves it out where it strains the cone.
 use Rattle.std.proofs.Common.{length, ◌∙◌, ap, sym, subst}
-use Rattle.lra_linear.specs.Descriptions.{Given}
+use Rattle.lra_linear_spec.specs.Descriptions.{LinearRow}
 use Rattle.lra_sys.specs.Listed.{constraints}
-use Rattle.lra_linear.specs.Kinds.{is_equality}
+use Rattle.lra_linear_spec.specs.Kinds.{is_equality}
 use Rattle.lra_cone.specs.Strains.{IsConeError}
 use Rattle.lra_cone.proofs.RowsTaken.{conversion_more, conversion_left_out}
 use Rattle.lra_sys.proofs.GivenRows.{constraints_pushed}
@@ -11,7 +11,7 @@ use Rattle.lra_cone.proofs.conversions.Conversion.take_row.Goals as goal
 pub returns-in_ok-push_copy-in-Ok-clause-taken : goal.returns-in_ok-push_copy-in-Ok-clause-taken
 returns-in_ok-push_copy-in-Ok-clause-taken c = λ first all x.
     let old = c.args.self.now in
-    let g : Given = record { row = c.args.row.now; equal = is_equality c.args.kind } in
+    let g : LinearRow = record { row = c.args.row.now; equal = is_equality c.args.kind } in
     conversion_more first all (constraints old.kept) old.cone c.add_row.new.self old.losses.items (constraints c.push_copy.new.self) g c.in-Ok.ensures.dims c.in-Ok.ensures.taken
     (constraints_pushed old.kept c.push_copy.new.self c.args.row.now c.args.kind
     (sym (ap length c.kinds-kinds.ensures.kinds) ∙ c.kinds-kinds.ensures.len) c.in_ok-push_copy-in-Ok.ensures.rows c.in_ok-push_copy-in-Ok.ensures.kinds) x
@@ -20,7 +20,7 @@ pub returns-in_ok-push-in-Err-Strained-clause-taken :
     goal.returns-in_ok-push-in-Err-Strained-clause-taken
 returns-in_ok-push-in-Err-Strained-clause-taken c = λ first all x.
     let old = c.args.self.now in
-    let g : Given = record { row = c.args.row.now; equal = is_equality c.args.kind } in
+    let g : LinearRow = record { row = c.args.row.now; equal = is_equality c.args.kind } in
     conversion_left_out first all (constraints old.kept) old.cone c.add_row.new.self old.losses.items c.push.new.self.items c.in_ok-loss-in-Err-Strained.loss g
     c.in-Err-Strained.strained _ (constraints c.taken.result.now) c.taken.ensures.cone c.in-Err-Strained.ensures.unchanged c.taken.ensures.taken c.in_ok-loss-in-Err-Strained.ensures
     c.cause.ensures c.in_ok-push-in-Err-Strained.ensures.items

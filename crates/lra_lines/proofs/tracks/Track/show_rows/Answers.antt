@@ -1,8 +1,8 @@
 -- Goals of `show_rows`: the claims of the rows, in order.
 use Rattle.std.proofs.Common.{◌+◌, drop, arith}
 use Rattle.std.proofs.lemmas.List.{drop_all}
-use Rattle.lra_linear.specs.Kinds.{is_equality}
-use Rattle.lra_linear.specs.Descriptions.{Given}
+use Rattle.lra_linear_spec.specs.Kinds.{is_equality}
+use Rattle.lra_linear_spec.specs.Descriptions.{LinearRow}
 use Rattle.lra_sys.specs.Listed.{constraints}
 use Rattle.lra_certificate.specs.Lines.{in_turn, left_at}
 use Rattle.lra_lines.specs.TrackViews.{row_by}
@@ -13,7 +13,7 @@ use Rattle.lra_lines.proofs.tracks.Track.show_rows.Goals as goal
 pub loop-place-preserved : goal.loop-place-preserved
 loop-place-preserved c =
     let all = constraints c.args.rows.now in
-    let g : Given = record { row = c.at-kind.result.0.now; equal = is_equality c.at-kind.result.1 } in
+    let g : LinearRow = record { row = c.at-kind.result.0.now; equal = is_equality c.at-kind.result.1 } in
     let first = constraint_from c.args.rows.now c.loop-place.place c.at-kind.result.0.now c.at-kind.result.1 c.at-kind.ensures.row c.at-kind.ensures.kind in
     record {
       so_far = turn_more (row_by c.args.self.now) g (drop (c.loop-place.place + 1) all) (drop c.loop-place.place all) (left_at c.args.bytes.now c.loop-place.next)
@@ -25,7 +25,7 @@ loop-place-preserved c =
 pub returns-in-Err-clause-told : goal.returns-in-Err-clause-told
 returns-in-Err-clause-told c =
     let all = constraints c.args.rows.now in
-    let g : Given = record { row = c.at-kind.result.0.now; equal = is_equality c.at-kind.result.1 } in
+    let g : LinearRow = record { row = c.at-kind.result.0.now; equal = is_equality c.at-kind.result.1 } in
     let first = constraint_from c.args.rows.now c.loop-place.place c.at-kind.result.0.now c.at-kind.result.1 c.at-kind.ensures.row c.at-kind.ensures.kind in
     turn_fault (row_by c.args.self.now) g (drop (c.loop-place.place + 1) all) (drop c.loop-place.place all) (left_at c.args.bytes.now c.loop-place.next)
     (in_turn (row_by c.args.self.now) all (left_at c.args.bytes.now c.args.at)) first c.loop-place.invariant.so_far c.in-Err.error c.in-Err.ensures.told

@@ -1,8 +1,8 @@
 -- Goals of `take_change`: one change more.
 use Rattle.std.proofs.Common.{◌∙◌, List, ℤ, ap, suc, refl, Result, Ok}
-use Rattle.lra_linear.specs.declared.Excess.{Excess}
-use Rattle.lra_linear.specs.CheckedArithmetic.{and_then}
-use Rattle.lra_linear.specs.Kinds.{is_equality}
+use Rattle.lra_linear_spec.specs.declared.Excess.{Excess}
+use Rattle.lra_linear_spec.specs.CheckedArithmetic.{and_then}
+use Rattle.lra_linear_spec.specs.Kinds.{is_equality}
 use Rattle.lra_domain.specs.Changes.{action_of}
 use Rattle.lra_domain.specs.declared.changes.Change.{Change}
 use Rattle.lra_multipliers.specs.Symbols.{tests_too, walked_by}

@@ -1,8 +1,8 @@
 -- Goals of `Poly::add_rows`: takes these constraints in.
 use Rattle.std.proofs.Common.{refl, subst, sym, ◌++◌, inl, inr}
-use Rattle.lra_linear.specs.Descriptions.{Con}
-use Rattle.lra_linear.specs.OperationStrain.{FromRowsStrains}
-use Rattle.lra_linear.specs.Polyhedra.{Polyhedron}
+use Rattle.lra_linear_spec.specs.Descriptions.{Con}
+use Rattle.lra_linear_spec.specs.OperationStrain.{FromRowsStrains}
+use Rattle.lra_linear_spec.specs.Polyhedra.{Polyhedron}
 use Rattle.lra_sys.specs.Listed.{constraints}
 use Rattle.lra_poly.specs.Outcomes.{IsOfRows}
 use Rattle.lra_poly.proofs.MetRows.{never, settled_exact, settled_made, settled_old}

@@ -1,8 +1,8 @@
 -- Goals of `Poly::extend`: the polyhedron of its generators and of these, which are taken in after them, by the lists at
 -- hand.
 use Rattle.std.proofs.Common.{ap, subst, sym}
-use Rattle.lra_linear.specs.Descriptions.{AreGenerators}
-use Rattle.lra_linear.specs.Polyhedra.{IsPolyhedron, Polyhedron}
+use Rattle.lra_linear_spec.specs.Descriptions.{AreGenerators}
+use Rattle.lra_linear_spec.specs.Polyhedra.{IsPolyhedron, Polyhedron}
 use Rattle.lra_sys.specs.Listed.{constraints, generators}
 use Rattle.lra_sys.proofs.Generators.{fitting_are_generators}
 use Rattle.lra_poly.proofs.PolyLemmas.{some_more}

@@ -1,7 +1,7 @@
 -- Goals of `Poly::from_rows`: the polyhedron of the constraints.
 use Rattle.std.proofs.Common.{[]}
-use Rattle.lra_linear.specs.Descriptions.{Con}
-use Rattle.lra_linear.specs.OperationStrain.{FromRowsStrains, with_positivity}
+use Rattle.lra_linear_spec.specs.Descriptions.{Con}
+use Rattle.lra_linear_spec.specs.OperationStrain.{FromRowsStrains, with_positivity}
 use Rattle.lra_sys.specs.Listed.{constraints}
 use Rattle.lra_poly.proofs.MetRows.{tried_of}
 use Rattle.lra_poly.proofs.PolyLemmas.{becomes_told}

@@ -1,8 +1,8 @@
 -- Goals of `Poly::hull`: becomes the hull with the other.
 use Rattle.std.proofs.Common.{◌≡◌, ◌++◌, List, ap, refl, subst}
-use Rattle.lra_linear.specs.Descriptions.{Con, Given}
-use Rattle.lra_linear.specs.OperationStrain.{HullStrains}
-use Rattle.lra_linear.specs.SetOperations.{Union, Hull}
+use Rattle.lra_linear_spec.specs.Descriptions.{Con, LinearRow}
+use Rattle.lra_linear_spec.specs.OperationStrain.{HullStrains}
+use Rattle.lra_linear_spec.specs.SetOperations.{Union, Hull}
 use Rattle.lra_sys.specs.Listed.{generators}
 use Rattle.lra_poly.specs.Outcomes.{IfFlagged}
 use Rattle.lra_poly.specs.United.{UnitesAnew}
@@ -22,11 +22,12 @@ returns-clause-becomes c =
     let p = c.args.self.now in
     let q = c.args.other.now in
     let list = p.generators ++ generators c.generators-more.result.now in
-    let e : list ≡ p.generators ++ q.generators = ap (λ (l : List Given). p.generators ++ l) c.generators-more.ensures.generators in
+    let e : list ≡ p.generators ++ q.generators = ap (λ (l : List LinearRow). p.generators ++ l) c.generators-more.ensures.generators in
     hull_becomes p q c.in_ok-made.made list c.in_ok-made.outcome c.rows-rows.ensures.canonical c.rows-others.ensures.canonical c.requires e c.in_ok-made.ensures.becomes
 
 pub returns-clause-anew : goal.returns-clause-anew
-returns-clause-anew c = subst (λ (l : List Given). IfFlagged (λ _. UnitesAnew c.args.self.now l c.in_ok-made.made c.in_ok-made.outcome) c.in_ok-made.outcome)
+returns-clause-anew c =
+    subst (λ (l : List LinearRow). IfFlagged (λ _. UnitesAnew c.args.self.now l c.in_ok-made.made c.in_ok-made.outcome) c.in_ok-made.outcome)
     c.generators-more.ensures.generators c.in_ok-made.ensures.anew
 
 pub returns-clause-met : goal.returns-clause-met

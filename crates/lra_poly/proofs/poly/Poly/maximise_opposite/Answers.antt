@@ -1,8 +1,8 @@
 -- Goals of `Poly::maximise_opposite`: the greatest value of the form's opposite.
 use Rattle.std.proofs.Common.{◌≡◌, ◌∙◌, ap, length, refl, suc, sym}
-use Rattle.lra_linear.specs.Polyhedra.{Polyhedron}
-use Rattle.lra_linear.specs.Vectors.{negated}
-use Rattle.lra_linear.proofs.Products.{negated_length}
+use Rattle.lra_linear_spec.specs.Polyhedra.{Polyhedron}
+use Rattle.lra_linear_spec.specs.Vectors.{negated}
+use Rattle.lra_linear_spec.proofs.Products.{negated_length}
 use Rattle.lra_sys.specs.Listed.{constraints, generators}
 use Rattle.lra_lin.specs.Form.{form_row}
 use Rattle.lra_duality.proofs.GreatestValues.{maximum_tells, starts_with_point}

@@ -1,8 +1,8 @@
 -- Goals of `Poly::meet_rows_anew`: the polyhedron of the constraints and of these, converted from nothing.
 use Rattle.std.proofs.Common.{◌≡◌, ◌++◌, ◌∙◌, ap, List, [], ℕ, subst}
-use Rattle.lra_linear.specs.Descriptions.{Given}
-use Rattle.lra_linear.specs.OperationStrain.{with_positivity}
-use Rattle.lra_linear.specs.Polyhedra.{Polyhedron}
+use Rattle.lra_linear_spec.specs.Descriptions.{LinearRow}
+use Rattle.lra_linear_spec.specs.OperationStrain.{with_positivity}
+use Rattle.lra_linear_spec.specs.Polyhedra.{Polyhedron}
 use Rattle.lra_sys.specs.Listed.{constraints}
 use Rattle.lra_poly.specs.Narrowed.{IsTried}
 use Rattle.lra_poly.proofs.poly.Poly.meet_rows_anew.Goals as goal
@@ -14,5 +14,5 @@ returns c =
     let list = constraints c.in_ok-list.list in
     let e : list ≡ p.rows ++ more = c.in_ok-list.ensures.rows ∙ ap (λ (q : Polyhedron). q.rows ++ more) c.self.view_is in
     let d : c.in_ok-list.list.dims ≡ p.dims = c.in_ok-list.ensures.dims ∙ ap (λ (q : Polyhedron). q.dims) c.self.view_is in
-    subst (λ (l : List Given). IsTried p.dims (with_positivity p.dims []) l c.in_ok-made.made c.in_ok-made.outcome) e
+    subst (λ (l : List LinearRow). IsTried p.dims (with_positivity p.dims []) l c.in_ok-made.made c.in_ok-made.outcome) e
     (subst (λ (n : ℕ). IsTried n (with_positivity n []) list c.in_ok-made.made c.in_ok-made.outcome) d c.in_ok-made.ensures.tried)

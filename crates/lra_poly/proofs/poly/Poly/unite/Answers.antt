@@ -1,7 +1,7 @@
 -- Goals of `Poly::unite`: the polyhedron of its generators and of these.
 use Rattle.std.proofs.Common.{◌++◌}
-use Rattle.lra_linear.specs.Descriptions.{Gen}
-use Rattle.lra_linear.specs.OperationStrain.{FromGeneratorsStrains}
+use Rattle.lra_linear_spec.specs.Descriptions.{Gen}
+use Rattle.lra_linear_spec.specs.OperationStrain.{FromGeneratorsStrains}
 use Rattle.lra_sys.specs.Listed.{generators}
 use Rattle.lra_poly.proofs.PolyLemmas.{exactly}
 use Rattle.lra_poly.proofs.UnitedLists.{unites_anew}

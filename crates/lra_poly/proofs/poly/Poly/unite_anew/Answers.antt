@@ -1,7 +1,7 @@
 -- Goals of `Poly::unite_anew`: the polyhedron of its generators and of these, converted from nothing.
 use Rattle.std.proofs.Common.{◌≡◌, ◌++◌, ◌∙◌, List, ℕ, ap, refl, subst}
-use Rattle.lra_linear.specs.Descriptions.{Given}
-use Rattle.lra_linear.specs.Polyhedra.{Polyhedron}
+use Rattle.lra_linear_spec.specs.Descriptions.{LinearRow}
+use Rattle.lra_linear_spec.specs.Polyhedra.{Polyhedron}
 use Rattle.lra_sys.specs.Listed.{generators}
 use Rattle.lra_poly.specs.Outcomes.{IfFlagged, IsOfGenerators}
 use Rattle.lra_poly.specs.United.{AreTriedPoints}
@@ -18,7 +18,7 @@ returns-clause-becomes c =
     let e : list ≡ p.generators ++ more = joined_seen list (generators c.self.inside.by_generators) more p.generators more
     c.in_ok-all.ensures.generators (ap (λ (x : Polyhedron). x.generators) c.self.view_is) refl in
     let d : c.in_ok-all.all.dims ≡ p.dims = c.in_ok-all.ensures.dims ∙ c.self.invariant.1 ∙ ap (λ (x : Polyhedron). x.dims) c.self.view_is in
-    subst (λ (l : List Given). IsOfGenerators p.dims l made o) e
+    subst (λ (l : List LinearRow). IsOfGenerators p.dims l made o) e
     (subst (λ (n : ℕ). IsOfGenerators n list made o) d c.in_ok-made.ensures.becomes)
 
 pub returns-clause-tried : goal.returns-clause-tried
@@ -31,5 +31,5 @@ returns-clause-tried c =
     let e : list ≡ p.generators ++ more = joined_seen list (generators c.self.inside.by_generators) more p.generators more
     c.in_ok-all.ensures.generators (ap (λ (x : Polyhedron). x.generators) c.self.view_is) refl in
     let d : c.in_ok-all.all.dims ≡ p.dims = c.in_ok-all.ensures.dims ∙ c.self.invariant.1 ∙ ap (λ (x : Polyhedron). x.dims) c.self.view_is in
-    subst (λ (l : List Given). IfFlagged (λ _. AreTriedPoints p.dims l made o) o) e
+    subst (λ (l : List LinearRow). IfFlagged (λ _. AreTriedPoints p.dims l made o) o) e
     (subst (λ (n : ℕ). IfFlagged (λ _. AreTriedPoints n list made o) o) d c.in_ok-made.ensures.tried)

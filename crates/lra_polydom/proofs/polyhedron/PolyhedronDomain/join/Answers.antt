@@ -1,6 +1,6 @@
 -- Goals of `PolyhedronDomain::join`: the hull.
 use Rattle.std.proofs.Common.{◌≡◌, ap, sym, ◌∙◌}
-use Rattle.lra_linear.specs.Polyhedra.{Polyhedron}
+use Rattle.lra_linear_spec.specs.Polyhedra.{Polyhedron}
 use Rattle.lra_polydom.proofs.ChangeLemmas.{joins}
 use Rattle.lra_polydom.proofs.polyhedron.PolyhedronDomain.join.Goals as goal
 

@@ -1,7 +1,7 @@
 -- Goals of `PolyhedronDomain::parts`.
 use Rattle.std.proofs.Common.{◌≡◌, ◌∙◌, ◌∷◌, ◌++◌, [], List, ℤ, length, ap, subst, sym}
 use Rattle.lra_domain.specs.Parts.{SomePartHolds}
-use Rattle.lra_linear.specs.declared.ConKind.{ConKind}
+use Rattle.lra_linear_spec.specs.declared.ConKind.{ConKind}
 use Rattle.lra_polydom.specs.Content.{PolyhedronHas, polyhedron_parts}
 use Rattle.lra_sys.specs.Listed.{Listed}
 use Rattle.lra_polydom.proofs.PartLemmas.{no_parts, parts_hold, some_parts}

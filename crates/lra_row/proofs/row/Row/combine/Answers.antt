@@ -3,10 +3,10 @@ use Rattle.std.proofs.Common.{◌∙◌, List, ℤ, sym, rules, FitsSigned, subs
 use Rattle.std.specs.Int.{w128}
 use Rattle.std.proofs.lemmas.Int.{to_z-of_z}
 use Rattle.std.proofs.lemmas.Result.{err_from_is_err_and}
-use Rattle.lra_linear.specs.LowestTerms.{IsLowest}
-use Rattle.lra_linear.specs.declared.Excess.{Excess}
+use Rattle.lra_linear_spec.specs.LowestTerms.{IsLowest}
+use Rattle.lra_linear_spec.specs.declared.Excess.{Excess}
 use Rattle.lra_row.specs.declared.error.RowError.TheVariants as of_row
-use Rattle.lra_linear.specs.CheckedArithmetic.{checked_combination}
+use Rattle.lra_linear_spec.specs.CheckedArithmetic.{checked_combination}
 use Rattle.lra_row.specs.Rows.{combination_operations, IsExcessOf}
 use Rattle.lra_row.proofs.FirstPassing.{names_combination, combination_passes, names_error, names_made}
 use Rattle.lra_row.proofs.Combination.{combined_flat, combined_positive, combined_read, checked_read}

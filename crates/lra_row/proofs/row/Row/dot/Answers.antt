@@ -2,7 +2,7 @@
 use Rattle.std.proofs.Common.{rules, FitsSigned, Ok, sym}
 use Rattle.std.specs.Int.{w128}
 use Rattle.std.proofs.lemmas.Int.{to_z-of_z}
-use Rattle.lra_linear.proofs.CheckedArithmetic.{checked_product_in_range}
+use Rattle.lra_linear_spec.proofs.CheckedArithmetic.{checked_product_in_range}
 use Rattle.lra_row.proofs.FirstPassing.{product_names_first}
 use Rattle.lra_row.proofs.row.Row.dot.Goals as goal
 

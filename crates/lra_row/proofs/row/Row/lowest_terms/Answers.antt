@@ -4,8 +4,8 @@ use Rattle.std.proofs.Common.{rules, arith, ap, ◌∙◌, sym, subst, ℤ, List
 use Rattle.std.specs.Int.{w128}
 use Rattle.std.specs.List.{All, refill}
 use Rattle.std.proofs.lemmas.Int.{ints, to_z-of_z}
-use Rattle.lra_linear.specs.Range.{InRange}
-use Rattle.lra_linear.specs.LowestTerms.{IsLowest}
+use Rattle.lra_linear_spec.specs.Range.{InRange}
+use Rattle.lra_linear_spec.specs.LowestTerms.{IsLowest}
 use Rattle.lra_row.proofs.RowLemmas.{refilled, divided, divided_in_range, lowest_divided}
 use Rattle.lra_row.specs.Rows.{IsRowGcd}
 use Rattle.lra_row.proofs.row.Row.lowest_terms.Goals as goal

@@ -2,8 +2,8 @@
 use Rattle.std.proofs.Common.{rules, FitsSigned, ◌≡◌, Ok, sym}
 use Rattle.std.specs.Int.{w128}
 use Rattle.std.proofs.lemmas.Int.{to_z-of_z}
-use Rattle.lra_linear.specs.CheckedArithmetic.{checked_product}
-use Rattle.lra_linear.proofs.CheckedArithmetic.{checked_product_value}
+use Rattle.lra_linear_spec.specs.CheckedArithmetic.{checked_product}
+use Rattle.lra_linear_spec.proofs.CheckedArithmetic.{checked_product_value}
 use Rattle.lra_row.proofs.row.Row.narrow_dot.Goals as goal
 
 pub returns-then-other-clause-value : goal.returns-then-other-clause-value

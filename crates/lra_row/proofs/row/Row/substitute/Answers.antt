@@ -3,13 +3,13 @@ use Rattle.std.proofs.Common.{arith, ◌≡◌, ◌∙◌, ap, List, ℤ, sym, r
 use Rattle.std.specs.Int.{w128}
 use Rattle.std.proofs.lemmas.Int.{to_z-of_z}
 use Rattle.std.proofs.lemmas.Result.{IfOk-weaker, IfErr-weaker}
-use Rattle.lra_linear.specs.Vectors.{entry, product, cleared}
-use Rattle.lra_linear.specs.declared.Excess.{Excess}
-use Rattle.lra_linear.specs.CheckedArithmetic.{checked_substitution}
+use Rattle.lra_linear_spec.specs.Vectors.{entry, product, cleared}
+use Rattle.lra_linear_spec.specs.declared.Excess.{Excess}
+use Rattle.lra_linear_spec.specs.CheckedArithmetic.{checked_substitution}
 use Rattle.lra_row.specs.Rows.{substitution_operations, IsExcessOf}
 use Rattle.lra_row.proofs.FirstPassing.{names_added, names_result}
 use Rattle.lra_row.proofs.Combination.{substitution_read, substitution_checked}
-use Rattle.lra_linear.proofs.SetOperations.{substituted_product}
+use Rattle.lra_linear_spec.proofs.SetOperations.{substituted_product}
 use Rattle.lra_row.proofs.row.Row.substitute.Goals as goal
 
 pub returns-clause-assigns : goal.returns-clause-assigns

@@ -4,8 +4,8 @@ use Rattle.std.specs.Prelude.{replicate, slice_set}
 use Rattle.std.specs.Int.{w128}
 use Rattle.std.specs.List.{All}
 use Rattle.std.proofs.lemmas.Int.{to_z-of_z}
-use Rattle.lra_linear.specs.Range.{InRange}
-use Rattle.lra_linear.proofs.UnitRows.{set_in_range, zeros_in_range, zeros_more}
+use Rattle.lra_linear_spec.specs.Range.{InRange}
+use Rattle.lra_linear_spec.proofs.UnitRows.{set_in_range, zeros_in_range, zeros_more}
 use Rattle.lra_row.proofs.row.Row.unit.Goals as goal
 
 pub from_slice-requires : goal.from_slice-requires

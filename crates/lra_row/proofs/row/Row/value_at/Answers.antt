@@ -2,8 +2,8 @@
 -- `numerators`.
 use Rattle.std.proofs.Common.{◌∷◌, ◌∙◌, ap, List, ℤ}
 use Rattle.std.proofs.lemmas.Int.{to_z-of_z}
-use Rattle.lra_linear.specs.CheckedArithmetic.{checked_product}
-use Rattle.lra_linear.proofs.CheckedArithmetic.{checked_product_value}
+use Rattle.lra_linear_spec.specs.CheckedArithmetic.{checked_product}
+use Rattle.lra_linear_spec.proofs.CheckedArithmetic.{checked_product_value}
 use Rattle.lra_row.proofs.row.Row.value_at.Goals as goal
 
 pub returns-clause-value : goal.returns-clause-value

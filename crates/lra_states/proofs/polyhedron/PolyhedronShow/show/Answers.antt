@@ -1,7 +1,7 @@
 -- Goals of `PolyhedronShow::show`.
 use Rattle.std.proofs.Common.{◌∙◌, sym, subst}
-use Rattle.lra_linear.specs.Formed.{IsFormed}
-use Rattle.lra_linear.specs.Polyhedra.{IsPolyhedron}
+use Rattle.lra_linear_spec.specs.Representable.{IsRepresentable}
+use Rattle.lra_linear_spec.specs.Polyhedra.{IsPolyhedron}
 use Rattle.lra_states.proofs.PolyhedronParts.{lists_are, state_canonical, state_is, state_told}
 use Rattle.lra_states.proofs.polyhedron.PolyhedronShow.show.Goals as goal
 
@@ -15,7 +15,7 @@ polyhedron_state-requires-clause-canonical c =
 
 pub polyhedron_state-requires-clause-formed : goal.polyhedron_state-requires-clause-formed
 polyhedron_state-requires-clause-formed c =
-    subst IsFormed (sym (lists_are c.args.self.now c.rows.result.now c.generators.result.now c.rows.ensures.dims c.rows.ensures.rows
+    subst IsRepresentable (sym (lists_are c.args.self.now c.rows.result.now c.generators.result.now c.rows.ensures.dims c.rows.ensures.rows
     c.generators.ensures.generators)) c.rows.ensures.formed
 
 pub returns-clause-canonical : goal.returns-clause-canonical

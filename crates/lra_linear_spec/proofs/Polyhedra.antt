@@ -1,0 +1,125 @@
+-- The two canonical lists of a polyhedron have the same points, and a set of points has one pair of canonical lists.
+use Rattle.std.proofs.Common.{Bool, List, [], ap, cond, false, inl, inr, pos, refl, subst, sym, true, ℕ, ℤ, ◌++◌, ◌+ℤ◌, ◌∙◌, ◌∷◌, ◌≡◌}
+use Rattle.std.proofs.lemmas.List.Elements.{Contains-append_cases}
+use Rattle.std.specs.List.{Contains}
+use Rattle.lra_linear_spec.specs.Cones.{Described, Generated, all_rows}
+use Rattle.lra_linear_spec.specs.Descriptions.{AreGenerators, Con, Gen, LinearRow, rows_as, lines_of, rays_of}
+use Rattle.lra_linear_spec.specs.Points.{IsPoint, PointSet, SameSet}
+use Rattle.lra_linear_spec.specs.Polyhedra.{HasPoint, IsPolyhedron, IsPolyhedronOf, Polyhedron, falsity}
+use Rattle.lra_linear_spec.specs.Vectors.{entry, signed_sum, sum_of}
+use Rattle.lra_linear_spec.proofs.LinearMaps.{generated_nonneg}
+use Rattle.lra_linear_spec.proofs.Lines.{described_generated, generated_described}
+use Rattle.lra_linear_spec.proofs.Membership.{contains_head, contains_none}
+use Rattle.lra_linear_spec.proofs.OneSpelling.{cone_solved, falsity_never, given_from, rows_hold, same_points_same_lists}
+use Rattle.lra_linear_spec.proofs.Signs.{no_product, not_both}
+
+-- ---- lines and rays of joined lists
+-- joined lists
+pub lines_of_append : (xs ys : List LinearRow) → lines_of (xs ++ ys) ≡ lines_of xs ++ lines_of ys
+lines_of_append [] ys = refl
+lines_of_append (x ∷ xs) ys = by_kind x.equal (lines_of_append xs ys)
+  where
+    by_kind : (b : Bool) → lines_of (xs ++ ys) ≡ lines_of xs ++ lines_of ys →
+        cond b (x.row ∷ lines_of (xs ++ ys)) (lines_of (xs ++ ys)) ≡ cond b (x.row ∷ lines_of xs) (lines_of xs) ++ lines_of ys
+    by_kind true e = ap (λ l. x.row ∷ l) e
+    by_kind false e = e
+
+pub rays_of_append : (xs ys : List LinearRow) → rays_of (xs ++ ys) ≡ rays_of xs ++ rays_of ys
+rays_of_append [] ys = refl
+rays_of_append (x ∷ xs) ys = by_kind x.equal (rays_of_append xs ys)
+  where
+    by_kind : (b : Bool) → rays_of (xs ++ ys) ≡ rays_of xs ++ rays_of ys →
+        cond b (rays_of (xs ++ ys)) (x.row ∷ rays_of (xs ++ ys)) ≡ cond b (rays_of xs) (x.row ∷ rays_of xs) ++ rays_of ys
+    by_kind true e = e
+    by_kind false e = ap (λ l. x.row ∷ l) e
+
+-- lists of one kind
+lines_of_lines : (rows : List (List ℤ)) → lines_of (rows_as true rows) ≡ rows
+lines_of_lines [] = refl
+lines_of_lines (r ∷ rows) = ap (λ l. r ∷ l) (lines_of_lines rows)
+
+lines_of_rays : (rows : List (List ℤ)) → lines_of (rows_as false rows) ≡ []
+lines_of_rays [] = refl
+lines_of_rays (r ∷ rows) = lines_of_rays rows
+
+rays_of_rays : (rows : List (List ℤ)) → rays_of (rows_as false rows) ≡ rows
+rays_of_rays [] = refl
+rays_of_rays (r ∷ rows) = ap (λ l. r ∷ l) (rays_of_rays rows)
+
+rays_of_lines : (rows : List (List ℤ)) → rays_of (rows_as true rows) ≡ []
+rays_of_lines [] = refl
+rays_of_lines (r ∷ rows) = rays_of_lines rows
+
+append_none : (xs : List (List ℤ)) → xs ++ [] ≡ xs
+append_none [] = refl
+append_none (x ∷ xs) = ap (λ l. x ∷ l) (append_none xs)
+
+-- the lines and rays of a polyhedron's generators
+pub generators_lines : (p : Polyhedron) (h : HasPoint p) → lines_of p.generators ≡ h.lines
+generators_lines p h =
+    ap lines_of h.generators_are ∙ lines_of_append (rows_as false h.points ++ rows_as false h.rays) (rows_as true h.lines) ∙
+    ap (λ l. l ++ lines_of (rows_as true h.lines)) (lines_of_append (rows_as false h.points) (rows_as false h.rays) ∙ ap (λ l. l ++ lines_of (rows_as false h.rays)) (lines_of_rays h.points) ∙
+    lines_of_rays h.rays) ∙
+    lines_of_lines h.lines
+
+pub generators_rays : (p : Polyhedron) (h : HasPoint p) → rays_of p.generators ≡ h.points ++ h.rays
+generators_rays p h =
+    ap rays_of h.generators_are ∙ rays_of_append (rows_as false h.points ++ rows_as false h.rays) (rows_as true h.lines) ∙
+    ap (λ l. l ++ rays_of (rows_as true h.lines)) (rays_of_append (rows_as false h.points) (rows_as false h.rays) ∙ ap (λ l. l ++ rays_of (rows_as false h.rays)) (rays_of_rays h.points) ∙
+    ap (λ l. h.points ++ l) (rays_of_rays h.rays)) ∙
+    ap (λ l. (h.points ++ h.rays) ++ l) (rays_of_lines h.lines) ∙ append_none (h.points ++ h.rays)
+
+-- ---- constraints and generators
+-- the points of the generators are those of the cone
+pub gen_cone : (p : Polyhedron) (h : HasPoint p) (x : List ℤ) → Gen p.generators x → Generated (all_rows h.lines (h.points ++ h.rays)) (entry x)
+gen_cone p h x g =
+    generated_described h.lines (h.points ++ h.rays) (entry x)
+    (subst (λ l. Described l (h.points ++ h.rays) (entry x)) (generators_lines p h) (subst (λ r. Described (lines_of p.generators) r (entry x)) (generators_rays p h) g))
+
+pub cone_gen : (p : Polyhedron) (h : HasPoint p) (x : List ℤ) → Generated (all_rows h.lines (h.points ++ h.rays)) (entry x) → Gen p.generators x
+cone_gen p h x g =
+    subst (λ l. Described l (rays_of p.generators) (entry x)) (sym (generators_lines p h))
+    (subst (λ r. Described h.lines r (entry x)) (sym (generators_rays p h)) (described_generated h.lines (h.points ++ h.rays) (entry x) g))
+
+-- nothing is generated by no generator
+gen_none : (n : ℕ) (x : List ℤ) → IsPoint n x → ¬ (Gen [] x)
+gen_none n x p g = not_both (entry x 0) p.divisor (no_product g.multiple (entry x 0) g.positive (g.is_sum 0 ∙ nothing g.free g.factors))
+  where
+    nothing : (zs : List ℤ) (fs : List ℕ) → signed_sum zs [] 0 +ℤ sum_of fs [] 0 ≡ pos 0
+    nothing [] [] = refl
+    nothing [] (f ∷ fs) = refl
+    nothing (z ∷ zs) [] = refl
+    nothing (z ∷ zs) (f ∷ fs) = refl
+
+-- the two lists have the same points
+pub con_gen : (p : Polyhedron) → IsPolyhedron p → SameSet p.dims (Con p.rows) (Gen p.generators)
+con_gen p (inl none) = (
+  λ x is_point c. absurd (falsity_never p.dims x is_point
+      (c (record { row = falsity p.dims; equal = false }) (subst (λ l. Contains l (record { row = falsity p.dims; equal = false })) (sym none.0)
+      (contains_head (let g : LinearRow = record { row = falsity p.dims; equal = false } in g) [])))),
+  λ x is_point g. absurd (gen_none p.dims x is_point (subst (λ l. Gen l x) none.1 g)),
+)
+con_gen p (inr h) = (
+  λ x is_point c. cone_gen p h x (h.dual.solutions x is_point.width (cone_solved p h x is_point c)),
+  λ x is_point g. rows_hold p h x (λ r k. generated_nonneg r (all_rows h.lines (h.points ++ h.rays)) (entry x) (λ t i. h.dual.meets t i r k) (gen_cone p h x g)),
+)
+
+-- ---- one polyhedron for one set of points
+pub polyhedron_unique : (n : ℕ) (P Q : PointSet) (p q : Polyhedron) → SameSet n P Q → IsPolyhedronOf n P p → IsPolyhedronOf n Q q → p ≡ q
+polyhedron_unique n P Q p q same h k =
+    same_points_same_lists p q h.canonical k.canonical (k.dimensions ∙ sym h.dimensions)
+    (subst (λ (m : ℕ). SameSet m (Con p.rows) (Con q.rows)) (sym h.dimensions) (
+      λ x i c. k.points.0 x i (same.0 x i (h.points.1 x i c)),
+      λ x i c. h.points.0 x i (same.1 x i (k.points.1 x i c)),
+    ))
+
+-- ---- the generators of a polyhedron are points, rays and lines
+pub generators_are_generators : (p : Polyhedron) → IsPolyhedron p → AreGenerators p.generators
+generators_are_generators p (inl e) g k = absurd (contains_none g (subst (λ l. Contains l g) e.1 k))
+generators_are_generators p (inr h) g k = elim (Contains-append_cases (rows_as false h.points ++ rows_as false h.rays) (rows_as true h.lines) g (subst (λ l. Contains l g) h.generators_are k)) [
+  | inl s ↦ elim (Contains-append_cases (rows_as false h.points) (rows_as false h.rays) g s) [
+    | inl t ↦ let f = given_from false h.points g t in inl (f.0, h.divisors g.row f.1)
+    | inr r ↦ inr (h.directions g.row (inl (given_from false h.rays g r).1))
+  ]
+  | inr l ↦ inr (h.directions g.row (inr (given_from true h.lines g l).1))
+]
