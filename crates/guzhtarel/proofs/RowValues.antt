@@ -4,15 +4,16 @@ use Rattle.lra_linear_spec.specs.declared.ConKind.{ConKind}
 use Rattle.lra_linear_spec.specs.Descriptions.{LinearRow, Con}
 use Rattle.lra_linear_spec.specs.Kinds.{is_equality}
 use Rattle.lra_linear_spec.proofs.Descriptions.{con_none, con_cons, con_head, con_tail}
-use Rattle.lra_sys.specs.Listed.{given_by}
+use Rattle.lra_systems.specs.LinearSystems.{rows_by_kind}
 use Rattle.guzhtarel.specs.Entries.{AllHold}
 
-pub rows_hold : (kind : ConKind) (rows : List (List ℤ)) (x : List ℤ) → Con (given_by is_equality rows (replicate (length rows) kind)) x ↔ AllHold kind rows x
+pub rows_hold : (kind : ConKind) (rows : List (List ℤ)) (x : List ℤ) →
+    Con (rows_by_kind is_equality rows (replicate (length rows) kind)) x ↔ AllHold kind rows x
 rows_hold kind [] x = (λ h. tt, λ h. con_none x)
 rows_hold kind (r ∷ rows) x =
     let e = rows_hold kind rows x in
     let first : LinearRow = record { row = r; equal = is_equality kind } in
-    let later = given_by is_equality rows (replicate (length rows) kind) in
+    let later = rows_by_kind is_equality rows (replicate (length rows) kind) in
     (λ h. (con_head first later x h, e.0 (con_tail first later x h)), λ h. con_cons first later x h.0 (e.1 h.1))
 
 pub hold_append : (kind : ConKind) (xs ys : List (List ℤ)) (x : List ℤ) → AllHold kind (xs ++ ys) x ↔ (AllHold kind xs x × AllHold kind ys x)

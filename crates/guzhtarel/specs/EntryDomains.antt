@@ -5,11 +5,11 @@ use Rattle.std.specs.Prelude.{[], ◌∷◌}
 use Rattle.std.specs.Prelude.{◌++◌}
 use Rattle.std.specs.Prelude.{length, replicate, slice_set, take, IsTrue}
 use Rattle.std.specs.Cmp.Lexicographic.{pointwise}
-use Rattle.lra_lin.specs.Form.{Form, form_value}
+use Rattle.lra_linear_forms.specs.Form.{Form, form_value}
 use Rattle.lra_linear_spec.specs.Vectors.{entry}
 use Rattle.lra_linear_spec.specs.declared.ConKind.{ConKind}
 use Rattle.lra_linear_spec.specs.declared.ConKind.TheVariants.{Ge}
-use Rattle.lra_sys.specs.Listed.{Listed}
+use Rattle.lra_systems.specs.LinearSystems.{LinearSystem}
 use Rattle.lra_domain.specs.Actions.{Action, assign, forget, test, embed, remove_last}
 use Rattle.guzhtarel.specs.Entries.{AllHave, AllHold, join_each, rows_from, total}
 use Rattle.lra_domain.specs.Unstrained.{Unstrained}
@@ -59,14 +59,14 @@ entries_after p (remove_last k) es = take (length es - k) es
 abbrev pub lies_in : {E : Type 0} → EachEntry E → Content E → Content E → Bool
 lies_in p a b = (a.nothing || not b.nothing) && pointwise p.covered a.entries b.entries
 
-abbrev pub system_of_entries : {E : Type 0} → EachEntry E → List E → Listed ConKind
+abbrev pub system_of_entries : {E : Type 0} → EachEntry E → List E → LinearSystem ConKind
 system_of_entries p es = record {
   dims = length es;
   rows = rows_from p.rows (length es) 1 es;
   kinds = replicate (length (rows_from p.rows (length es) 1 es)) Ge;
 }
 
-abbrev pub parts_of : {E : Type 0} → EachEntry E → Bool → List E → List (Listed ConKind)
+abbrev pub parts_of : {E : Type 0} → EachEntry E → Bool → List E → List (LinearSystem ConKind)
 parts_of p true es = []
 parts_of p false es = system_of_entries p es ∷ []
 

@@ -7,7 +7,7 @@ use Rattle.std.proofs.lemmas.Bool.{lt-ltb}
 use Rattle.std.proofs.lemmas.Option.{same_Some}
 use Rattle.std.proofs.lemmas.List.Elements.{Contains-append_left, Contains-append_right}
 use Rattle.lra_linear_spec.proofs.Membership.{contains_head, contains_tail}
-use Rattle.lra_sys.specs.Listed.{Listed}
+use Rattle.lra_systems.specs.LinearSystems.{LinearSystem}
 use Rattle.lra_linear_spec.specs.declared.ConKind.{ConKind}
 use Rattle.lra_domain.specs.Actions.{Within}
 use Rattle.lra_domain.specs.Meaning.{Meaning}
@@ -301,7 +301,7 @@ module _ {A V H : Type 0} (name : ℕ → A) (may : State → State → Type 0) 
     top_owed top z out f (gift p x) a b at same has = absurd at
 
     -- the loop itself, from what others make of what comes there
-    loop_covers : (f : Option ℕ) (v : V) (r : Result V) (rows : Listed ConKind) (h : H) (later : List H) (u top out : V) (s t : Result V) (e : Exactness)
+    loop_covers : (f : Option ℕ) (v : V) (r : Result V) (rows : LinearSystem ConKind) (h : H) (later : List H) (u top out : V) (s t : Result V) (e : Exactness)
         → (dropping m).started v rows h → Grows V H (dropping m) q base c body set.widening set.delay f h later u s
         → Narrows V H (dropping m) q base c body set.narrow v u s top t → Leaves (dropping m) base c false top e out
         → r ≡ record t { normal = out; flag = noted q e t.flag }

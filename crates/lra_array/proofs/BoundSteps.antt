@@ -1,8 +1,8 @@
 -- The step of the proof on the tests of an index.
 use Rattle.std.proofs.Common.{◌≡◌, ℕ, Some, refl}
 use Rattle.lra_linear_spec.specs.declared.ConKind.TheVariants.{Ge}
-use Rattle.lra_lin.specs.Form.{Form}
-use Rattle.lra_lin.specs.declared.test.Test.{Test}
+use Rattle.lra_linear_forms.specs.Form.{Form}
+use Rattle.lra_linear_forms.specs.declared.test.Test.{Test}
 use Rattle.lra_base.specs.Operators.{below}
 use Rattle.lra_flow.specs.Linear.{comparison_test, less_by}
 use Rattle.lra_flow.specs.Accesses.{outside}

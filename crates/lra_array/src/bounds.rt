@@ -5,7 +5,7 @@ ghost use Rattle.lra_flow.specs.Accesses.{outside};
 
 use lra_base::Comparison;
 use lra_forms::{less_by, test_of};
-use lra_lin::{LinExpr, Test};
+use lra_linear_forms::{LinExpr, Test};
 use lra_linear_spec::ConKind;
 use std::alloc::{AllocError, Global};
 

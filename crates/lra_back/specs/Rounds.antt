@@ -1,7 +1,7 @@
 -- Rounds of going back: in each, from the last point to the first, the point's head grows by its next value.
 use Rattle.std.specs.Prelude.{◌≡◌, ◌&&◌, ℕ, zero, suc, ◌⊎◌, List, [], ◌∷◌, Option, None, Some, Bool, true, false, nat_eq}
 use Rattle.std.specs.Prelude.{cond, slice_get, slice_set}
-use Rattle.lra_sys.specs.Listed.{Listed}
+use Rattle.lra_systems.specs.LinearSystems.{LinearSystem}
 use Rattle.lra_linear_spec.specs.declared.ConKind.{ConKind}
 use Rattle.lra_domain.specs.Actions.{Action}
 use Rattle.lra_domain.specs.Meaning.{worse}
@@ -25,7 +25,7 @@ abbrev pub seed_at : {V : Type 0} → Task V → ℕ → Option V
 seed_at task p = cond (nat_eq p task.assertion) (Some task.seed) None
 
 -- no row is given
-abbrev pub no_rows : ℕ → Listed ConKind
+abbrev pub no_rows : ℕ → LinearSystem ConKind
 no_rows n = record { dims = n; rows = []; kinds = [] }
 
 module _ {V H : Type 0} (ops : BackOperations V H) where

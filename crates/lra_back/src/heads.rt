@@ -8,7 +8,7 @@ ghost use Rattle.lra_back.specs.Rounds.{AreStarted, StaysOrGrows, no_rows};
 ghost use Rattle.lra_back.specs.Going.{AreHeads, rank_of};
 
 use lra_domain::{Backward, Exactness, Grown, Mode};
-use lra_sys::ConSys;
+use lra_systems::ConSys;
 use std::alloc::{AllocError, Global};
 
 /// How a head took a value: whether it was stable, and the exactness of its growth.

@@ -6,6 +6,6 @@ pub mod Widening
 pub mod Lengthening
 pub mod CommonPlaces
 pub mod CommonBits
-pub mod Turning
+pub mod Transposing
 pub mod WithinRows
 pub mod Places

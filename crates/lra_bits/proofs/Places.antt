@@ -8,7 +8,7 @@ use Rattle.std.proofs.lemmas.Nat.Bits.{bit_at-zero}
 use Rattle.std.proofs.lemmas.List.{get_or_past, get_or_append_left, length-append}
 use Rattle.lra_bits.specs.Matrix.{Matrix, IsCommon, TellsCommon, TellsWithin}
 use Rattle.lra_bits.specs.TruthValues.{value_at, both, ArePlaces, IsSubset}
-use Rattle.lra_bits.specs.Turned.{AreColumns}
+use Rattle.lra_bits.specs.Transposed.{AreColumns}
 use Rattle.lra_bits.proofs.Pairs.{both_value}
 
 false_not : {b : Bool} → b ≡ false → b ≡ true → ⊥

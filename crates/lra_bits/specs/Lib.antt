@@ -2,4 +2,4 @@
 pub mod TruthValues
 pub mod Words
 pub mod Matrix
-pub mod Turned
+pub mod Transposed

@@ -7,7 +7,7 @@ ghost use Rattle.std.specs.Int.{bit_at};
 ghost use Rattle.lra_bits.specs.Matrix.{Matrix, lengthened_rows, unmarked, IsCommon, TellsCommon, TellsWithin};
 ghost use Rattle.std.specs.Prelude.{Bool, false, replicate, IsTrue};
 ghost use Rattle.lra_bits.specs.TruthValues.{value_at, ArePlaces};
-ghost use Rattle.lra_bits.specs.Turned.{AreColumns, AreWider, IsMarked, is_in_word};
+ghost use Rattle.lra_bits.specs.Transposed.{AreColumns, AreWider, IsMarked, is_in_word};
 ghost use Rattle.lra_bits.specs.Words.{words_needed};
 
 use crate::bit_row::BitRow;
@@ -266,7 +266,7 @@ impl SatMatrix {
     }
 
     /// The matrix with rows and columns exchanged. It takes a step for each word and each value that is true.
-    pub fn turned(&self, alloc: Global) -> Result<SatMatrix, AllocError>
+    pub fn transposed(&self, alloc: Global) -> Result<SatMatrix, AllocError>
         ensures { IfOk result (λ columns. AreColumns self.now self.now.width columns) }
     {
         let mut columns = blank_rows(alloc, self.width, self.rows.len())?;

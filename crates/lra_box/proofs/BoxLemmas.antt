@@ -2,7 +2,7 @@
 use Rattle.std.proofs.Common.{◌≡◌, ℕ, zero, suc, ℤ, List, [], ◌∷◌, length, Option, None, Some, refl, arith}
 use Rattle.std.specs.Prelude.{slice_set}
 use Rattle.std.proofs.lemmas.Int.{ints, clamps}
-use Rattle.lra_lin.specs.Form.{Form, form_value}
+use Rattle.lra_linear_forms.specs.Form.{Form, form_value}
 use Rattle.lra_box.specs.declared.interval.Interval.{Interval}
 use Rattle.lra_box.specs.declared.ends.Bound.{Bound}
 use Rattle.lra_box.specs.declared.interval.Side.{Side}

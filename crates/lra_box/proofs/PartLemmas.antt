@@ -10,7 +10,7 @@ use Rattle.lra_linear_spec.specs.Range.{InRange}
 use Rattle.lra_linear_spec.specs.Vectors.{product}
 use Rattle.lra_linear_spec.specs.declared.ConKind.{ConKind}
 use Rattle.lra_linear_spec.specs.declared.ConKind.TheVariants.{Ge, Eq}
-use Rattle.lra_sys.specs.Listed.{given_by}
+use Rattle.lra_systems.specs.LinearSystems.{rows_by_kind}
 use Rattle.lra_linear_spec.specs.Kinds.{is_equality}
 use Rattle.lra_linear_spec.specs.Descriptions.{LinearRow, Holds, Con}
 use Rattle.lra_linear_spec.proofs.UnitRows.{set_in_range, zeros_in_range}
@@ -88,15 +88,15 @@ hold_append kind [] ys s = (λ h. (tt, h), λ h. h.1)
 hold_append kind (x ∷ xs) ys s = let e = hold_append kind xs ys s in (λ h. ((h.0, (e.0 h.1).0), (e.0 h.1).1), λ h. (h.0.0, e.1 (h.0.1, h.1)))
 
 pub rows_hold : (xs ys : List (List ℤ)) (s : List ℤ)
-    → Con (given_by is_equality (xs ++ ys) (replicate (length xs) Eq ++ replicate (length ys) Ge)) (pos 1 ∷ s) ↔ (AllHold Eq xs s × AllHold Ge ys s)
+    → Con (rows_by_kind is_equality (xs ++ ys) (replicate (length xs) Eq ++ replicate (length ys) Ge)) (pos 1 ∷ s) ↔ (AllHold Eq xs s × AllHold Ge ys s)
 rows_hold [] [] s = (λ h. (tt, tt), λ h k m. absurd (contains_none k m))
 rows_hold [] (y ∷ ys) s =
     let e = rows_hold [] ys s in
-    let c = con_cons (record { row = y; equal = is_equality Ge }) (given_by is_equality ys (replicate (length ys) Ge)) (pos 1 ∷ s) in
+    let c = con_cons (record { row = y; equal = is_equality Ge }) (rows_by_kind is_equality ys (replicate (length ys) Ge)) (pos 1 ∷ s) in
     (λ h. let p = c.0 h in (tt, (p.0, (e.0 p.1).1)), λ h. c.1 (h.1.0, e.1 (tt, h.1.1)))
 rows_hold (x ∷ xs) ys s =
     let e = rows_hold xs ys s in
-    let c = con_cons (record { row = x; equal = is_equality Eq }) (given_by is_equality (xs ++ ys) (replicate (length xs) Eq ++ replicate (length ys) Ge)) (pos 1 ∷ s) in
+    let c = con_cons (record { row = x; equal = is_equality Eq }) (rows_by_kind is_equality (xs ++ ys) (replicate (length xs) Eq ++ replicate (length ys) Ge)) (pos 1 ∷ s) in
     (λ h. let p = c.0 h in ((p.0, (e.0 p.1).0), (e.0 p.1).1), λ h. c.1 (h.0.0, e.1 (h.0.1, h.1)))
 
 -- ---- one interval

@@ -4,9 +4,9 @@ use Rattle.std.specs.Prelude.{◌+ℤ◌, ◌*ℤ◌, ◌≤ℤ◌, neg_ℤ, int
 use Rattle.std.proofs.lemmas.Int.{ints}
 use Rattle.std.proofs.lemmas.Bool.{false≢true}
 use Rattle.lra_linear_spec.specs.Vectors.{product}
-use Rattle.lra_lin.specs.Form.{Form, form_value, HoldsAt}
+use Rattle.lra_linear_forms.specs.Form.{Form, form_value, HoldsAt}
 use Rattle.lra_linear_spec.specs.declared.ConKind.TheVariants.{Eq}
-use Rattle.lra_lin.proofs.FormLemmas.{product_negated}
+use Rattle.lra_linear_forms.proofs.FormLemmas.{product_negated}
 use Rattle.lra_domain.specs.declared.Exactness.{Exactness}
 use Rattle.lra_domain.specs.declared.Exactness.TheVariants.{Exact, Flagged}
 use Rattle.lra_box.specs.declared.interval.Interval.{Interval}

@@ -2,7 +2,7 @@
 use Rattle.std.specs.Prelude.{◌≡◌, zero, suc, Bool, false, int_lt, ℤ, pos, negsuc, ◌+ℤ◌, ◌*ℤ◌, ◌≤ℤ◌, List, [], ◌∷◌}
 use Rattle.std.specs.Prelude.{Option, None, Some, option_and_then, IfSome, IsSomeAnd, ◌⊎◌}
 use Rattle.lra_linear_spec.specs.Range.{InRange}
-use Rattle.lra_lin.specs.Form.{Form, form_value}
+use Rattle.lra_linear_forms.specs.Form.{Form, form_value}
 use Rattle.lra_domain.specs.declared.Exactness.TheVariants.{Exact, Flagged}
 use Rattle.lra_box.specs.declared.interval.Interval.{Interval}
 use Rattle.lra_box.specs.declared.interval.Side.{Side}

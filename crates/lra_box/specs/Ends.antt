@@ -2,7 +2,7 @@
 -- bounds, and none where a number passes the range on the way.
 use Rattle.std.specs.Prelude.{◌≡◌, ◌⊎◌, ℤ, ◌+ℤ◌, List, Option, None, Some}
 use Rattle.lra_linear_spec.specs.Range.{InRange}
-use Rattle.lra_lin.specs.Form.{Form}
+use Rattle.lra_linear_forms.specs.Form.{Form}
 use Rattle.lra_box.specs.declared.interval.Interval.{Interval}
 use Rattle.lra_box.specs.declared.interval.Side.{Side}
 use Rattle.lra_box.specs.declared.interval.Side.TheVariants.{Low, High}

@@ -3,7 +3,7 @@
 use Rattle.std.specs.Prelude.{ℕ, suc, ℤ, pos, negsuc, neg_ℤ, List, [], ◌∷◌, ◌++◌, length, replicate, slice_set, Option}
 use Rattle.std.specs.Prelude.{None, Some, Bool, false, if◌then◌else◌}
 use Rattle.std.specs.Ordering.{int_eq}
-use Rattle.lra_sys.specs.Listed.{Listed}
+use Rattle.lra_systems.specs.LinearSystems.{LinearSystem}
 use Rattle.lra_linear_spec.specs.declared.ConKind.{ConKind}
 use Rattle.lra_linear_spec.specs.declared.ConKind.TheVariants.{Ge, Eq}
 use Rattle.lra_box.specs.declared.interval.Interval.{Interval}
@@ -44,7 +44,7 @@ unequal_rows n k (i ∷ is) = (if is_single i then [] else low_rows n k i.low ++
 abbrev pub box_rows : ℕ → List Interval → List (List ℤ)
 box_rows n is = equal_rows n 0 is ++ unequal_rows n 0 is
 
-abbrev pub box_system : ℕ → List Interval → Listed ConKind
+abbrev pub box_system : ℕ → List Interval → LinearSystem ConKind
 box_system n is = record {
   dims = n;
   rows = box_rows n is;
@@ -52,6 +52,6 @@ box_system n is = record {
 }
 
 -- an empty box has no part, another has one
-abbrev pub box_parts : ℕ → Option (List Interval) → List (Listed ConKind)
+abbrev pub box_parts : ℕ → Option (List Interval) → List (LinearSystem ConKind)
 box_parts n None = []
 box_parts n (Some is) = box_system n is ∷ []

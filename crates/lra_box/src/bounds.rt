@@ -4,7 +4,7 @@ ghost use Rattle.std.specs.Prelude.{◌≡◌, ◌+◌, ◌-◌, pos, neg_ℤ, �
 ghost use Rattle.std.specs.Prelude.{IsTrue, ◌↔◌, None, Some, length, map, replicate, slice_set, take, List};
 ghost use Rattle.lra_linear_spec.specs.Range.{InRange};
 ghost use Rattle.lra_linear_spec.specs.Vectors.{product};
-ghost use Rattle.lra_lin.specs.Form.{HoldsAt};
+ghost use Rattle.lra_linear_forms.specs.Form.{HoldsAt};
 ghost use Rattle.lra_box.specs.declared.interval.Interval.{Interval};
 ghost use Rattle.lra_box.specs.Bounds.{form, open_interval};
 ghost use Rattle.lra_box.specs.Content.{seen, BoundsFit, BoundsSound};
@@ -19,7 +19,7 @@ use crate::interval::{Interval, Side};
 use crate::intervals::{all_within, assign_bounds, count_bounds, join_all, widen_all};
 use crate::refine::{occurs, refine_all};
 use lra_domain::{Exactness, Mode, Rank, worse};
-use lra_lin::{LinExpr, Test};
+use lra_linear_forms::{LinExpr, Test};
 use lra_linear_spec::ConKind;
 use std::alloc::{AllocError, Global};
 

@@ -15,8 +15,8 @@ use crate::bounds::{
 use crate::interval::Interval;
 use crate::parts::system_of;
 use lra_domain::{Domain, Exactness, Grown, Included, Mode, Plain, Rank, Told};
-use lra_lin::{LinExpr, Test};
-use lra_sys::ConSys;
+use lra_linear_forms::{LinExpr, Test};
+use lra_systems::ConSys;
 use std::alloc::{AllocError, Global};
 use std::marker::Model;
 

@@ -8,7 +8,7 @@ ghost use Rattle.lra_box.specs.Ends.{IsEnd, PlusEnd};
 
 use crate::interval::{Interval, Side};
 use lra_domain::Exactness;
-use lra_lin::LinExpr;
+use lra_linear_forms::LinExpr;
 use lra_row::{add, mul};
 
 /// A bound, or none, and whether it is none because a number passed the range.

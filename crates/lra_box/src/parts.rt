@@ -9,7 +9,7 @@ ghost use Rattle.lra_box.specs.Parts.{bound_row, is_single, low_rows, high_rows,
 
 use crate::interval::Interval;
 use lra_row::Row;
-use lra_sys::{ConKind, ConSys};
+use lra_systems::{ConKind, ConSys};
 use std::alloc::{AllocError, Global};
 
 /// The row `constant + factor * x_k` in `n` dimensions.

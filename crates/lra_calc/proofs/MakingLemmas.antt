@@ -12,7 +12,7 @@ use Rattle.lra_linear_spec.specs.Strain.{Loss}
 use Rattle.lra_linear_spec.specs.declared.GenKind.{GenKind}
 use Rattle.lra_linear_spec.specs.declared.GenKind.TheVariants as gen
 use Rattle.lra_linear_spec.specs.Kinds.{is_line}
-use Rattle.lra_sys.specs.Listed.{Listed, given_by, FitsKind, FitKinds}
+use Rattle.lra_systems.specs.LinearSystems.{LinearSystem, rows_by_kind, FitsKind, FitKinds}
 use Rattle.lra_script.specs.LineForms as form
 use Rattle.lra_poly.specs.Outcomes.{Becomes}
 use Rattle.lra_poly.specs.declared.outcome.Outcome.{Outcome}
@@ -52,20 +52,20 @@ all_generators_wide n (g ∷ gs) e =
 
 -- ---- systems
 given_by-append : {K : Type 0} (equal : K → Bool) (rows : List (List ℤ)) (kinds : List K) (row : List ℤ) (kind : K) → length rows ≡ length kinds
-    → given_by equal (rows ++ row ∷ []) (kinds ++ kind ∷ []) ≡ given_by equal rows kinds ++ record { row = row; equal = equal kind } ∷ []
+    → rows_by_kind equal (rows ++ row ∷ []) (kinds ++ kind ∷ []) ≡ rows_by_kind equal rows kinds ++ record { row = row; equal = equal kind } ∷ []
 given_by-append equal [] [] row kind e = refl
 given_by-append equal [] (k ∷ ks) row kind e = cc
 given_by-append equal (r ∷ rs) [] row kind e = cc
 given_by-append equal (r ∷ rs) (k ∷ ks) row kind e = ap (λ (gs : List LinearRow). record { row = r; equal = equal k } ∷ gs) (given_by-append equal rs ks row kind (cc))
 
-pub made_later : {K : Type 0} (equal : K → Bool) (s t : Listed K) (row : List ℤ) (kind : K) (rest all : List LinearRow) → length s.rows ≡ length s.kinds → t.rows ≡ s.rows ++ row ∷ [] →
+pub made_later : {K : Type 0} (equal : K → Bool) (s t : LinearSystem K) (row : List ℤ) (kind : K) (rest all : List LinearRow) → length s.rows ≡ length s.kinds → t.rows ≡ s.rows ++ row ∷ [] →
     t.kinds ≡ s.kinds ++ kind ∷ []
-    → given_by equal s.rows s.kinds ++ record { row = row; equal = equal kind } ∷ rest ≡ all → given_by equal t.rows t.kinds ++ rest ≡ all
+    → rows_by_kind equal s.rows s.kinds ++ record { row = row; equal = equal kind } ∷ rest ≡ all → rows_by_kind equal t.rows t.kinds ++ rest ≡ all
 made_later equal s t row kind rest all same rows kinds before =
     let g : LinearRow = record { row = row; equal = equal kind } in
-    let pushed : given_by equal t.rows t.kinds ≡ given_by equal s.rows s.kinds ++ g ∷ [] =
-    ap (λ (rs : List (List ℤ)). given_by equal rs t.kinds) rows ∙ ap (given_by equal (s.rows ++ row ∷ [])) kinds ∙ given_by-append equal s.rows s.kinds row kind same in
-    ap (λ (gs : List LinearRow). gs ++ rest) pushed ∙ append_assoc (given_by equal s.rows s.kinds) (g ∷ []) rest ∙ before
+    let pushed : rows_by_kind equal t.rows t.kinds ≡ rows_by_kind equal s.rows s.kinds ++ g ∷ [] =
+    ap (λ (rs : List (List ℤ)). rows_by_kind equal rs t.kinds) rows ∙ ap (rows_by_kind equal (s.rows ++ row ∷ [])) kinds ∙ given_by-append equal s.rows s.kinds row kind same in
+    ap (λ (gs : List LinearRow). gs ++ rest) pushed ∙ append_assoc (rows_by_kind equal s.rows s.kinds) (g ∷ []) rest ∙ before
 
 pub all_tail : {X : Type 0} (P : X → Type 0) (x : X) (xs : List X) → All P (x ∷ xs) → All P xs
 all_tail P x xs a = λ k d h. a (suc k) d (omega arith)
@@ -93,7 +93,7 @@ fit-append [] (k ∷ ks) row kind e fit f = cc
 fit-append (r ∷ rs) [] row kind e fit f = cc
 fit-append (r ∷ rs) (k ∷ ks) row kind e fit f = (fit.0, fit-append rs ks row kind (cc) fit.1 f)
 
-pub fit_later : (s t : Listed GenKind) (row : List ℤ) (kind : GenKind) → length s.rows ≡ length s.kinds → t.rows ≡ s.rows ++ row ∷ [] → t.kinds ≡ s.kinds ++ kind ∷ [] → FitKinds s.rows s.kinds →
+pub fit_later : (s t : LinearSystem GenKind) (row : List ℤ) (kind : GenKind) → length s.rows ≡ length s.kinds → t.rows ≡ s.rows ++ row ∷ [] → t.kinds ≡ s.kinds ++ kind ∷ [] → FitKinds s.rows s.kinds →
     FitsKind kind row
     → FitKinds t.rows t.kinds
 fit_later s t row kind same rows kinds fit f =
@@ -116,14 +116,14 @@ pub generator_fits : (n : ℕ) (gs : List Generator) (i : ℕ) (x : Generator) (
 generator_fits n gs i x row widths divided h e is =
     row_fits n x.kind x.numbers row is (subst (IsWide n) (sym e) (all_generators_wide n gs widths i x h)) (subst (λ (g : Generator). IsDivided g.kind g.numbers) (sym e) (divided i x h))
 
-pub pushed_here : {K X : Type 0} (equal : K → Bool) (v : X → LinearRow) (s t : Listed K) (row : List ℤ) (kind : K) (items : List X) (i : ℕ) (x : X) (all : List LinearRow) →
+pub pushed_here : {K X : Type 0} (equal : K → Bool) (v : X → LinearRow) (s t : LinearSystem K) (row : List ℤ) (kind : K) (items : List X) (i : ℕ) (x : X) (all : List LinearRow) →
     length s.rows ≡ length s.kinds →
     t.rows ≡ s.rows ++ row ∷ [] → t.kinds ≡ s.kinds ++ kind ∷ [] → i < length items → x ≡ get_or items i x → v x ≡ record { row = row; equal = equal kind }
-    → given_by equal s.rows s.kinds ++ map v (drop i items) ≡ all → given_by equal t.rows t.kinds ++ map v (drop (i + 1) items) ≡ all
+    → rows_by_kind equal s.rows s.kinds ++ map v (drop i items) ≡ all → rows_by_kind equal t.rows t.kinds ++ map v (drop (i + 1) items) ≡ all
 pushed_here equal v s t row kind items i x all same rows kinds h e is before =
     made_later equal s t row kind (map v (drop (i + 1) items)) all same rows kinds
-    (ap (λ (g : LinearRow). given_by equal s.rows s.kinds ++ g ∷ map v (drop (i + 1) items)) (sym is)
-    ∙ ap (λ (gs : List LinearRow). given_by equal s.rows s.kinds ++ gs) (sym (rest_at v items i x x h e)) ∙ before)
+    (ap (λ (g : LinearRow). rows_by_kind equal s.rows s.kinds ++ g ∷ map v (drop (i + 1) items)) (sym is)
+    ∙ ap (λ (gs : List LinearRow). rows_by_kind equal s.rows s.kinds ++ gs) (sym (rest_at v items i x x h e)) ∙ before)
 
 -- ---- a polyhedron, flagged where something was lost
 pub made_of : (n : ℕ) (P : PointSet) (Strains : Loss → Type 0) (p : Polyhedron) (outcome : Outcome) → IsRepresentable p → Becomes n P Strains p outcome →

@@ -15,9 +15,9 @@ use Rattle.lra_linear_spec.specs.Descriptions.{LinearRow, Holds, HoldsWith, Con 
 use Rattle.lra_linear_spec.specs.Polyhedra.{Polyhedron}
 use Rattle.lra_linear_spec.proofs.CheckedArithmetic.{checked_product_value}
 use Rattle.lra_linear_spec.proofs.Membership.{contains_none, contains_head, contains_tail, contains_cases}
-use Rattle.lra_sys.specs.declared.membership.Holds as H
-use Rattle.lra_sys.specs.declared.membership.Holds.TheVariants.{Yes, No, Wide}
-use Rattle.lra_sys.specs.Membership.{HoldsInRange, IsAnswer}
+use Rattle.lra_systems.specs.declared.membership.MembershipAnswer as H
+use Rattle.lra_systems.specs.declared.membership.MembershipAnswer.TheVariants.{Yes, No, Wide}
+use Rattle.lra_systems.specs.Membership.{HoldsInRange, DecidesMembership}
 use Rattle.lra_calc.specs.Script as script
 use Rattle.std.specs.Result.{IsErrAnd}
 use Rattle.std.proofs.lemmas.Result.{err_from_is_err_and}
@@ -71,7 +71,7 @@ behind x (g ∷ gs) rest a =
     let here = a 0 g (omega arith) in
     decided_yes g x (checked_product g.row x) (script.membership (gs ++ rest) x) refl here.0 here.1 ∙ behind x gs rest (all_tail (HoldsInRange x) g gs a)
 
-pub answer_is : (rows : List LinearRow) (x : List ℤ) (a : H.Holds) → IsAnswer rows x a → script.membership rows x ≡ answered a
+pub answer_is : (rows : List LinearRow) (x : List ℤ) (a : H.MembershipAnswer) → DecidesMembership rows x a → script.membership rows x ≡ answered a
 answer_is rows x Yes a = ap (λ (gs : List LinearRow). script.membership gs x) (sym (append-nil rows)) ∙ behind x rows [] a
 answer_is rows x (No place) a =
     ap (λ (gs : List LinearRow). script.membership gs x) a.is ∙ behind x a.earlier (a.member ∷ a.later) a.before

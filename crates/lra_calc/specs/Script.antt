@@ -14,8 +14,8 @@ use Rattle.lra_linear_spec.specs.Descriptions.{LinearRow, Con as points_of}
 use Rattle.lra_linear_spec.specs.Polyhedra.{Polyhedron}
 use Rattle.lra_linear_spec.specs.declared.GenKind.{GenKind}
 use Rattle.lra_linear_spec.specs.declared.GenKind.TheVariants as gen
-use Rattle.lra_sys.specs.FirstPlaces.{FirstAt}
-use Rattle.lra_sys.specs.Membership.{HoldsInRange, IsWide}
+use Rattle.lra_systems.specs.FirstPlaces.{FirstAt}
+use Rattle.lra_systems.specs.Membership.{HoldsInRange, IsWide}
 use Rattle.lra_duality.specs.Inclusions.{IsInclusion}
 use Rattle.lra_duality.specs.declared.inclusion.Inclusion.{Inclusion}
 use Rattle.lra_duality.specs.declared.inclusion.Inclusion.TheVariants as inclusion

@@ -4,8 +4,8 @@ use Rattle.std.specs.Prelude.{option_map, Result, Ok, Err, Vec, IfSome, string_b
 use Rattle.std.specs.BTreeMap.{get_by_text}
 use Rattle.std.specs.declared.alloc.Global.{Global}
 use Rattle.lra_linear_spec.specs.Polyhedra.{Polyhedron}
-use Rattle.lra_sys.specs.declared.membership.Holds as H
-use Rattle.lra_sys.specs.declared.membership.Holds.TheVariants as holds
+use Rattle.lra_systems.specs.declared.membership.MembershipAnswer as H
+use Rattle.lra_systems.specs.declared.membership.MembershipAnswer.TheVariants as holds
 use Rattle.lra_poly.specs.declared.outcome.Outcome.{Outcome}
 use Rattle.lra_poly.specs.declared.outcome.Outcome.TheVariants as outcome
 use Rattle.lra_duality.specs.declared.inclusion.Inclusion.{Inclusion}
@@ -42,7 +42,7 @@ abbrev pub answer_of : answering.Answer → script.Answer
 answer_of a = record { text = string_bytes a.text; wide = a.is_wide }
 
 -- yes, no, or wide
-abbrev pub answered : H.Holds → Option Bool
+abbrev pub answered : H.MembershipAnswer → Option Bool
 answered holds.Yes = Some true
 answered (holds.No place) = Some false
 answered (holds.Wide place) = None

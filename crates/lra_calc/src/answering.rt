@@ -3,7 +3,7 @@
 ghost use Rattle.std.specs.Prelude.{◌≡◌, ◌≤◌, ◌<◌, ◌<ℤ◌, ◌++◌, suc, length, codes, string_bytes, Ok, IfOk, OnOk, pos};
 ghost use Rattle.std.specs.Prelude.{ℕ, ℤ};
 ghost use Rattle.lra_show.specs.Texts.{text_line};
-ghost use Rattle.lra_sys.specs.Listed.{constraints as constraints_of};
+ghost use Rattle.lra_systems.specs.LinearSystems.{constraints as constraints_of};
 ghost use Rattle.lra_duality.specs.Inclusions.{IsInclusion};
 ghost use Rattle.lra_duality.specs.Maxima.{IsMaximum};
 ghost use Rattle.lra_script.specs.LineForms.{greatest_dims};
@@ -16,7 +16,7 @@ use crate::making::form_of;
 use crate::showing::{fraction, generator_at, push_polyhedron};
 use lra_duality::{Inclusion, Maximum};
 use lra_poly::Poly;
-use lra_sys::{ConSys, Holds};
+use lra_systems::{ConSys, MembershipAnswer};
 use std::alloc::{AllocError, Global};
 use std::fmt::Write;
 
@@ -42,18 +42,18 @@ pub fn show(alloc: Global, name: &str, set: &Poly) -> Result<Answer, AllocError>
 }
 
 /// What is printed of a membership.
-fn membership_text(answer: Holds) -> &'static str
+fn membership_text(answer: MembershipAnswer) -> &'static str
     ensures { result.now ≡ shown.answer_text (answered answer) }
 {
     match answer {
-        Holds::Yes => "yes",
-        Holds::No(_) => "no",
-        Holds::Wide(_) => "wide",
+        MembershipAnswer::Yes => "yes",
+        MembershipAnswer::No(_) => "no",
+        MembershipAnswer::Wide(_) => "wide",
     }
 }
 
 /// Whether the point is in the set that the constraints describe, tried in order; the divisor stands first.
-fn membership(constraints: &ConSys, point: &[i128]) -> Holds
+fn membership(constraints: &ConSys, point: &[i128]) -> MembershipAnswer
     requires width { length point.now ≡ suc constraints.now.dims }
     requires divisor { HasDivisor point.now }
     ensures { script.membership (constraints_of constraints.now) point.now ≡ answered result }
@@ -80,7 +80,7 @@ pub fn hold(alloc: Global, name: &str, set: &Poly, point: &[i128]) -> Result<Ans
     push_membership(&mut text, name, membership_text(answer))?;
     Ok(Answer {
         text,
-        is_wide: matches!(answer, Holds::Wide(_)),
+        is_wide: matches!(answer, MembershipAnswer::Wide(_)),
     })
 }
 

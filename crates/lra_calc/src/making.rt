@@ -4,9 +4,9 @@ ghost use Rattle.std.specs.Prelude.{◌≡◌, ◌≤◌, ◌<◌, ◌∷◌, su
 ghost use Rattle.std.specs.List.{All};
 ghost use Rattle.lra_linear_spec.specs.Representable.{IsRepresentable};
 ghost use Rattle.lra_linear_spec.specs.Kinds.{is_line};
-ghost use Rattle.lra_sys.specs.Listed.{constraints as constraints_of, generators as generators_of, FitKinds};
+ghost use Rattle.lra_systems.specs.LinearSystems.{constraints as constraints_of, generators as generators_of, FitKinds};
 ghost use Rattle.lra_poly.specs.Outcomes.{Becomes};
-ghost use Rattle.lra_lin.specs.Form.{form_row};
+ghost use Rattle.lra_linear_forms.specs.Form.{form_row};
 ghost use Rattle.lra_script.specs.LineForms.{greatest_dims, given_of};
 ghost use Rattle.lra_script.specs.Views.{constraint_of, generator_view, IsDivided};
 ghost use Rattle.lra_calc.specs.MadeSets as sets;
@@ -15,12 +15,12 @@ ghost use Rattle.lra_calc.specs.Views.{fault_of, is_flagged};
 
 use crate::refusal::Fault;
 use lra_images::{forget, image, preimage};
-use lra_lin::LinExpr;
+use lra_linear_forms::LinExpr;
 use lra_maps::time_elapse;
 use lra_poly::{Outcome, Poly};
 use lra_row::Row;
 use lra_script::{Combination, Constraint, Generator, Mapping};
-use lra_sys::{ConSys, GenKind, GenSys};
+use lra_systems::{ConSys, GenKind, GenSys};
 use std::alloc::{AllocError, Global};
 
 /// A polyhedron, and whether it is flagged: it may then be larger than what it was made of.

@@ -19,7 +19,7 @@ use Rattle.lra_linear_spec.proofs.Membership.{contains_none, contains_cases}
 use Rattle.lra_linear_spec.proofs.Products.{entry_past, dot_same, dot_plus, product_comm, product_none}
 use Rattle.lra_linear_spec.proofs.Ring.{ring, v, ◌⊕◌, ◌⊗◌}
 use Rattle.lra_linear_spec.proofs.UnitRows.{entry_product}
-use Rattle.lra_lin.specs.Form.{Form, form_row, form_value, KindHolds}
+use Rattle.lra_linear_forms.specs.Form.{Form, form_row, form_value, KindHolds}
 use Rattle.lra_domain.specs.Actions.{Action, assign, forget, test, embed, remove_last}
 use Rattle.lra_domain.specs.Moves.{LeadsAll}
 use Rattle.lra_multipliers.specs.Symbols.{symbol, symbols, constant_row, composed_from, composed, Walked, tests_too, gives, walked_by, walked, new_symbols}

@@ -5,7 +5,7 @@ use Rattle.std.proofs.lemmas.List.{length-map}
 use Rattle.lra_linear_spec.specs.Descriptions.{LinearRow}
 use Rattle.lra_linear_spec.specs.Kinds.{is_equality}
 use Rattle.lra_linear_spec.specs.Vectors.{zeros}
-use Rattle.lra_lin.specs.Form.{form_row}
+use Rattle.lra_linear_forms.specs.Form.{form_row}
 use Rattle.lra_domain.specs.Actions.{Action, assign, forget, test, embed, remove_last}
 use Rattle.lra_paths.specs.Paths.{Path}
 use Rattle.lra_multipliers.specs.Symbols.{symbol, symbols, composed, Walked, tests_too, gives, walked_by, walked, new_symbols, tests_in, width_of, walk_of}

@@ -7,7 +7,7 @@ use Rattle.std.proofs.lemmas.List.{length-map}
 use Rattle.std.proofs.lemmas.Option.{slice_get_within}
 use Rattle.lra_linear_spec.specs.Polyhedra.{Polyhedron, IsPolyhedron}
 use Rattle.lra_linear_spec.specs.declared.ConKind.{ConKind}
-use Rattle.lra_sys.specs.Listed.{Listed}
+use Rattle.lra_systems.specs.LinearSystems.{LinearSystem}
 use Rattle.lra_tree.specs.Trees.{FileTree}
 use Rattle.lra_meaning.specs.Resolve.{resolve}
 use Rattle.lra_program.specs.Program.{Program}
@@ -87,10 +87,10 @@ module _ (t : FileTree) (g : Node) (sites : List Site) (has : HasGraph t g sites
   closed = polyhedra_closed (plan_of certify_options constants) (resolve t) g solved.result values verdicts flagged refl solved.derived solved.solves wide
       once
 
-  as_long : (states : List (Option (Listed ConKind))) → map state_view states ≡ map state_by values → length states ≡ length values
+  as_long : (states : List (Option (LinearSystem ConKind))) → map state_view states ≡ map state_by values → length states ≡ length values
   as_long states same = sym (length-map states state_view) ∙ ap length same ∙ length-map values state_by
 
-  pub states_many : (states : List (Option (Listed ConKind))) → map state_view states ≡ map state_by values → length states ≡ length sites
+  pub states_many : (states : List (Option (LinearSystem ConKind))) → map state_view states ≡ map state_by values → length states ≡ length sites
   states_many states same = as_long states same ∙ many ∙ sym (ap length has.points)
 
   pub listed : AreListable (sites_of (resolve t)) (proved_in verdicts)
@@ -101,7 +101,7 @@ module _ (t : FileTree) (g : Node) (sites : List Site) (has : HasGraph t g sites
   pub stay : AllByRecursion IsPolyhedron values → PathsStay (resolve t) g (map state_by values) (proved_in verdicts)
   stay canonical = paths_stay (resolve t) g values verdicts closed wide many canonical
 
-  pub have_dims : (states : List (Option (Listed ConKind))) → map dims_in states ≡ map dims_by values → HaveDims sites states
+  pub have_dims : (states : List (Option (LinearSystem ConKind))) → map dims_in states ≡ map dims_by values → HaveDims sites states
   have_dims states same q rows there =
       let low = slice_get_within states q (Some rows) there in
       let long : length states ≡ length values = sym (length-map states dims_in) ∙ ap length same ∙ length-map values dims_by in

@@ -12,7 +12,7 @@ use Rattle.lra_linear_spec.specs.Polyhedra.{Polyhedron, IsPolyhedron}
 use Rattle.lra_linear_spec.specs.SetOperations.{assigned, SameBut}
 use Rattle.lra_linear_spec.specs.Vectors.{entry, product}
 use Rattle.lra_linear_spec.proofs.Products.{entry_set_other}
-use Rattle.lra_lin.specs.Form.{form_row}
+use Rattle.lra_linear_forms.specs.Form.{form_row}
 use Rattle.lra_domain.specs.Actions.{Action, dims_after, assign, forget, test, embed, remove_last}
 use Rattle.lra_polydom.specs.Meaning.{polyhedron_meaning}
 use Rattle.lra_program.specs.Program.{Program}

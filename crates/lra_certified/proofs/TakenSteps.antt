@@ -11,7 +11,7 @@ use Rattle.lra_linear_spec.specs.declared.ConKind.{ConKind}
 use Rattle.lra_linear_spec.specs.declared.GenKind.{GenKind}
 use Rattle.lra_linear_spec.proofs.Membership.{contains_head}
 use Rattle.lra_linear_spec.proofs.OneSpelling.{falsity_never}
-use Rattle.lra_sys.specs.Listed.{Listed, given_by, generators}
+use Rattle.lra_systems.specs.LinearSystems.{LinearSystem, rows_by_kind, generators}
 use Rattle.lra_certificate.specs.Judged.{State}
 use Rattle.lra_certify.specs.Staying.{IsIn}
 use Rattle.lra_certified.specs.Taken.{rows_if_any, state_by, dims_by, dims_in}
@@ -42,14 +42,14 @@ pub state_rows : (p : Polyhedron) (given : List LinearRow) → state_by p ≡ So
 state_rows p given e = rows_are p.generators p.rows given e
 
 any_listed : (rows : List (List ℤ)) (kinds : List GenKind) (given : List LinearRow) → length kinds ≡ length rows → 0 < length kinds
-    → rows_if_any (given_by is_line rows kinds) given ≡ Some given
+    → rows_if_any (rows_by_kind is_line rows kinds) given ≡ Some given
 any_listed [] [] given long some = absurd (omega (arith, some))
 any_listed [] (k ∷ kinds) given long some = absurd (omega (arith, long))
 any_listed (r ∷ rows) [] given long some = absurd (omega (arith, some))
 any_listed (r ∷ rows) (k ∷ kinds) given long some = refl
 
 -- where a list of generators has a kind
-pub rows_kept : (gens : Listed GenKind) (given rows : List LinearRow) → length gens.kinds ≡ length gens.rows → 0 < length gens.kinds
+pub rows_kept : (gens : LinearSystem GenKind) (given rows : List LinearRow) → length gens.kinds ≡ length gens.rows → 0 < length gens.kinds
     → generators gens ≡ given → rows_if_any given rows ≡ Some rows
 rows_kept gens given rows long some is =
     subst (λ (gs : List LinearRow). rows_if_any gs rows ≡ Some rows) is (any_listed gens.rows gens.kinds rows long some)
@@ -60,7 +60,7 @@ some_dims n m None e = absurd (none-some m (sym e))
 some_dims n m (Some rows) e = same_Some m n e
 
 -- rows that are taken have the dimensions of the value at their place
-pub taken_dims : (states : List (Option (Listed ConKind))) (values : List Polyhedron) (q : ℕ) (rows : Listed ConKind) (v : Polyhedron)
+pub taken_dims : (states : List (Option (LinearSystem ConKind))) (values : List Polyhedron) (q : ℕ) (rows : LinearSystem ConKind) (v : Polyhedron)
     → map dims_in states ≡ map dims_by values → slice_get states q ≡ Some (Some rows) → slice_get values q ≡ Some v → rows.dims ≡ v.dims
 taken_dims states values q rows v same there value =
     let left = slice_get-map dims_in states q ∙ ap (option_map dims_in) there in

@@ -5,7 +5,7 @@ use Rattle.std.specs.List.{filter}
 use Rattle.lra_linear_spec.specs.Descriptions.{LinearRow}
 use Rattle.lra_linear_spec.specs.Polyhedra.{Polyhedron}
 use Rattle.lra_linear_spec.specs.declared.ConKind.{ConKind}
-use Rattle.lra_sys.specs.Listed.{Listed}
+use Rattle.lra_systems.specs.LinearSystems.{LinearSystem}
 use Rattle.lra_certificate.specs.Judged.{State}
 
 -- the rows where there is a generator
@@ -20,7 +20,7 @@ state_by p = rows_if_any p.generators p.rows
 abbrev pub dims_by : Polyhedron → Option ℕ
 dims_by p = option_map (λ rows. p.dims) (state_by p)
 
-abbrev pub dims_in : Option (Listed ConKind) → Option ℕ
+abbrev pub dims_in : Option (LinearSystem ConKind) → Option ℕ
 dims_in state = option_map (λ rows. rows.dims) state
 
 abbrev pub proved_in : List (ℕ × Bool) → List ℕ

@@ -7,7 +7,7 @@ ghost use Rattle.lra_verify.specs.PointViews.{state_view};
 ghost use Rattle.lra_certified.specs.Taken.{state_by, dims_by, dims_in, proved_in};
 
 use lra_polydom::Polyhedron;
-use lra_sys::ConSys;
+use lra_systems::ConSys;
 use std::alloc::{AllocError, Global};
 
 /// The rows of a value; none where it has no point.

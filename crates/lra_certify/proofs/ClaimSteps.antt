@@ -12,7 +12,7 @@ use Rattle.lra_linear_spec.specs.Range.{InRange}
 use Rattle.lra_linear_spec.specs.Vectors.{negated}
 use Rattle.lra_linear_spec.proofs.SetOperations.{system_append_in}
 use Rattle.lra_linear_spec.proofs.Membership.{contains_head, contains_tail}
-use Rattle.lra_sys.specs.Listed.{constraints}
+use Rattle.lra_systems.specs.LinearSystems.{constraints}
 use Rattle.lra_multipliers.specs.declared.multipliers.Multipliers as made
 use Rattle.lra_multipliers.specs.MultiplierViews.{multipliers_view}
 use Rattle.lra_multipliers.specs.Multipliers.{Multipliers, yes, IsAnswer}

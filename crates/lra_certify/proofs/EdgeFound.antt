@@ -6,7 +6,7 @@ use Rattle.lra_linear_spec.specs.declared.ConKind.{ConKind}
 use Rattle.lra_linear_spec.specs.declared.Excess.{Excess}
 use Rattle.lra_linear_spec.specs.Descriptions.{LinearRow}
 use Rattle.lra_linear_spec.specs.Vectors.{zeros}
-use Rattle.lra_sys.specs.Listed.{Listed, constraints}
+use Rattle.lra_systems.specs.LinearSystems.{LinearSystem, constraints}
 use Rattle.lra_domain.specs.Actions.{Action}
 use Rattle.lra_paths.specs.Paths.{path_by}
 use Rattle.lra_ways.specs.Ways.{denies}
@@ -26,13 +26,14 @@ use Rattle.lra_certify.proofs.NeverUnshown.{AreLaws}
 use Rattle.lra_certify.proofs.PathSteps.{strained_weaker}
 
 -- the rows of a list have its width
-rows_wide : (s : Listed ConKind) (seen : List (List ℤ)) → seen ≡ s.rows → All (λ r. length r ≡ suc s.dims) seen → (f : LinearRow) → Contains (constraints s) f →
+rows_wide : (s : LinearSystem ConKind) (seen : List (List ℤ)) → seen ≡ s.rows → All (λ r. length r ≡ suc s.dims) seen → (f : LinearRow) →
+    Contains (constraints s) f →
     length f.row ≡ suc s.dims
 rows_wide s seen is wide = λ f k.
     (as_wide s seen (zeros (suc s.dims)) is wide (length_zeros (suc s.dims))).each f k ∙ length_zeros (suc s.dims)
 
 -- ---- a path with its grounds
-module _ (rows : Listed ConKind) (steps : List Action) (t : Track) (track : IsTrack rows.dims (constraints rows) steps t) (target : State) where
+module _ (rows : LinearSystem ConKind) (steps : List Action) (t : Track) (track : IsTrack rows.dims (constraints rows) steps t) (target : State) where
   abbrev HasGrounds : Option Grounds → Type 0
   HasGrounds o = MatchOption o ((e : Excess) × (walk_of rows.dims steps ≡ Err e)) (AreGroundsOf rows.dims (constraints rows) steps)
 

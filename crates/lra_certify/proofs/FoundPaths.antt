@@ -12,7 +12,7 @@ use Rattle.lra_linear_spec.specs.Polyhedra.{falsity}
 use Rattle.lra_linear_spec.specs.Vectors.{entry, product}
 use Rattle.lra_linear_spec.proofs.Descriptions.{con_solves}
 use Rattle.lra_linear_spec.proofs.Membership.{contains_head, contains_tail, map_has}
-use Rattle.lra_sys.specs.Listed.{constraints}
+use Rattle.lra_systems.specs.LinearSystems.{constraints}
 use Rattle.lra_paths.specs.Paths.{Path}
 use Rattle.lra_multipliers.specs.Symbols.{Walked, composed, width_of}
 use Rattle.lra_multipliers.specs.Multipliers.{Multipliers, Shows, yes, IsAnswer}

@@ -14,7 +14,7 @@ use Rattle.lra_linear_spec.specs.Descriptions.{LinearRow}
 use Rattle.lra_linear_spec.specs.Kinds.{is_equality}
 use Rattle.lra_linear_spec.specs.Range.{InRange}
 use Rattle.lra_linear_spec.proofs.Membership.{contains_head, contains_tail}
-use Rattle.lra_sys.specs.Listed.{Listed, constraints, given_by}
+use Rattle.lra_systems.specs.LinearSystems.{LinearSystem, constraints, rows_by_kind}
 use Rattle.lra_program.specs.Sites.{Site}
 use Rattle.lra_paths.specs.Paths.{path_by}
 use Rattle.lra_ways.specs.Ways.{comes_to}
@@ -52,7 +52,7 @@ every_number [] h = tt
 every_number (x ∷ xs) h = (h x (contains_head x xs), every_number xs (λ y k. h y (contains_tail x y xs k)))
 
 given_rows : (n : ℕ) (rows : List (List ℤ)) (kinds : List ConKind) → ((r : List ℤ) → Contains rows r → length r ≡ suc n) →
-    ((r : List ℤ) → Contains rows r → All InRange r) → AllByRecursion (IsPointRow n) (given_by is_equality rows kinds)
+    ((r : List ℤ) → Contains rows r → All InRange r) → AllByRecursion (IsPointRow n) (rows_by_kind is_equality rows kinds)
 given_rows n [] kinds w h = tt
 given_rows n (r ∷ rows) [] w h = tt
 given_rows n (r ∷ rows) (k ∷ kinds) w h = (
@@ -60,10 +60,10 @@ given_rows n (r ∷ rows) (k ∷ kinds) w h = (
   given_rows n rows kinds (λ s m. w s (contains_tail r s rows m)) (λ s m. h s (contains_tail r s rows m)),
 )
 
-pub point_rows : (rows : Listed ConKind) (seen : List (List ℤ)) → seen ≡ rows.rows → All (λ r. length r ≡ suc rows.dims) seen →
+pub point_rows : (rows : LinearSystem ConKind) (seen : List (List ℤ)) → seen ≡ rows.rows → All (λ r. length r ≡ suc rows.dims) seen →
     All (All InRange) seen → ArePointRows rows
 point_rows rows seen is w h =
-    subst (λ (rs : List (List ℤ)). AllByRecursion (IsPointRow rows.dims) (given_by is_equality rs rows.kinds)) is
+    subst (λ (rs : List (List ℤ)). AllByRecursion (IsPointRow rows.dims) (rows_by_kind is_equality rs rows.kinds)) is
     (given_rows rows.dims seen rows.kinds (λ r m. All-contains (λ (r : List ℤ). length r ≡ suc rows.dims) seen r w m)
     (λ r m. All-contains (All InRange) seen r h m))
 
@@ -79,13 +79,13 @@ pub states_end : (t all : List ℕ) (n : ℕ) (here : List State) → here ≡ [
 states_end t all n here none before = sym (append-nil t) ∙ ap (λ (ss : List State). t ++ states_text n ss) (sym none) ∙ before
 
 -- they are as wide as their points
-is_state : (live : ℕ) (o : Option (Listed ConKind)) → ((rows : Listed ConKind) → o ≡ Some rows → rows.dims ≡ live) → HasPointRows o →
+is_state : (live : ℕ) (o : Option (LinearSystem ConKind)) → ((rows : LinearSystem ConKind) → o ≡ Some rows → rows.dims ≡ live) → HasPointRows o →
     IsState live (state_view o)
 is_state live None dims h = tt
 is_state live (Some rows) dims h = subst (λ (n : ℕ). AllByRecursion (IsPointRow n) (constraints rows)) (dims rows refl) h
 
-pub are_states : (sites : List Site) (states : List (Option (Listed ConKind))) → length states ≡ length sites → HaveDims sites states →
-    ((o : Option (Listed ConKind)) →
+pub are_states : (sites : List Site) (states : List (Option (LinearSystem ConKind))) → length states ≡ length sites → HaveDims sites states →
+    ((o : Option (LinearSystem ConKind)) →
     Contains states o → HasPointRows o) → AreStates sites (map state_view states)
 are_states [] [] e dims h = tt
 are_states [] (s ∷ ss) e dims h = absurd (omega (arith, e))
@@ -137,35 +137,36 @@ rows_written old first new n rows a b =
     b ∙ ap (λ (t : List ℕ). t ++ rows_text rows) a ∙ append_assoc old (text_line (point_text n)) (rows_text rows)
 
 -- ---- as they are handed on
-module _ {X E : Type 0} (old new : List ℕ) (n : ℕ) (o : Option (Bor (Listed ConKind))) where
+module _ {X E : Type 0} (old new : List ℕ) (n : ℕ) (o : Option (Bor (LinearSystem ConKind))) where
   pub empty_told : (r : Result X E) → o ≡ None → OnOk r (new ≡ old ++ (codes "point " ++ (decimal n ++ codes " empty\n"))) →
       OnOk r (new ≡ old ++ state_text n (rows_of o))
   empty_told r is h =
-      on_ok_weaker r (λ e. empty_written old new n e ∙ ap (λ (x : Option (Bor (Listed ConKind))). old ++ state_text n (rows_of x)) (sym is)) h
+      on_ok_weaker r (λ e. empty_written old new n e ∙ ap (λ (x : Option (Bor (LinearSystem ConKind))). old ++ state_text n (rows_of x)) (sym is)) h
 
-  pub rows_told : (rows : Bor (Listed ConKind)) → o ≡ Some rows → (first : List ℕ) → first ≡ old ++ (codes "point " ++ (decimal n ++ codes "\n")) →
+  pub rows_told : (rows : Bor (LinearSystem ConKind)) → o ≡ Some rows → (first : List ℕ) → first ≡ old ++ (codes "point " ++ (decimal n ++ codes "\n")) →
       (r : Result X E) → OnOk r (new ≡ first ++ rows_text (constraints rows.now)) → OnOk r (new ≡ old ++ state_text n (rows_of o))
   rows_told rows is first a r h =
       on_ok_weaker r
       (λ e. rows_written old first new n (constraints rows.now) (numbered_written (codes "point ") old first n n refl a) e ∙
-      ap (λ (x : Option (Bor (Listed ConKind))). old ++ state_text n (rows_of x)) (sym is)) h
+      ap (λ (x : Option (Bor (LinearSystem ConKind))). old ++ state_text n (rows_of x)) (sym is)) h
 
-pub fit_none : {X E : Type 0} (r : Result X E) (o : Option (Bor (Listed ConKind))) → o ≡ None → OnOk r (IfSome o (λ x. ArePointRows x.now))
-fit_none (Ok x) o is = subst (λ (p : Option (Bor (Listed ConKind))). IfSome p (λ x. ArePointRows x.now)) (sym is) tt
+pub fit_none : {X E : Type 0} (r : Result X E) (o : Option (Bor (LinearSystem ConKind))) → o ≡ None → OnOk r (IfSome o (λ x. ArePointRows x.now))
+fit_none (Ok x) o is = subst (λ (p : Option (Bor (LinearSystem ConKind))). IfSome p (λ x. ArePointRows x.now)) (sym is) tt
 fit_none (Err e) o is = tt
 
-pub fit_some : {X E : Type 0} (r : Result X E) (o : Option (Bor (Listed ConKind))) (rows : Bor (Listed ConKind)) → o ≡ Some rows → ArePointRows rows.now →
+pub fit_some : {X E : Type 0} (r : Result X E) (o : Option (Bor (LinearSystem ConKind))) (rows : Bor (LinearSystem ConKind)) → o ≡ Some rows →
+    ArePointRows rows.now →
     OnOk r (IfSome o (λ x. ArePointRows x.now))
-fit_some (Ok x) o rows is h = subst (λ (p : Option (Bor (Listed ConKind))). IfSome p (λ x. ArePointRows x.now)) (sym is) h
+fit_some (Ok x) o rows is h = subst (λ (p : Option (Bor (LinearSystem ConKind))). IfSome p (λ x. ArePointRows x.now)) (sym is) h
 fit_some (Err e) o rows is h = tt
 
 -- a point of a list as the code takes it
-module _ (r : Option (Bor (Listed ConKind))) (o : Option (Listed ConKind)) (is : option_copied r ≡ o) where
-  here_seen : (x : Option (Bor (Listed ConKind))) → rows_of x ≡ state_view (option_copied x)
+module _ (r : Option (Bor (LinearSystem ConKind))) (o : Option (LinearSystem ConKind)) (is : option_copied r ≡ o) where
+  here_seen : (x : Option (Bor (LinearSystem ConKind))) → rows_of x ≡ state_view (option_copied x)
   here_seen None = refl
   here_seen (Some rows) = refl
 
-  here_fits : (x : Option (Bor (Listed ConKind))) → IfSome x (λ y. ArePointRows y.now) → HasPointRows (option_copied x)
+  here_fits : (x : Option (Bor (LinearSystem ConKind))) → IfSome x (λ y. ArePointRows y.now) → HasPointRows (option_copied x)
   here_fits None h = tt
   here_fits (Some rows) h = h
 
@@ -175,11 +176,11 @@ module _ (r : Option (Bor (Listed ConKind))) (o : Option (Listed ConKind)) (is :
   state_fits : IfSome r (λ y. ArePointRows y.now) → HasPointRows o
   state_fits h = subst HasPointRows is (here_fits r h)
 
-  module _ (xs : List (Option (Listed ConKind))) (i : ℕ) (low : i < length xs) (item : o ≡ slice_index_or xs i o) where
+  module _ (xs : List (Option (LinearSystem ConKind))) (i : ℕ) (low : i < length xs) (item : o ≡ slice_index_or xs i o) where
     states_next : map state_view (drop i xs) ≡ state_view o ∷ map state_view (drop (i + 1) xs)
     states_next =
-        ap (λ (l : List (Option (Listed ConKind))). map state_view l) (drop-cons xs i o low) ∙
-        ap (λ (x : Option (Listed ConKind)). state_view x ∷ map state_view (drop (suc i) xs)) (sym item) ∙
+        ap (λ (l : List (Option (LinearSystem ConKind))). map state_view l) (drop-cons xs i o low) ∙
+        ap (λ (x : Option (LinearSystem ConKind)). state_view x ∷ map state_view (drop (suc i) xs)) (sym item) ∙
         ap (λ (j : ℕ). state_view o ∷ map state_view (drop j xs)) (sym (add-one i))
 
     pub states_so_far : (old new all : List ℕ) → old ++ states_text (suc i) (map state_view (drop i xs)) ≡ all →
@@ -191,9 +192,9 @@ module _ (r : Option (Bor (Listed ConKind))) (o : Option (Listed ConKind)) (is :
 
     pub fit_so_far : All HasPointRows (take i xs) → IfSome r (λ y. ArePointRows y.now) → All HasPointRows (take (i + 1) xs)
     fit_so_far before h =
-        subst (λ (l : List (Option (Listed ConKind))). All HasPointRows l)
-        (sym (ap (λ (j : ℕ). take j xs) (add-one i) ∙ take-suc xs i o low ∙ ap (λ (x : Option (Listed ConKind)). take i xs ++ x ∷ []) (sym item)))
+        subst (λ (l : List (Option (LinearSystem ConKind))). All HasPointRows l)
+        (sym (ap (λ (j : ℕ). take j xs) (add-one i) ∙ take-suc xs i o low ∙ ap (λ (x : Option (LinearSystem ConKind)). take i xs ++ x ∷ []) (sym item)))
         (All-append HasPointRows (take i xs) (o ∷ []) before (All-cons HasPointRows o [] (state_fits h) (All-nil HasPointRows)))
 
-pub fit_all : (xs : List (Option (Listed ConKind))) (i : ℕ) → length xs ≤ i → All HasPointRows (take i xs) → All HasPointRows xs
-fit_all xs i h fit = subst (λ (l : List (Option (Listed ConKind))). All HasPointRows l) (take_all i xs h) fit
+pub fit_all : (xs : List (Option (LinearSystem ConKind))) (i : ℕ) → length xs ≤ i → All HasPointRows (take i xs) → All HasPointRows xs
+fit_all xs i h fit = subst (λ (l : List (Option (LinearSystem ConKind))). All HasPointRows l) (take_all i xs h) fit

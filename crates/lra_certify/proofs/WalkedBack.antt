@@ -11,7 +11,7 @@ use Rattle.lra_linear_spec.specs.Vectors.{entry, product, zeros}
 use Rattle.lra_linear_spec.proofs.OneSpelling.{dot_zeros}
 use Rattle.lra_linear_spec.proofs.Products.{product_none}
 use Rattle.lra_linear_spec.proofs.UnitRows.{entry_product}
-use Rattle.lra_lin.specs.Form.{form_row}
+use Rattle.lra_linear_forms.specs.Form.{form_row}
 use Rattle.lra_domain.specs.Actions.{Action, assign, forget, test, embed, remove_last}
 use Rattle.lra_multipliers.specs.Symbols.{symbol, symbols, composed, Walked, tests_too, gives, walked_by, walked, new_symbols, width_of, walk_of}
 use Rattle.lra_multipliers.proofs.CheckSteps.{length_zeros}

@@ -6,7 +6,7 @@ use Rattle.lra_linear_spec.specs.declared.Excess.{Excess}
 use Rattle.lra_linear_spec.specs.Descriptions.{Con, system_of}
 use Rattle.lra_linear_spec.specs.Points.{IsPoint, IsEmptySet}
 use Rattle.lra_linear_spec.specs.Vectors.{entry, product}
-use Rattle.lra_sys.specs.Listed.{constraints}
+use Rattle.lra_systems.specs.LinearSystems.{constraints}
 use Rattle.lra_multipliers.specs.Multipliers.{Multipliers, yes, IsAnswer}
 use Rattle.lra_certificate.specs.Certificates.{Evidence, none, dead, by, AreNumbers}
 use Rattle.lra_certificate.specs.CertificateText.{text_line, multipliers_text, evidence_text}

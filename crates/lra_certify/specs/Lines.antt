@@ -3,7 +3,7 @@ use Rattle.std.specs.Prelude.{ℕ, ⊤, List, Option, None, Some}
 use Rattle.std.specs.List.{flat_map, AllByRecursion}
 use Rattle.lra_linear_spec.specs.declared.ConKind.{ConKind}
 use Rattle.lra_linear_spec.specs.Descriptions.{LinearRow}
-use Rattle.lra_sys.specs.Listed.{Listed, constraints}
+use Rattle.lra_systems.specs.LinearSystems.{LinearSystem, constraints}
 use Rattle.lra_certificate.specs.Certificates.{IsPointRow}
 use Rattle.lra_certificate.specs.CertificateText.{text_line, row_text}
 
@@ -11,9 +11,9 @@ abbrev pub rows_text : List LinearRow → List ℕ
 rows_text rows = flat_map (λ g. text_line (row_text g)) rows
 
 -- its rows have its dimensions, and numbers of the range
-abbrev pub ArePointRows : Listed ConKind → Type 0
+abbrev pub ArePointRows : LinearSystem ConKind → Type 0
 ArePointRows rows = AllByRecursion (IsPointRow rows.dims) (constraints rows)
 
-abbrev pub HasPointRows : Option (Listed ConKind) → Type 0
+abbrev pub HasPointRows : Option (LinearSystem ConKind) → Type 0
 HasPointRows None = ⊤
 HasPointRows (Some rows) = ArePointRows rows

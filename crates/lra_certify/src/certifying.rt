@@ -19,7 +19,7 @@ use crate::text::{push_end, push_states};
 use lra_operations::Graph;
 use lra_paths::{PathsFailure, find_paths};
 use lra_program::Program;
-use lra_sys::ConSys;
+use lra_systems::ConSys;
 use lra_verify::{Ways, all_sources};
 use std::alloc::Global;
 

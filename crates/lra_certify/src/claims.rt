@@ -5,7 +5,7 @@ ghost use Rattle.std.specs.Prelude.{◌<◌, [], ◌∷◌, length, OnOk, IfOk, 
 ghost use Rattle.lra_linear_spec.specs.Cones.{with_row};
 ghost use Rattle.lra_linear_spec.specs.Descriptions.{system_of};
 ghost use Rattle.lra_linear_spec.specs.Kinds.{is_equality};
-ghost use Rattle.lra_sys.specs.Listed.{constraints};
+ghost use Rattle.lra_systems.specs.LinearSystems.{constraints};
 ghost use Rattle.lra_multipliers.specs.MultiplierViews.{multipliers_view};
 ghost use Rattle.lra_lines.specs.TrackViews.{AreGrounds, row_of, rows_of};
 ghost use Rattle.lra_certify.specs.GroundViews.{IsLine, IsLineFailure, IsNotShown, IsEvidence, HoldsOn, AllLead};
@@ -18,7 +18,7 @@ use lra_linear_spec::ConKind;
 use lra_lines::Grounds;
 use lra_multipliers::Multipliers;
 use lra_row::{Row, RowError};
-use lra_sys::ConSys;
+use lra_systems::ConSys;
 use std::alloc::Global;
 
 /// The first multipliers of a claim: a row over the variables, or that nothing is left.

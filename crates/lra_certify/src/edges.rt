@@ -1,7 +1,7 @@
 //! The lines of all paths, from one source after the other.
 
 ghost use Rattle.std.specs.Prelude.{◌≤◌, ◌<◌, ◌^◌, [], ◌∷◌, map, length, OnOk, IfErr, Some, string_bytes};
-ghost use Rattle.lra_sys.specs.Listed.{constraints};
+ghost use Rattle.lra_systems.specs.LinearSystems.{constraints};
 ghost use Rattle.lra_paths.specs.Paths.{path_by};
 ghost use Rattle.lra_sides.specs.TableSides.{all_done, lists_done};
 ghost use Rattle.lra_ways.specs.Ways.{comes_to};
@@ -17,7 +17,7 @@ use crate::failures::{CertifyFailure, PathFailure, StrainedAt};
 use crate::text::push_edge;
 use lra_domain::Change;
 use lra_lines::Track;
-use lra_sys::ConSys;
+use lra_systems::ConSys;
 use lra_verify::Ways;
 use lra_ways::Goal;
 use std::alloc::Global;

@@ -2,7 +2,7 @@
 
 ghost use Rattle.std.specs.Prelude.{◌≤◌, ◌<◌, ◌^◌, ◌∷◌, [], length, OnOk, IfErr, string_bytes};
 ghost use Rattle.std.specs.List.{All};
-ghost use Rattle.lra_sys.specs.Listed.{constraints};
+ghost use Rattle.lra_systems.specs.LinearSystems.{constraints};
 ghost use Rattle.lra_sides.specs.TableSides.{lists_done};
 ghost use Rattle.lra_ways.specs.Ways.{denies};
 ghost use Rattle.lra_verify.specs.EdgeViews.{AreWays};
@@ -15,7 +15,7 @@ use crate::edges::push_path;
 use crate::failures::{CertifyFailure, PathFailure, StrainedAt};
 use crate::text::push_assertion;
 use lra_domain::Change;
-use lra_sys::ConSys;
+use lra_systems::ConSys;
 use lra_verify::Ways;
 use lra_ways::Goal;
 use std::alloc::Global;

@@ -3,7 +3,7 @@
 ghost use Rattle.std.specs.Prelude.{◌≡◌, ◌<◌, ◌^◌, ◌++◌, [], OnOk, string_bytes, map, IfSome};
 ghost use Rattle.std.specs.List.{All};
 ghost use Rattle.lra_linear_spec.specs.Kinds.{is_equality};
-ghost use Rattle.lra_sys.specs.Listed.{constraints};
+ghost use Rattle.lra_systems.specs.LinearSystems.{constraints};
 ghost use Rattle.lra_multipliers.specs.MultiplierViews.{multipliers_view};
 ghost use Rattle.lra_certificate.specs.CertificateText.{text_line, numbers_text, row_text, multipliers_text};
 ghost use Rattle.lra_certificate.specs.CertificateText.{state_text, states_text, relation_text, edge_text};
@@ -17,7 +17,7 @@ ghost use Rattle.lra_verify.specs.PointViews.{state_view};
 use lra_linear_spec::ConKind;
 use lra_multipliers::Multipliers;
 use lra_row::Row;
-use lra_sys::ConSys;
+use lra_systems::ConSys;
 use std::alloc::AllocError;
 use std::fmt::Write;
 

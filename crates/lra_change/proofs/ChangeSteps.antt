@@ -1,6 +1,6 @@
 -- Steps of the proofs on changes of values.
 use Rattle.std.proofs.Common.{◌≡◌, ℕ, suc, ◌+◌, ◌-◌, ◌≤◌, ◌<◌, List, ◌∷◌, Some, length, refl, sym, ap, ◌∙◌, subst, arith}
-use Rattle.lra_lin.specs.Form.{Form}
+use Rattle.lra_linear_forms.specs.Form.{Form}
 use Rattle.lra_domain.specs.Actions.{Action, assign, embed, remove_last, dims_after}
 use Rattle.lra_domain.specs.Changes.{AllCanBeMade}
 use Rattle.lra_domain.specs.declared.Exactness.{Exactness}
@@ -12,7 +12,7 @@ use Rattle.lra_program.specs.declared.receivers.Cell.TheVariants.{Variable}
 use Rattle.lra_program.specs.declared.receivers.Target.{Target}
 use Rattle.lra_program.specs.Program.{Expr}
 use Rattle.lra_flow.specs.Linear.{constant_form, comparison_test}
-use Rattle.lra_lin.specs.declared.test.Test.{Test}
+use Rattle.lra_linear_forms.specs.declared.test.Test.{Test}
 use Rattle.lra_base.specs.declared.operators.Comparison.{Comparison}
 use Rattle.lra_base.specs.OperatorViews.{comparison_view}
 use Rattle.lra_forms.proofs.GivenSteps.{test_wide}

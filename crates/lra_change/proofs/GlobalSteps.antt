@@ -2,7 +2,7 @@
 use Rattle.std.proofs.Common.{◌≡◌, ℕ, suc, ◌+◌, ℤ, List, ◌∷◌, length, refl, ap, ◌∙◌, subst, arith}
 use Rattle.std.specs.Prelude.{pos}
 use Rattle.std.proofs.lemmas.List.{length-replicate}
-use Rattle.lra_lin.specs.Form.{Form}
+use Rattle.lra_linear_forms.specs.Form.{Form}
 use Rattle.lra_domain.specs.Actions.{assign, embed}
 use Rattle.lra_domain.specs.declared.Exactness.{Exactness}
 use Rattle.lra_domain.specs.Parts.{CapsWithin}

@@ -16,7 +16,7 @@ use Rattle.lra_domain.specs.Actions.{embed}
 use Rattle.lra_domain.specs.declared.Exactness.{Exactness}
 use Rattle.lra_domain.specs.Meaning.{Meaning}
 use Rattle.lra_domain.specs.Moves.{Moves, stay, make, first_then, join_of, dims_moved}
-use Rattle.lra_lin.specs.declared.test.Test.{Test}
+use Rattle.lra_linear_forms.specs.declared.test.Test.{Test}
 use Rattle.lra_flow.specs.Linear as linear
 use Rattle.lra_flow.specs.Linear.{comparison_test}
 use Rattle.lra_flow.specs.declared.seen.Division.{Division}

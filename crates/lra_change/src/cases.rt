@@ -11,7 +11,7 @@ ghost use Rattle.lra_change.specs.Changes.{Does, Stays};
 use lra_domain::{Change, Domain, Exactness, worse};
 use lra_flow::Division;
 use lra_forms::{first_case, second_case};
-use lra_lin::LinExpr;
+use lra_linear_forms::LinExpr;
 use std::alloc::{AllocError, Global};
 
 /// Makes the changes, one behind the other.

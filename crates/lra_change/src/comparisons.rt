@@ -18,7 +18,7 @@ use lra_base::Comparison;
 use lra_domain::{Change, Domain, Exactness, worse};
 use lra_flow::{Division, Seen};
 use lra_forms::{comparison_where, see_difference, subtract_number, test_of};
-use lra_lin::LinExpr;
+use lra_linear_forms::LinExpr;
 use lra_program::Expr;
 use std::alloc::{AllocError, Global};
 

@@ -10,7 +10,7 @@ ghost use Rattle.lra_change.specs.Changes.{Does};
 use lra_base::NumberType;
 use lra_domain::{Domain, Exactness, worse};
 use lra_forms::form_of_one;
-use lra_lin::Test;
+use lra_linear_forms::Test;
 use lra_linear_spec::ConKind;
 use std::alloc::{AllocError, Global};
 

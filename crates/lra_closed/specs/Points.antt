@@ -1,7 +1,7 @@
 -- Points of a domain's values and heads, of any kind: stores of whole numbers, or rational points. How actions lead
 -- from one to another, and what the operations of an iteration owe to them.
 use Rattle.std.specs.Prelude.{◌≡◌, ℕ, List, [], ◌∷◌}
-use Rattle.lra_sys.specs.Listed.{Listed}
+use Rattle.lra_systems.specs.LinearSystems.{LinearSystem}
 use Rattle.lra_linear_spec.specs.declared.ConKind.{ConKind}
 use Rattle.lra_domain.specs.Actions.{Action}
 use Rattle.lra_domain.specs.declared.Mode.{Mode}
@@ -33,7 +33,7 @@ pub record KeepPoints {V H X : Type 0} (m : Meaning V H) (o : PointsOf V H X) : 
   pub covered : (v w : V) → m.formed w → m.covered v w → (x : X) → o.on v x → o.on w x
   -- a head has the points of its first value, those of the head that it grew from, and those of what stays in it; its
   -- value has its points
-  pub started : (v : V) (given : Listed ConKind) (h : H) → Starts m v given h → (x : X) → o.on v x → o.head_on h x
+  pub started : (v : V) (given : LinearSystem ConKind) (h : H) → Starts m v given h → (x : X) → o.on v x → o.head_on h x
   pub old : (h : H) (v : V) (next : H) → m.head_formed next → m.holds_both h v next → (x : X) → o.head_on h x →
       o.head_on next x
   pub stays : (h : H) (v : V) (mode : Mode) → m.head_formed h → m.answers h v mode Yes → (x : X) → o.on v x →

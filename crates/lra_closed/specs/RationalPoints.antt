@@ -2,7 +2,7 @@
 -- number for each dimension.
 use Rattle.std.specs.Prelude.{◌≡◌, ◌-◌, ℕ, suc, ℤ, List, length, take}
 use Rattle.lra_domain.specs.Actions.{Action, dims_after, assign, forget, test, embed, remove_last}
-use Rattle.lra_lin.specs.Form.{form_row}
+use Rattle.lra_linear_forms.specs.Form.{form_row}
 use Rattle.lra_linear_spec.specs.Descriptions.{Con, Holds}
 use Rattle.lra_linear_spec.specs.Points.{IsPoint, SamePoint}
 use Rattle.lra_linear_spec.specs.Polyhedra.{Polyhedron}

@@ -18,12 +18,12 @@ use Rattle.lra_linear_spec.specs.Descriptions.{LinearRow, system_of}
 use Rattle.lra_linear_spec.proofs.Saturation.{NotAdjacent}
 use Rattle.lra_linear_spec.proofs.CanonicalForms.{no_repeat}
 use Rattle.lra_linear_spec.proofs.Membership.{NoRepeat, contains_none, contains_cases, contains_head, contains_tail, filter_has, filter_from}
-use Rattle.lra_steps.specs.declared.pairs.Pair.{Pair}
+use Rattle.lra_double_description.specs.declared.pairs.Pair.{Pair}
 use Rattle.lra_cone.specs.Cones.{tight_values, saturation_rows}
-use Rattle.lra_steps.specs.Steps.{is_inside, outside_marks}
-use Rattle.lra_steps.specs.Pairs.{HasThird, both_tight, IsAdjacentPair, AreApart, ArePairs, pair_sum, AreCombined, tight_rows}
-use Rattle.lra_steps.proofs.PairLists.{inside_yes, inside_said}
-use Rattle.lra_steps.proofs.Cuts.{above_inside, below_inside}
+use Rattle.lra_double_description.specs.Steps.{is_inside, outside_marks}
+use Rattle.lra_double_description.specs.Pairs.{HasThird, both_tight, IsAdjacentPair, AreApart, ArePairs, pair_sum, AreCombined, pair_tight_rows}
+use Rattle.lra_double_description.proofs.PairLists.{inside_yes, inside_said}
+use Rattle.lra_double_description.proofs.Cuts.{above_inside, below_inside}
 use Rattle.lra_cone.proofs.TightRows.{subset_said, subset_from, row_at, rows_length, with_has, with_later, values_end}
 use Rattle.lra_cone.proofs.RayCase.{IsAdjacentSum, RayCase, none_between, same_two, sum_flat, sum_tight, tight_sum_of}
 
@@ -243,10 +243,10 @@ module _ (w : ℕ) (c : List ℤ) (taken : List LinearRow) (lines rays : List (L
       ap (λ (x : List Bool). x ++ true ∷ []) (a.is_tight ∙ both_is p.up p.down hu hd ∙ sym old) ∙ ap (λ (b : Bool). tight_values taken t ++ b ∷ []) (sym new) ∙ sym (values_end taken g t)
 
   pub pair_rows : (pairs : List Pair) (ts : List (List ℤ)) (g : LinearRow) → g.row ≡ c → ((p : Pair) → Contains pairs p → IsAdjacentPair products rows p) → AreCombined products rays pairs ts →
-      tight_rows pairs ≡ saturation_rows (taken ++ g ∷ []) ts
+      pair_tight_rows pairs ≡ saturation_rows (taken ++ g ∷ []) ts
   pair_rows [] [] g e each a = refl
   pair_rows [] (t ∷ ts) g e each a = absurd a
   pair_rows (p ∷ pairs) [] g e each a = absurd a
   pair_rows (p ∷ pairs) (t ∷ ts) g e each a =
-      ap (λ (x : List Bool). x ∷ tight_rows pairs) (sum_values p t (each p (contains_head p pairs)) a.0 g e) ∙
+      ap (λ (x : List Bool). x ∷ pair_tight_rows pairs) (sum_values p t (each p (contains_head p pairs)) a.0 g e) ∙
       ap (λ (x : List (List Bool)). tight_values (taken ++ g ∷ []) t ∷ x) (pair_rows pairs ts g e (λ q m. each q (contains_tail p q pairs m)) a.1)

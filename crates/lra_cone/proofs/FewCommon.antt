@@ -8,9 +8,9 @@ use Rattle.lra_bits.specs.TruthValues.{IsSubset, both, true_count}
 use Rattle.lra_linear_spec.specs.Descriptions.{LinearRow, system_of}
 use Rattle.lra_linear_spec.specs.Vectors.{entry, product}
 use Rattle.lra_linear_spec.proofs.Membership.{contains_head, contains_none, contains_tail}
-use Rattle.lra_steps.specs.Pairs.{HasThird, both_tight}
-use Rattle.lra_steps.specs.Thirds.{FewHaveThird}
-use Rattle.lra_cone.specs.Cones.{Shape, IsCone, tight_values, saturation_rows}
+use Rattle.lra_double_description.specs.Pairs.{HasThird, both_tight}
+use Rattle.lra_double_description.specs.Thirds.{FewHaveThird}
+use Rattle.lra_cone.specs.Cones.{ConeContent, IsCone, tight_values, saturation_rows}
 use Rattle.lra_cone.proofs.TightRows.{both_yes, either_tight, row_at, rows_length, subset_from, tight_either, with_cases, zero_yes}
 use Rattle.lra_cone.proofs.ThirdRays.{AreTight, third_ray}
 
@@ -47,7 +47,7 @@ common_tight (g ∷ taken) u d x h s m e f =
     ]
 
 -- ---- two rays of a cone
-pub few_common : (s : Shape) → IsCone s → (i j : ℕ) → i < length s.rays → j < length s.rays → true_count (both_tight (saturation_rows s.taken s.rays) i j) + length s.lines + 2 < suc s.dims →
+pub few_common : (s : ConeContent) → IsCone s → (i j : ℕ) → i < length s.rays → j < length s.rays → true_count (both_tight (saturation_rows s.taken s.rays) i j) + length s.lines + 2 < suc s.dims →
     HasThird (saturation_rows s.taken s.rays) i j (both_tight (saturation_rows s.taken s.rays) i j)
 few_common s k i j hi hj small =
     let rows = saturation_rows s.taken s.rays in
@@ -67,7 +67,7 @@ few_common s k i j hi hj small =
           (subset_from s.taken u d (get_or s.rays t.place []) t.tight));
     }
 
-pub few_have_third : (s : Shape) (least : ℕ) → IsCone s → least ≡ s.dims - length s.lines - 1 → FewHaveThird (saturation_rows s.taken s.rays) least
+pub few_have_third : (s : ConeContent) (least : ℕ) → IsCone s → least ≡ s.dims - length s.lines - 1 → FewHaveThird (saturation_rows s.taken s.rays) least
 few_have_third s least k is i j hi hj few =
     let many = rows_length s.taken s.rays in
     few_common s k i j (omega (arith, hi, many)) (omega (arith, hj, many)) (omega (arith, is, few))

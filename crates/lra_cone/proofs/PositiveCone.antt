@@ -20,10 +20,10 @@ use Rattle.lra_linear_spec.proofs.LowestTerms.{primitive_at}
 use Rattle.lra_linear_spec.proofs.Membership.{contains_none, map_from}
 use Rattle.lra_linear_spec.proofs.Products.{entry_negated, negated_twice}
 use Rattle.lra_linear_spec.proofs.Ring.{ring, v, ◌⊕◌, ◌⊗◌}
-use Rattle.lra_steps.specs.declared.strained.Family.TheVariants.{Lines, Rays}
-use Rattle.lra_steps.specs.declared.strained.Family.{Family}
-use Rattle.lra_steps.specs.declared.strained.Strained.{Strained}
-use Rattle.lra_steps.specs.declared.strained.Strained.TheVariants.{Product, Pair, TooMany}
+use Rattle.lra_double_description.specs.declared.strained.Family.TheVariants.{Lines, Rays}
+use Rattle.lra_double_description.specs.declared.strained.Family.{Family}
+use Rattle.lra_double_description.specs.declared.strained.Strained.{Strained}
+use Rattle.lra_double_description.specs.declared.strained.Strained.TheVariants.{Product, Pair, TooMany}
 use Rattle.lra_linear_spec.proofs.UnitRows.{unit_here, unit_length, unit_other}
 use Rattle.lra_cone.specs.Cones.{columns_from, unit_lines, whole_space}
 use Rattle.lra_cone.specs.Strains.{IsMember, IsStrain}

@@ -26,7 +26,7 @@ use Rattle.lra_linear_spec.proofs.Products.{entry_blend, blend_length, row_same,
 use Rattle.lra_linear_spec.proofs.Redundancy.{drop_keeps, redundant_tight, kept_pointed, pair_pointed}
 use Rattle.lra_linear_spec.proofs.Ring.{ring, v, ⊖, ◌⊕◌, ◌⊗◌, mul_nonnegative}
 use Rattle.lra_linear_spec.proofs.Signs.{as_nat, no_product, no_factor, cancel_same, positive_is_nonnegative, between_opposites, zero_at_least, cases_sign, above_zero}
-use Rattle.lra_steps.proofs.PairLists.{not_below}
+use Rattle.lra_double_description.proofs.PairLists.{not_below}
 
 -- ---- the step
 -- t is two adjacent rays on both sides of c combined, in lowest terms

@@ -8,16 +8,16 @@ use Rattle.lra_linear_spec.specs.declared.Cause.TheVariants.{Excess, TooMany}
 use Rattle.lra_linear_spec.specs.Descriptions.{LinearRow, system_of}
 use Rattle.lra_linear_spec.specs.Strain.{Loss, Strains, IsStrained}
 use Rattle.lra_linear_spec.specs.Cones.{AreDual, all_rows}
-use Rattle.lra_sys.specs.Listed.{given_by}
-use Rattle.lra_steps.specs.declared.strained.Strained.{Strained}
-use Rattle.lra_steps.specs.declared.strained.ConeError.TheVariants as of_cone
-use Rattle.lra_cone.specs.Cones.{Shape, IsCone}
-use Rattle.lra_steps.specs.Strains.{cause_of}
+use Rattle.lra_systems.specs.LinearSystems.{rows_by_kind}
+use Rattle.lra_double_description.specs.declared.strained.Strained.{Strained}
+use Rattle.lra_double_description.specs.declared.strained.ConeError.TheVariants as of_cone
+use Rattle.lra_cone.specs.Cones.{ConeContent, IsCone}
+use Rattle.lra_double_description.specs.Strains.{cause_of}
 use Rattle.lra_cone.specs.Strains.{IsConeError}
 use Rattle.lra_cone.specs.Losses.{IfLost}
 use Rattle.lra_cone.specs.Conversions.{AreTried, IsConversion}
 use Rattle.lra_cone.proofs.StrainLemmas.{ConeStrains, strain_cause}
-use Rattle.lra_sys.proofs.GivenRows.{given_pushed}
+use Rattle.lra_systems.proofs.LinearRows.{given_pushed}
 
 -- a strain of a list is one of each longer list
 pub strains_longer : (w : ℕ) (all more : List LinearRow) (loss : Loss) → Strains w all loss → Strains w (all ++ more) loss
@@ -64,7 +64,7 @@ tried_left w taken (a ∷ all) kept losses g loss c f s (inr (l, others, e, d, x
     inr (l, others ++ loss ∷ [], ap (λ (ls : List Loss). ls ++ loss ∷ []) e, d, x, y, tried_left w taken all kept others g loss c f s t)
 
 -- ---- at the start no row is left out
-pub conversion_start : (s : Shape) (kept : List LinearRow) (losses : List Loss) → kept ≡ [] → losses ≡ [] → IsConversion s.taken [] kept s losses
+pub conversion_start : (s : ConeContent) (kept : List LinearRow) (losses : List Loss) → kept ≡ [] → losses ≡ [] → IsConversion s.taken [] kept s losses
 conversion_start s kept losses ek el = record {
   taken = sym (ap (λ (l : List LinearRow). s.taken ++ l) ek ∙ append-nil s.taken);
   among = λ g k. subst (λ (l : List LinearRow). Contains l g) ek k;
@@ -74,7 +74,7 @@ conversion_start s kept losses ek el = record {
 }
 
 -- ---- the row is taken in
-pub conversion_more : (first all kept : List LinearRow) (old new : Shape) (losses : List Loss) (after : List LinearRow) (g : LinearRow) → new.dims ≡ old.dims → new.taken ≡ old.taken ++ g ∷ [] →
+pub conversion_more : (first all kept : List LinearRow) (old new : ConeContent) (losses : List Loss) (after : List LinearRow) (g : LinearRow) → new.dims ≡ old.dims → new.taken ≡ old.taken ++ g ∷ [] →
     after ≡ kept ++ g ∷ [] → IsConversion first all kept old losses →
     IsConversion first (all ++ g ∷ []) after new losses
 conversion_more first all kept old new losses after g d t e c = record {
@@ -98,7 +98,7 @@ not_empty : {A : Type 0} (xs : List A) (x : A) → xs ++ x ∷ [] ≡ [] → ⊥
 not_empty [] x e = cc
 not_empty (y ∷ xs) x e = cc
 
-first_lost : (all : List LinearRow) (s : Shape) (loss : Loss) → IsCone s → s.taken ≡ all → loss.chosen ≡ s.taken →
+first_lost : (all : List LinearRow) (s : ConeContent) (loss : Loss) → IsCone s → s.taken ≡ all → loss.chosen ≡ s.taken →
     ConeStrains (suc s.dims) loss.further.equal loss.further.row s.lines s.rays loss.cause → Strains (suc s.dims) (all ++ loss.further ∷ []) loss
 first_lost all s loss k same e strained = record {
   rest = loss.further ∷ [];
@@ -111,23 +111,24 @@ first_lost all s loss k same e strained = record {
   strained = strained_of (suc s.dims) loss.chosen loss.further s.lines s.rays loss.cause strained;
 }
 
-lost_end : (first all kept : List LinearRow) (s : Shape) (losses : List Loss) (loss : Loss) → IsCone s → IsConversion first all kept s losses → loss.chosen ≡ s.taken →
+lost_end : (first all kept : List LinearRow) (s : ConeContent) (losses : List Loss) (loss : Loss) → IsCone s → IsConversion first all kept s losses → loss.chosen ≡ s.taken →
     ConeStrains (suc s.dims) loss.further.equal loss.further.row s.lines s.rays loss.cause → IfLost (Strains (suc s.dims) ((first ++ all) ++ loss.further ∷ [])) (losses ++ loss ∷ [])
 lost_end first all kept s [] loss k c e strained =
     first_lost (first ++ all) s loss k (c.taken ∙ ap (λ (l : List LinearRow). first ++ l) (c.whole refl)) e strained
 lost_end first all kept s (earlier ∷ later) loss k c e strained = strains_longer (suc s.dims) (first ++ all) (loss.further ∷ []) earlier c.strain
 
 -- as the code tells it: after a row that was left out the cone is as it was
-pub conversion_left_out : (first all kept : List LinearRow) (old new : Shape) (losses after : List Loss) (loss : Loss) (g : LinearRow) (strained : Strained) (cause : Cause) (taken : List LinearRow) →
+pub conversion_left_out : (first all kept : List LinearRow) (old new : ConeContent) (losses after : List Loss) (loss : Loss) (g : LinearRow) (strained : Strained) (cause : Cause)
+    (taken : List LinearRow) →
     IsCone new →
     new ≡ old → taken ≡ new.taken →
     loss ≡ record { chosen = taken; further = g; cause = cause } → cause ≡ cause_of strained → after ≡ losses ++ loss ∷ [] → IsConeError old g.equal g.row (of_cone.Strained strained) →
     IsConversion first all kept old losses → IsConversion first (all ++ g ∷ []) kept new after
 conversion_left_out first all kept old new losses after loss g strained cause taken k same et el ec ea error c =
-    let here : IsConversion first all kept new losses = subst (λ (s : Shape). IsConversion first all kept s losses) (sym same) c in
+    let here : IsConversion first all kept new losses = subst (λ (s : ConeContent). IsConversion first all kept s losses) (sym same) c in
     let strains : ConeStrains (suc new.dims) g.equal g.row new.lines new.rays cause =
     subst (ConeStrains (suc new.dims) g.equal g.row new.lines new.rays) (sym ec) (strain_cause new g.equal g.row strained
-    (subst (λ (s : Shape). IsConeError s g.equal g.row (of_cone.Strained strained)) (sym same) error)) in
+    (subst (λ (s : ConeContent). IsConeError s g.equal g.row (of_cone.Strained strained)) (sym same) error)) in
     let told : IfLost (Strains (suc new.dims) ((first ++ all) ++ loss.further ∷ [])) (losses ++ loss ∷ []) =
     lost_end first all kept new losses loss k here (ap (λ (l : Loss). l.chosen) el ∙ et)
     (subst (λ (l : Loss). ConeStrains (suc new.dims) l.further.equal l.further.row new.lines new.rays l.cause) (sym el) strains) in
@@ -146,10 +147,10 @@ conversion_left_out first all kept old new losses after loss g strained cause ta
 -- ---- row by row
 pub taken_next : {K : Type 0} (equal : K → Bool) (first kept : List LinearRow) (rows : List (List ℤ)) (kinds : List K) (i : ℕ) (own : List (List ℤ)) → rows ≡ own → length kinds ≡ length own →
     i < length rows →
-    (r : List ℤ) (d : K) (new : Shape) (losses : List Loss) → r ≡ get_or rows i r → IsConversion first
-    (given_by equal (take i rows) (take i kinds) ++ record { row = r; equal = equal (get_or kinds i d) } ∷ []) kept new losses →
-    IsConversion first (given_by equal (take (i + 1) rows) (take (i + 1) kinds)) kept new losses
+    (r : List ℤ) (d : K) (new : ConeContent) (losses : List Loss) → r ≡ get_or rows i r → IsConversion first
+    (rows_by_kind equal (take i rows) (take i kinds) ++ record { row = r; equal = equal (get_or kinds i d) } ∷ []) kept new losses →
+    IsConversion first (rows_by_kind equal (take (i + 1) rows) (take (i + 1) kinds)) kept new losses
 taken_next equal first kept rows kinds i own eo n h r d new losses er c =
     let g : LinearRow = record { row = r; equal = equal (get_or kinds i d) } in
-    let before = given_by equal (take i rows) (take i kinds) in
+    let before = rows_by_kind equal (take i rows) (take i kinds) in
     subst (λ (l : List LinearRow). IsConversion first l kept new losses) (given_pushed equal rows kinds i own eo n h before (before ++ g ∷ []) g r d er refl refl refl) c

@@ -21,23 +21,25 @@ use Rattle.lra_linear_spec.proofs.Lines.{signed_from, in_lines, in_lines_negated
 use Rattle.lra_linear_spec.proofs.Membership.{contains_cases, contains_head, contains_tail}
 use Rattle.lra_linear_spec.proofs.Products.{negated_length, dot_negated, negated_twice}
 use Rattle.lra_linear_spec.proofs.Signs.{between_opposites}
-use Rattle.lra_cone.specs.Cones.{Shape, IsCone, tight_values, saturation_rows, saturation_of}
-use Rattle.lra_steps.specs.declared.line_step.Across.{Across}
-use Rattle.lra_steps.specs.declared.pairs.Pair.{Pair}
-use Rattle.lra_steps.specs.declared.ray_step.Cut.{Cut}
-use Rattle.lra_steps.specs.Steps.{IsLastAcross, IsTurned, AreFlatLines, AreFlatRays, lengthened_rows, flat_matrix, outside_marks, is_inside, inside_count}
-use Rattle.lra_steps.specs.Pairs.{HaveOneWidth, IsAdjacentPair, ArePairs, AreCombined, tight_rows, IsCut}
+use Rattle.lra_cone.specs.Cones.{ConeContent, IsCone, tight_values, saturation_rows, cone_saturation}
+use Rattle.lra_double_description.specs.declared.line_step.Across.{Across}
+use Rattle.lra_double_description.specs.declared.pairs.Pair.{Pair}
+use Rattle.lra_double_description.specs.declared.ray_step.Cut.{Cut}
+use Rattle.lra_double_description.specs.Steps.{IsLastAcross, IsTurned, AreFlatLines, AreFlatRays, lengthened_rows, flat_matrix, outside_marks, is_inside}
+use Rattle.lra_double_description.specs.Steps.{inside_count}
+use Rattle.lra_double_description.specs.Pairs.{HaveOneWidth, IsAdjacentPair, ArePairs, AreCombined, pair_tight_rows, IsCut}
 use Rattle.lra_cone.specs.Strains.{TooManyRays}
 use Rattle.lra_cone.proofs.RayCase.{RayCase, system_same, new_canonical, new_met}
 use Rattle.lra_cone.proofs.TightRows.{values_end, rows_length, rows_append, rows_unmarked, row_at, values_length}
 use Rattle.lra_cone.proofs.Cutting.{inside_rays, unmarked_are, cut_case, pair_rows}
 use Rattle.lra_cone.proofs.Taking.{to_end, from_end, line_case, flat_rows, values_line, kept_rows}
 
-abbrev pub taken_last : Shape → LinearRow → List (List ℤ) → List (List ℤ) → Shape
+abbrev pub taken_last : ConeContent → LinearRow → List (List ℤ) → List (List ℤ) → ConeContent
 taken_last s g lines rays = record { dims = s.dims; taken = s.taken ++ g ∷ []; lines = lines; rays = rays }
 
 -- what is met is what the rows with the one taken in describe
-pub cone_of : (s : Shape) (g : LinearRow) (lines rays : List (List ℤ)) → IsCone s → IsIntersection (suc s.dims) g.equal g.row (all_rows s.lines s.rays) (all_rows lines rays) → IsCanonical lines rays →
+pub cone_of : (s : ConeContent) (g : LinearRow) (lines rays : List (List ℤ)) → IsCone s → IsIntersection (suc s.dims) g.equal g.row (all_rows s.lines s.rays) (all_rows lines rays) →
+    IsCanonical lines rays →
     length rays ≤ row_limit → IsCone (taken_last s g lines rays)
 cone_of s g lines rays k met canonical few = record {
   dual = system_same (suc s.dims) (with_row g.equal g.row (system_of s.taken)) (system_of (s.taken ++ g ∷ [])) (all_rows lines rays) (to_end s.taken g) (from_end s.taken g)
@@ -77,26 +79,26 @@ case_widths w equal c lines rays new_lines new_rays x old t m = elim (Contains-a
       | inr i ↦ old_line r (Contains-append_right x.before (x.line ∷ x.after) r (contains_tail x.line r x.after i))
     ]
 
-pub line_met : (s : Shape) (g : LinearRow) (lines rays : List (List ℤ)) → IsCone s → length g.row ≡ suc s.dims →
+pub line_met : (s : ConeContent) (g : LinearRow) (lines rays : List (List ℤ)) → IsCone s → length g.row ≡ suc s.dims →
     LineCase g.equal g.row s.lines s.rays lines rays →
     IsIntersection (suc s.dims) g.equal g.row (all_rows s.lines s.rays) (all_rows lines rays)
 line_met s g lines rays k w x = λ system d. line_case_dual (suc s.dims) g.equal g.row s.lines s.rays lines rays x w k.dual.row_widths
     (case_widths (suc s.dims) g.equal g.row s.lines s.rays lines rays x k.dual.row_widths) system d
 
-pub line_canonical : (s : Shape) (g : LinearRow) (lines rays : List (List ℤ)) → IsCone s → LineCase g.equal g.row s.lines s.rays lines rays →
+pub line_canonical : (s : ConeContent) (g : LinearRow) (lines rays : List (List ℤ)) → IsCone s → LineCase g.equal g.row s.lines s.rays lines rays →
     IsCanonical lines rays
 line_canonical s g lines rays k x = line_case_kept (suc s.dims) g.equal g.row s.lines s.rays lines rays x k.canonical
 
 -- each row taken in is tight at a line, in either direction
-pub line_tight : (s : Shape) → IsCone s → (l line : List ℤ) → Contains s.lines line → (l ≡ line) ⊎ (l ≡ negated line) → (c : List ℤ) → Contains (system_of s.taken) c → product c l ≡ pos 0
+pub line_tight : (s : ConeContent) → IsCone s → (l line : List ℤ) → Contains s.lines line → (l ≡ line) ⊎ (l ≡ negated line) → (c : List ℤ) → Contains (system_of s.taken) c → product c l ≡ pos 0
 line_tight s k l line m sign c i =
     let at : (q : List ℤ) → Contains (both_ways s.lines) q → pos 0 ≤ℤ product c q = λ q o. k.dual.meets q (Contains-append_right s.rays (both_ways s.lines) q o) c i in
     let z : product c line ≡ pos 0 = between_opposites (product c line) (product c (negated line)) (dot_negated c line) (at line (in_lines s.lines line m))
     (at (negated line) (in_lines_negated s.lines line m)) in
     elim sign [ inl e ↦ ap (product c) e ∙ z | inr e ↦ ap (product c) e ∙ dot_negated c line ∙ ap neg_ℤ z ]
 
-pub line_matrix : (s : Shape) (g : LinearRow) (lines rays : List (List ℤ)) → IsCone s → LineCase g.equal g.row s.lines s.rays lines rays →
-    flat_matrix g.equal (saturation_of s.taken s.rays) ≡ saturation_of (s.taken ++ g ∷ []) rays
+pub line_matrix : (s : ConeContent) (g : LinearRow) (lines rays : List (List ℤ)) → IsCone s → LineCase g.equal g.row s.lines s.rays lines rays →
+    flat_matrix g.equal (cone_saturation s.taken s.rays) ≡ cone_saturation (s.taken ++ g ∷ []) rays
 line_matrix s g lines rays k x =
     let l = x.signed in
     let has : Contains s.lines x.line = subst (λ (y : List (List ℤ)). Contains y x.line) (sym x.is_lines) (Contains-append_right x.before (x.line ∷ x.after) x.line (contains_head x.line x.after)) in
@@ -139,18 +141,18 @@ both_flat c lines h l m =
     let x = signed_from lines l m in
     elim x.sign [ inl e ↦ ap (product c) e ∙ h x.line x.has | inr e ↦ ap (product c) e ∙ dot_negated c x.line ∙ ap neg_ℤ (h x.line x.has) ]
 
-pub ray_met : (s : Shape) (g : LinearRow) (rays : List (List ℤ)) → IsCone s → length g.row ≡ suc s.dims → ((l : List ℤ) → Contains s.lines l → product g.row l ≡ pos 0) →
+pub ray_met : (s : ConeContent) (g : LinearRow) (rays : List (List ℤ)) → IsCone s → length g.row ≡ suc s.dims → ((l : List ℤ) → Contains s.lines l → product g.row l ≡ pos 0) →
     RayCase g.equal g.row (system_of s.taken) s.rays rays →
     IsIntersection (suc s.dims) g.equal g.row (all_rows s.lines s.rays) (all_rows s.lines rays)
 ray_met s g rays k w flat x = new_met (suc s.dims) g.row (system_of s.taken) s.lines s.rays k.dual k.canonical g.equal rays (both_flat g.row s.lines flat) x w
 
-pub ray_canonical : (s : Shape) (g : LinearRow) (rays : List (List ℤ)) → IsCone s → ((l : List ℤ) → Contains s.lines l → product g.row l ≡ pos 0) →
+pub ray_canonical : (s : ConeContent) (g : LinearRow) (rays : List (List ℤ)) → IsCone s → ((l : List ℤ) → Contains s.lines l → product g.row l ≡ pos 0) →
     RayCase g.equal g.row (system_of s.taken) s.rays rays →
     IsCanonical s.lines rays
 ray_canonical s g rays k flat x = new_canonical (suc s.dims) g.row (system_of s.taken) s.lines s.rays k.dual k.canonical g.equal rays (both_flat g.row s.lines flat) x
 
 -- ---- as the code comes to the cases
-pub flatten_case : (s : Shape) (g : LinearRow) (place : ℕ) (line : Across) (of_lines of_rays : List ℤ) (lines rays : List (List ℤ)) → IsCone s → of_lines ≡ map (product g.row) s.lines →
+pub flatten_case : (s : ConeContent) (g : LinearRow) (place : ℕ) (line : Across) (of_lines of_rays : List ℤ) (lines rays : List (List ℤ)) → IsCone s → of_lines ≡ map (product g.row) s.lines →
     of_rays ≡ map (product g.row) s.rays → IsLastAcross of_lines (length of_lines) (Some place) →
     IsTurned (get_or s.lines place []) place (get_or of_lines place (pos 0)) line → AreFlatLines line of_lines s.lines lines → AreFlatRays g.equal line of_rays s.rays rays →
     LineCase g.equal g.row s.lines s.rays lines rays
@@ -177,24 +179,24 @@ pub turned_down_width : (line : List ℤ) (place : ℕ) (p : ℤ) (across : Acro
 turned_down_width line place p across t = elim t.sign [ inl s ↦ ap length s.1 ∙ negated_length line | inr s ↦ ap length s.1 ]
 
 -- the widths of the rows of a cone
-pub line_width : (s : Shape) → IsCone s → (l : List ℤ) → Contains s.lines l → length l ≡ suc s.dims
+pub line_width : (s : ConeContent) → IsCone s → (l : List ℤ) → Contains s.lines l → length l ≡ suc s.dims
 line_width s k l m = k.dual.row_widths l (Contains-append_right s.rays (both_ways s.lines) l (in_lines s.lines l m))
 
-pub ray_width : (s : Shape) → IsCone s → (r : List ℤ) → Contains s.rays r → length r ≡ suc s.dims
+pub ray_width : (s : ConeContent) → IsCone s → (r : List ℤ) → Contains s.rays r → length r ≡ suc s.dims
 ray_width s k r m = k.dual.row_widths r (Contains-append_left s.rays (both_ways s.lines) r m)
 
-pub all_lines_width : (s : Shape) (w : ℕ) (list : List (List ℤ)) → IsCone s → w ≡ suc s.dims → list ≡ s.lines → All (λ r. w ≡ length r) list
+pub all_lines_width : (s : ConeContent) (w : ℕ) (list : List (List ℤ)) → IsCone s → w ≡ suc s.dims → list ≡ s.lines → All (λ r. w ≡ length r) list
 all_lines_width s w list k e el = subst (All (λ r. w ≡ length r)) (sym el) (λ i d h. e ∙ sym (line_width s k (get_or s.lines i d) (Contains-get_or s.lines i d h)))
 
-pub all_rays_width : (s : Shape) (w : ℕ) (list : List (List ℤ)) → IsCone s → w ≡ suc s.dims → list ≡ s.rays → All (λ r. w ≡ length r) list
+pub all_rays_width : (s : ConeContent) (w : ℕ) (list : List (List ℤ)) → IsCone s → w ≡ suc s.dims → list ≡ s.rays → All (λ r. w ≡ length r) list
 all_rays_width s w list k e el = subst (All (λ r. w ≡ length r)) (sym el) (λ i d h. e ∙ sym (ray_width s k (get_or s.rays i d) (Contains-get_or s.rays i d h)))
 
-pub rays_have_one_width : (s : Shape) (list : List (List ℤ)) → IsCone s → list ≡ s.rays → HaveOneWidth list
+pub rays_have_one_width : (s : ConeContent) (list : List (List ℤ)) → IsCone s → list ≡ s.rays → HaveOneWidth list
 rays_have_one_width s list k e = subst HaveOneWidth (sym e) (λ i j h l. ray_width s k (get_or s.rays i []) (Contains-get_or s.rays i [] h) ∙
     sym (ray_width s k (get_or s.rays j []) (Contains-get_or s.rays j [] l)))
 
 -- too many rays
-pub too_many_rays : (s : Shape) (g : LinearRow) (lines rays : List (List ℤ)) (count : ℕ) → IsCone s → length g.row ≡ suc s.dims → LineCase g.equal g.row s.lines s.rays lines rays →
+pub too_many_rays : (s : ConeContent) (g : LinearRow) (lines rays : List (List ℤ)) (count : ℕ) → IsCone s → length g.row ≡ suc s.dims → LineCase g.equal g.row s.lines s.rays lines rays →
     count ≡ length rays →
     row_limit < count → TooManyRays s g.equal g.row count
 too_many_rays s g lines rays count k w x e h = record {
@@ -207,7 +209,7 @@ too_many_rays s g lines rays count k w x e h = record {
 }
 
 -- ---- the case without a line, and its matrix
-pub cut_taken : (s : Shape) (g : LinearRow) (products : List ℤ) (m : Matrix) (cut : Cut) → IsCone s → products ≡ map (product g.row) s.rays → m ≡ saturation_of s.taken s.rays →
+pub cut_taken : (s : ConeContent) (g : LinearRow) (products : List ℤ) (m : Matrix) (cut : Cut) → IsCone s → products ≡ map (product g.row) s.rays → m ≡ cone_saturation s.taken s.rays →
     IsCut g.equal products s.rays m cut →
     RayCase g.equal g.row (system_of s.taken) s.rays (unmarked cut.gone (s.rays ++ cut.rays.items))
 cut_taken s g products m cut k ep em x =
@@ -219,19 +221,21 @@ cut_taken s g products m cut k ep em x =
     unmarked_are g.equal g.row s.rays cut.rays.items (length x.pairs) in
     subst (RayCase g.equal g.row (system_of s.taken) s.rays) (sym are) (cut_case (suc s.dims) g.row s.taken s.lines s.rays k.dual k.canonical g.equal x.pairs cut.rays.items pairs sums)
 
-pub cut_matrix : (s : Shape) (g : LinearRow) (products : List ℤ) (m : Matrix) (cut : Cut) (made : Matrix) → IsCone s → products ≡ map (product g.row) s.rays → m ≡ saturation_of s.taken s.rays →
+pub cut_matrix : (s : ConeContent) (g : LinearRow) (products : List ℤ) (m : Matrix) (cut : Cut) (made : Matrix) → IsCone s → products ≡ map (product g.row) s.rays →
+    m ≡ cone_saturation s.taken s.rays →
     (x : IsCut g.equal products s.rays m cut) →
-    made ≡ record { width = suc m.width; rows = unmarked cut.gone (lengthened_rows m.rows (map (λ p. int_eq p (pos 0)) products) ++ tight_rows x.pairs) } →
-    made ≡ saturation_of (s.taken ++ g ∷ []) (unmarked cut.gone (s.rays ++ cut.rays.items))
+    made ≡ record { width = suc m.width; rows = unmarked cut.gone (lengthened_rows m.rows (map (λ p. int_eq p (pos 0)) products) ++ pair_tight_rows x.pairs) } →
+    made ≡ cone_saturation (s.taken ++ g ∷ []) (unmarked cut.gone (s.rays ++ cut.rays.items))
 cut_matrix s g products m cut made k ep em x is =
     let sums : AreCombined (map (product g.row) s.rays) s.rays x.pairs cut.rays.items = subst (λ (q : List ℤ). AreCombined q s.rays x.pairs cut.rays.items) ep x.combined in
     let each : (p : Pair) → Contains x.pairs p → IsAdjacentPair (map (product g.row) s.rays) (saturation_rows s.taken s.rays) p =
     λ p i. subst (λ (q : List ℤ). IsAdjacentPair q (saturation_rows s.taken s.rays) p) ep (subst (λ (y : Matrix). IsAdjacentPair products y.rows p) em (x.are_pairs.each p i)) in
     let later = pair_rows (suc s.dims) g.row s.taken s.lines s.rays k.dual k.canonical x.pairs cut.rays.items g refl each sums in
     let all : List LinearRow = s.taken ++ g ∷ [] in
-    is ∙ ap (λ (y : Matrix). record { width = suc y.width; rows = unmarked cut.gone (lengthened_rows y.rows (map (λ p. int_eq p (pos 0)) products) ++ tight_rows x.pairs) }) em ∙
-    ap (λ (q : List ℤ). record { width = suc (length s.taken); rows = unmarked cut.gone (lengthened_rows (saturation_rows s.taken s.rays) (map (λ p. int_eq p (pos 0)) q) ++ tight_rows x.pairs) }) ep ∙
-    ap (λ (y : List (List Bool)). record { width = suc (length s.taken); rows = unmarked cut.gone (y ++ tight_rows x.pairs) }) (sym (kept_rows s.taken g s.rays)) ∙
+    is ∙ ap (λ (y : Matrix). record { width = suc y.width; rows = unmarked cut.gone (lengthened_rows y.rows (map (λ p. int_eq p (pos 0)) products) ++ pair_tight_rows x.pairs) }) em ∙
+    ap (λ (q : List ℤ). record { width = suc (length s.taken); rows = unmarked cut.gone (lengthened_rows (saturation_rows s.taken s.rays) (map (λ p. int_eq p (pos 0)) q) ++ pair_tight_rows x.pairs) })
+    ep ∙
+    ap (λ (y : List (List Bool)). record { width = suc (length s.taken); rows = unmarked cut.gone (y ++ pair_tight_rows x.pairs) }) (sym (kept_rows s.taken g s.rays)) ∙
     ap (λ (y : List (List Bool)). record { width = suc (length s.taken); rows = unmarked cut.gone (saturation_rows all s.rays ++ y) }) later ∙
     ap (λ (y : List (List Bool)). record { width = suc (length s.taken); rows = unmarked cut.gone y }) (sym (rows_append all s.rays cut.rays.items)) ∙
     ap (λ (y : List (List Bool)). record { width = suc (length s.taken); rows = y }) (rows_unmarked all cut.gone (s.rays ++ cut.rays.items)) ∙
@@ -241,14 +245,14 @@ cut_matrix s g products m cut made k ep em x is =
     end_length [] g = refl
     end_length (y ∷ taken) g = ap suc (end_length taken g)
 
-pub cone_again : (s : Shape) (g : LinearRow) (lines rays : List (List ℤ)) (n : ℕ) (taken : List LinearRow) → n ≡ s.dims → taken ≡ s.taken ++ g ∷ [] → IsCone (taken_last s g lines rays) →
+pub cone_again : (s : ConeContent) (g : LinearRow) (lines rays : List (List ℤ)) (n : ℕ) (taken : List LinearRow) → n ≡ s.dims → taken ≡ s.taken ++ g ∷ [] → IsCone (taken_last s g lines rays) →
     IsCone (record { dims = n; taken = taken; lines = lines; rays = rays })
 cone_again s g lines rays n taken e f k =
     subst (λ (m : ℕ). IsCone (record { dims = m; taken = taken; lines = lines; rays = rays })) (sym e)
     (subst (λ (t : List LinearRow). IsCone (record { dims = s.dims; taken = t; lines = lines; rays = rays })) (sym f) k)
 
 -- ---- sizes
-pub saturation_equal : (taken : List LinearRow) (rays : List (List ℤ)) (m : Matrix) → m ≡ saturation_of taken rays → All (λ r. length r ≡ m.width) m.rows
+pub saturation_equal : (taken : List LinearRow) (rays : List (List ℤ)) (m : Matrix) → m ≡ cone_saturation taken rays → All (λ r. length r ≡ m.width) m.rows
 saturation_equal taken rays m e =
     subst (λ (y : Matrix). All (λ r. length r ≡ y.width) y.rows) (sym e)
     (λ i d h. let l : i < length rays = omega (arith, h, rows_length taken rays) in ap length (get_or_default (saturation_rows taken rays) i d [] h ∙ row_at taken rays i l) ∙
@@ -286,7 +290,7 @@ inside_length equal c (r ∷ rays) = by_test (is_inside equal (product c r)) (in
     by_test true e = ap suc e
     by_test false e = e
 
-pub cut_few : (s : Shape) (g : LinearRow) (products : List ℤ) (m : Matrix) (cut : Cut) → products ≡ map (product g.row) s.rays → IsCut g.equal products s.rays m cut →
+pub cut_few : (s : ConeContent) (g : LinearRow) (products : List ℤ) (m : Matrix) (cut : Cut) → products ≡ map (product g.row) s.rays → IsCut g.equal products s.rays m cut →
     length (unmarked cut.gone (s.rays ++ cut.rays.items)) ≤ row_limit
 cut_few s g products m cut ep x =
     let are : unmarked cut.gone (s.rays ++ cut.rays.items) ≡ inside_rays g.equal g.row s.rays ++ cut.rays.items =
@@ -296,10 +300,10 @@ cut_few s g products m cut ep x =
     omega (arith, ap length are, n, inside_length g.equal g.row s.rays, ap (inside_count g.equal) ep, combined_length products s.rays x.pairs cut.rays.items x.combined, x.few)
 
 -- ---- what `products` and the case without a line ask
-pub lines_have_width : (s : Shape) (w : ℕ) (list : List (List ℤ)) → IsCone s → w ≡ suc s.dims → list ≡ s.lines → All (λ r. length r ≡ w) list
+pub lines_have_width : (s : ConeContent) (w : ℕ) (list : List (List ℤ)) → IsCone s → w ≡ suc s.dims → list ≡ s.lines → All (λ r. length r ≡ w) list
 lines_have_width s w list k e el = subst (All (λ r. length r ≡ w)) (sym el) (λ i d h. line_width s k (get_or s.lines i d) (Contains-get_or s.lines i d h) ∙ sym e)
 
-pub rays_have_width : (s : Shape) (w : ℕ) (list : List (List ℤ)) → IsCone s → w ≡ suc s.dims → list ≡ s.rays → All (λ r. length r ≡ w) list
+pub rays_have_width : (s : ConeContent) (w : ℕ) (list : List (List ℤ)) → IsCone s → w ≡ suc s.dims → list ≡ s.rays → All (λ r. length r ≡ w) list
 rays_have_width s w list k e el = subst (All (λ r. length r ≡ w)) (sym el) (λ i d h. ray_width s k (get_or s.rays i d) (Contains-get_or s.rays i d h) ∙ sym e)
 
 pub none_across : (c : List ℤ) (lines : List (List ℤ)) (products : List ℤ) → products ≡ map (product c) lines → IsLastAcross products (length products) None → All (λ l. product c l ≡ pos 0) lines

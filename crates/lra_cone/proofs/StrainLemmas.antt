@@ -22,45 +22,45 @@ use Rattle.lra_linear_spec.proofs.LowestTerms.{lowest_exists}
 use Rattle.lra_linear_spec.proofs.Membership.{contains_split}
 use Rattle.lra_linear_spec.proofs.Products.{entry_negated, dot_negated, negated_twice}
 use Rattle.lra_linear_spec.proofs.Signs.{not_both}
-use Rattle.lra_steps.specs.declared.line_step.Across.{Across}
-use Rattle.lra_steps.specs.declared.pairs.Pair as Q
-use Rattle.lra_steps.specs.declared.strained.Family.{Family}
-use Rattle.lra_steps.specs.declared.strained.Family.TheVariants.{Lines, Rays}
-use Rattle.lra_steps.specs.declared.strained.Strained.{Strained}
-use Rattle.lra_steps.specs.declared.strained.Strained.TheVariants.{Product, Pair, TooMany}
-use Rattle.lra_steps.specs.declared.strained.ConeError as C
-use Rattle.lra_steps.specs.declared.strained.ConeError.TheVariants as of_cone
-use Rattle.lra_cone.specs.Cones.{Shape, IsCone, saturation_rows, saturation_of}
-use Rattle.lra_steps.specs.Steps.{IsTurned, flattening, inside_count}
-use Rattle.lra_steps.specs.Pairs.{IsAdjacentPair, ArePairs, pair_sum, AreCombined}
-use Rattle.lra_steps.specs.Strains.{cause_of, StandsAt, IsProductError, strained_pair, IsFlatteningError, NamesPair, IsCutError}
-use Rattle.lra_cone.specs.Strains.{IsMember, IsDirected, IsStrain, IsConeError}
-use Rattle.lra_steps.proofs.Cuts.{above_inside, below_inside}
+use Rattle.lra_double_description.specs.declared.line_step.Across.{Across}
+use Rattle.lra_double_description.specs.declared.pairs.Pair as Q
+use Rattle.lra_double_description.specs.declared.strained.Family.{Family}
+use Rattle.lra_double_description.specs.declared.strained.Family.TheVariants.{Lines, Rays}
+use Rattle.lra_double_description.specs.declared.strained.Strained.{Strained}
+use Rattle.lra_double_description.specs.declared.strained.Strained.TheVariants.{Product, Pair, TooMany}
+use Rattle.lra_double_description.specs.declared.strained.ConeError as C
+use Rattle.lra_double_description.specs.declared.strained.ConeError.TheVariants as of_cone
+use Rattle.lra_cone.specs.Cones.{ConeContent, IsCone, saturation_rows, cone_saturation}
+use Rattle.lra_double_description.specs.Steps.{IsTurned, flattening, inside_count}
+use Rattle.lra_double_description.specs.Pairs.{IsAdjacentPair, ArePairs, pair_sum, AreCombined}
+use Rattle.lra_double_description.specs.Strains.{cause_of, StandsAt, IsProductError, strained_pair, IsFlatteningError, NamesPair, IsCutError}
+use Rattle.lra_cone.specs.Strains.{IsMember, IsSignedMember, IsStrain, IsConeError}
+use Rattle.lra_double_description.proofs.Cuts.{above_inside, below_inside}
 use Rattle.lra_cone.proofs.Cutting.{inside_rays, cut_case}
-use Rattle.lra_steps.proofs.PairLists.{less_said}
+use Rattle.lra_double_description.proofs.PairLists.{less_said}
 use Rattle.lra_cone.proofs.Stepped.{turned_down, ray_met, ray_canonical, inside_length, combined_length}
 
 -- ---- products
-pub product_lines : (s : Shape) (equal : Bool) (c : List ℤ) (rows : List (List ℤ)) (e : C.ConeError) → rows ≡ s.lines → IsProductError c rows Lines e → IsConeError s equal c e
+pub product_lines : (s : ConeContent) (equal : Bool) (c : List ℤ) (rows : List (List ℤ)) (e : C.ConeError) → rows ≡ s.lines → IsProductError c rows Lines e → IsConeError s equal c e
 product_lines s equal c rows of_cone.Memory el x = tt
 product_lines s equal c rows (of_cone.Strained strained) el x =
     subst (IsStrain s equal c) (sym x.is) (record { row = x.row; is = subst (λ (y : List (List ℤ)). StandsAt y x.place x.row) el x.stands; passes = x.passes })
 
-pub product_rays : (s : Shape) (equal : Bool) (c : List ℤ) (rows : List (List ℤ)) (e : C.ConeError) → rows ≡ s.rays → IsProductError c rows Rays e → IsConeError s equal c e
+pub product_rays : (s : ConeContent) (equal : Bool) (c : List ℤ) (rows : List (List ℤ)) (e : C.ConeError) → rows ≡ s.rays → IsProductError c rows Rays e → IsConeError s equal c e
 product_rays s equal c rows of_cone.Memory el x = tt
 product_rays s equal c rows (of_cone.Strained strained) el x =
     subst (IsStrain s equal c) (sym x.is) (record { row = x.row; is = subst (λ (y : List (List ℤ)). StandsAt y x.place x.row) el x.stands; passes = x.passes })
 
 -- ---- rows that are not each other's opposites
 -- two rays
-rays_apart : (s : Shape) → IsCone s → (u d : List ℤ) → Contains s.rays u → Contains s.rays d → u ≢ negated d
+rays_apart : (s : ConeContent) → IsCone s → (u d : List ℤ) → Contains s.rays u → Contains s.rays d → u ≢ negated d
 rays_apart s k u d hu hd e =
     let all = all_rows s.lines s.rays in
     k.canonical.pointed d hd (generated_same all (entry u) (λ j. neg_ℤ (entry d j)) (λ j. ap (λ (y : List ℤ). entry y j) e ∙ entry_negated d j)
     (generated_row all u (Contains-append_left s.rays (both_ways s.lines) u hu)))
 
 -- a ray lies on no line
-ray_off : (s : Shape) → IsCone s → (r : List ℤ) → Contains s.rays r → ¬ (Contains (both_ways s.lines) r)
+ray_off : (s : ConeContent) → IsCone s → (r : List ℤ) → Contains s.rays r → ¬ (Contains (both_ways s.lines) r)
 ray_off s k r m i =
     let x = contains_split s.rays r m in
     k.canonical.needed x.front r x.back x.is (generated_right (x.front ++ x.back) (both_ways s.lines) (entry r) (generated_row (both_ways s.lines) r i))
@@ -74,7 +74,7 @@ later_zero (r ∷ rows) (p ∷ ps) zero (suc at) e h l = (p, e.0.here, e.2 (get_
 later_zero (r ∷ rows) (p ∷ ps) (suc i) (suc at) e h l = later_zero rows ps i at e.4 (omega (arith, h)) (omega (arith, l))
 
 -- so they are no opposites, and not the same
-lines_apart : (s : Shape) → IsCone s → (i at : ℕ) (l : List ℤ) → i < at → at < length s.lines → (l ≡ get_or s.lines at []) ⊎ (l ≡ negated (get_or s.lines at [])) → get_or s.lines i [] ≢ l
+lines_apart : (s : ConeContent) → IsCone s → (i at : ℕ) (l : List ℤ) → i < at → at < length s.lines → (l ≡ get_or s.lines at []) ⊎ (l ≡ negated (get_or s.lines at [])) → get_or s.lines i [] ≢ l
 lines_apart s k i at l h m sign e =
     let z = later_zero s.lines k.canonical.pivots i at k.canonical.echelon h m in
     let there : entry l z.0 ≡ pos 0 = elim sign [
@@ -100,7 +100,7 @@ signed_in : (lines : List (List ℤ)) (line l : List ℤ) → Contains lines lin
 signed_in lines line l m (inl e) = subst (Contains (both_ways lines)) (sym e) (in_lines lines line m)
 signed_in lines line l m (inr e) = subst (Contains (both_ways lines)) (sym e) (in_lines_negated lines line m)
 
-module _ (s : Shape) (k : IsCone s) (equal : Bool) (c : List ℤ) (at : ℕ) (line : Across) (inside : at < length s.lines)
+module _ (s : ConeContent) (k : IsCone s) (equal : Bool) (c : List ℤ) (at : ℕ) (line : Across) (inside : at < length s.lines)
     (t : IsTurned (get_or s.lines at []) at (product c (get_or s.lines at [])) line) where
   abbrev all : List (List ℤ)
   all = all_rows s.lines s.rays
@@ -128,14 +128,14 @@ module _ (s : Shape) (k : IsCone s) (equal : Bool) (c : List ℤ) (at : ℕ) (li
   opposite_down : negated line.down ≡ line.up
   opposite_down = ap negated (turned_down (get_or s.lines at []) at (product c (get_or s.lines at [])) line t) ∙ negated_twice line.up
 
-  directed : (l : List ℤ) → (l ≡ get_or s.lines at []) ⊎ (l ≡ negated (get_or s.lines at [])) → IsDirected s Lines line.place l
+  directed : (l : List ℤ) → (l ≡ get_or s.lines at []) ⊎ (l ≡ negated (get_or s.lines at [])) → IsSignedMember s Lines line.place l
   directed l sign = (get_or s.lines at [], record { inside = subst (λ (n : ℕ). n < length s.lines) (sym t.is_place) inside; is = ap (λ (n : ℕ). get_or s.lines n []) t.is_place }, sign)
 
   below_zero : (z y : ℤ) → pos 0 <ℤ z → y ≡ neg_ℤ z → y <ℤ pos 0
   below_zero z y h e = omega (arith, ints, h, e)
 
   -- the row at the place of its family, with this product, and neither direction of the line
-  pub flattening_strain : (family : Family) (place : ℕ) (p : ℤ) (r : List ℤ) (e : E.Excess) → IsDirected s family place r → Contains all r → p ≡ product c r → r ≢ line.up → line.up ≢ negated r →
+  pub flattening_strain : (family : Family) (place : ℕ) (p : ℤ) (r : List ℤ) (e : E.Excess) → IsSignedMember s family place r → Contains all r → p ≡ product c r → r ≢ line.up → line.up ≢ negated r →
       flattening line p r ≡ Err e →
       IsStrain s equal c (strained_pair (record { family = family; place = place }) p line.place e)
   flattening_strain family place p r e dr hr ep nu nn f = go (int_lt (pos 0) p) refl f
@@ -243,9 +243,9 @@ combinations_exist products rays (p ∷ pairs) =
     let rest = combinations_exist products rays pairs in
     (first.0 ∷ rest.0, (first.1, rest.1))
 
-pub cut_cone_error : (s : Shape) (g : LinearRow) (products : List ℤ) (m : Matrix) (e : C.ConeError) → IsCone s → length g.row ≡ suc s.dims →
+pub cut_cone_error : (s : ConeContent) (g : LinearRow) (products : List ℤ) (m : Matrix) (e : C.ConeError) → IsCone s → length g.row ≡ suc s.dims →
     ((l : List ℤ) → Contains s.lines l → product g.row l ≡ pos 0) →
-    products ≡ map (product g.row) s.rays → m ≡ saturation_of s.taken s.rays →
+    products ≡ map (product g.row) s.rays → m ≡ cone_saturation s.taken s.rays →
     IsCutError g.equal products s.rays m e → IsConeError s g.equal g.row e
 cut_cone_error s g products m of_cone.Memory k w flat ep em x = tt
 cut_cone_error s g products m (of_cone.Strained strained) k w flat ep em x =
@@ -306,7 +306,7 @@ cut_cone_error s g products m (of_cone.Strained strained) k w flat ep em x =
         })
 
 -- the product that the line was turned by
-pub turned_at : (s : Shape) (c : List ℤ) (of_lines : List ℤ) (at : ℕ) (line : Across) → of_lines ≡ map (product c) s.lines → at < length s.lines →
+pub turned_at : (s : ConeContent) (c : List ℤ) (of_lines : List ℤ) (at : ℕ) (line : Across) → of_lines ≡ map (product c) s.lines → at < length s.lines →
     IsTurned (get_or s.lines at []) at (get_or of_lines at (pos 0)) line →
     IsTurned (get_or s.lines at []) at (product c (get_or s.lines at [])) line
 turned_at s c of_lines at line e h t =
@@ -316,7 +316,7 @@ turned_at s c of_lines at line e h t =
 pub place_in : (rows : List (List ℤ)) (place : ℕ) (r : List ℤ) → StandsAt rows place r → Contains rows r
 place_in rows place r x = subst (Contains rows) x.is (Contains-get_or rows place [] x.inside)
 
-member_in : (s : Shape) (family : Family) (place : ℕ) (r : List ℤ) → IsMember s family place r → Contains (all_rows s.lines s.rays) r
+member_in : (s : ConeContent) (family : Family) (place : ℕ) (r : List ℤ) → IsMember s family place r → Contains (all_rows s.lines s.rays) r
 member_in s Lines place r x = Contains-append_right s.rays (both_ways s.lines) r (in_lines s.lines r (place_in s.lines place r x))
 member_in s Rays place r x = Contains-append_left s.rays (both_ways s.lines) r (place_in s.rays place r x)
 
@@ -325,7 +325,7 @@ abbrev pub ConeStrains : ℕ → Bool → List ℤ → List (List ℤ) → List 
 ConeStrains w equal c lines rays (cause.Excess e) = ProductPasses c (all_rows lines rays) e ⊎ PairPasses c (all_rows lines rays) e
 ConeStrains w equal c lines rays (cause.TooMany count) = HasTooMany w equal c lines rays count
 
-pub strain_cause : (s : Shape) (equal : Bool) (c : List ℤ) (strained : Strained) → IsStrain s equal c strained → ConeStrains (suc s.dims) equal c s.lines s.rays (cause_of strained)
+pub strain_cause : (s : ConeContent) (equal : Bool) (c : List ℤ) (strained : Strained) → IsStrain s equal c strained → ConeStrains (suc s.dims) equal c s.lines s.rays (cause_of strained)
 strain_cause s equal c (Product member e) x = inl (record { row = x.row; has = member_in s member.family member.place x.row x.is; passes = x.passes })
 strain_cause s equal c (Pair above below e) x = inr (record { up = x.up; down = x.down; across = x.across; passes = x.passes })
 strain_cause s equal c (TooMany count) x = x

@@ -4,13 +4,13 @@ use Rattle.std.specs.Result.{OnErr, OnOk}
 use Rattle.lra_linear_spec.specs.Descriptions.{LinearRow}
 use Rattle.lra_linear_spec.specs.Cones.{all_rows}
 use Rattle.lra_linear_spec.specs.ConeStrain.{IsIntersection}
-use Rattle.lra_steps.specs.declared.strained.ConeError.{ConeError}
-use Rattle.lra_cone.specs.Cones.{Shape, IsTakenIn}
+use Rattle.lra_double_description.specs.declared.strained.ConeError.{ConeError}
+use Rattle.lra_cone.specs.Cones.{ConeContent, IsTakenIn}
 
-module _ {T : Type 0} (old : Shape) (g : LinearRow) (new : Shape) where
+module _ {T : Type 0} (old : ConeContent) (g : LinearRow) (new : ConeContent) where
   pub dims_then : (r : Result T ConeError) → OnOk r (IsTakenIn old g new) → OnErr r (new ≡ old) → new.dims ≡ old.dims
   dims_then (Ok v) x _ = x.dims
-  dims_then (Err e) _ same = ap (λ (s : Shape). s.dims) same
+  dims_then (Err e) _ same = ap (λ (s : ConeContent). s.dims) same
 
   pub taken_then : (r : Result T ConeError) → OnOk r (IsTakenIn old g new) → OnOk r (new.taken ≡ old.taken ++ g ∷ [])
   taken_then (Ok v) x = x.taken

@@ -16,9 +16,9 @@ use Rattle.lra_linear_spec.proofs.Membership.{contains_none, contains_cases, con
 use Rattle.lra_linear_spec.proofs.Products.{dot_negated, dot_linear, dot_same, dot_scale}
 use Rattle.lra_linear_spec.proofs.Ring.{ring, v, ⊖, ◌⊕◌, ◌⊗◌}
 use Rattle.lra_linear_spec.proofs.Signs.{as_nat, positive_nat, no_product, no_factor, positive_is_nonnegative}
-use Rattle.lra_steps.specs.declared.line_step.Across.{Across}
+use Rattle.lra_double_description.specs.declared.line_step.Across.{Across}
 use Rattle.lra_cone.specs.Cones.{tight_values, saturation_rows}
-use Rattle.lra_steps.specs.Steps.{IsTurned, IsFlattened, AreFlattened, AreFlatLines, AreFlatRays, lengthened_rows}
+use Rattle.lra_double_description.specs.Steps.{IsTurned, IsFlattened, AreFlattened, AreFlatLines, AreFlatRays, lengthened_rows}
 use Rattle.lra_cone.proofs.TightRows.{with_has, with_later, values_end}
 
 -- ---- the system with the row at its end

@@ -15,8 +15,8 @@ use Rattle.lra_linear_spec.proofs.Products.{blend_length, dot_add, dot_linear, d
 use Rattle.lra_linear_spec.proofs.Ring.{mul_nonnegative, ring, v, ◌⊕◌, ◌⊗◌}
 use Rattle.lra_linear_spec.proofs.Saturation.{TightToo, tight_sum}
 use Rattle.lra_linear_spec.proofs.Signs.{add_nonnegative, no_product, zero_at_least}
-use Rattle.lra_canon.specs.Reduced.{SolvesAll}
-use Rattle.lra_canon.proofs.Solutions.{signed_spanned, solves_all, spanned_solved}
+use Rattle.lra_canonical.specs.Reduced.{SolvesAll}
+use Rattle.lra_canonical.proofs.Solutions.{signed_spanned, solves_all, spanned_solved}
 use Rattle.lra_cone.proofs.Homogeneous.{Vanish, as_forms, forms_many, other_factor, root, zero_or}
 
 -- ---- a row whose product with itself is 0

@@ -20,7 +20,7 @@ use Rattle.lra_linear_spec.proofs.Products.{negated_dot, negated_length, entry_p
 use Rattle.lra_linear_spec.proofs.Ring.{ring, v, ◌⊕◌, ◌⊗◌}
 use Rattle.lra_linear_spec.proofs.Signs.{between_opposites}
 use Rattle.lra_linear_spec.proofs.OneSpelling.{dot_zeros}
-use Rattle.lra_canon.proofs.Solutions.{behind_zero_from}
+use Rattle.lra_canonical.proofs.Solutions.{behind_zero_from}
 use Rattle.lra_linear_spec.proofs.UnitRows.{unit_here, unit_length, unit_other}
 use Rattle.lra_cone.specs.Cones.{IsCone, columns_from, unit_lines, whole_space}
 

@@ -11,7 +11,7 @@ use Rattle.lra_linear_spec.specs.ConeStrain.{IsIntersection, row_limit}
 
 -- The rows taken in so far, each an inequality or an equality, and the lines and rays. Each row has one column more
 -- than there are dimensions.
-pub record Shape : Type 0 where
+pub record ConeContent : Type 0 where
   pub dims : ℕ
   pub taken : List LinearRow
   pub lines : List (List ℤ)
@@ -19,7 +19,7 @@ pub record Shape : Type 0 where
 
 -- The lines and rays are the canonical description of the solutions of the rows taken in, with no more rays than one
 -- may have.
-pub record IsCone (s : Shape) : Type 0 where
+pub record IsCone (s : ConeContent) : Type 0 where
   pub dual : AreDual (suc s.dims) (system_of s.taken) (all_rows s.lines s.rays)
   pub canonical : IsCanonical s.lines s.rays
   pub few : length s.rays ≤ row_limit
@@ -34,8 +34,8 @@ saturation_rows taken [] = []
 saturation_rows taken (r ∷ rays) = tight_values taken r ∷ saturation_rows taken rays
 
 -- a row for each ray, with a column for each row taken in: true where that is tight at the ray
-abbrev pub saturation_of : List LinearRow → List (List ℤ) → Matrix
-saturation_of taken rays = record { width = length taken; rows = saturation_rows taken rays }
+abbrev pub cone_saturation : List LinearRow → List (List ℤ) → Matrix
+cone_saturation taken rays = record { width = length taken; rows = saturation_rows taken rays }
 
 -- so many columns from the start up, and column 0 last
 abbrev pub columns_from : ℕ → ℕ → List ℕ
@@ -47,11 +47,11 @@ abbrev pub unit_lines : ℕ → List (List ℤ)
 unit_lines n = map (unit_row n) (columns_from 1 n)
 
 -- no row taken in: all vectors
-abbrev pub whole_space : ℕ → Shape
+abbrev pub whole_space : ℕ → ConeContent
 whole_space n = record { dims = n; taken = []; lines = unit_lines n; rays = [] }
 
 -- the row is taken in last, and what the old rows describe with it the new ones describe
-pub record IsTakenIn (old : Shape) (g : LinearRow) (new : Shape) : Type 0 where
+pub record IsTakenIn (old : ConeContent) (g : LinearRow) (new : ConeContent) : Type 0 where
   pub dims : new.dims ≡ old.dims
   pub taken : new.taken ≡ old.taken ++ g ∷ []
   pub met : IsIntersection (suc old.dims) g.equal g.row (all_rows old.lines old.rays) (all_rows new.lines new.rays)

@@ -3,7 +3,7 @@ use Rattle.std.specs.Prelude.{◌≡◌, ◌⊎◌, ℕ, suc, List, [], ◌∷�
 use Rattle.std.specs.List.{Contains}
 use Rattle.lra_linear_spec.specs.Strain.{Loss, Strains}
 use Rattle.lra_linear_spec.specs.Descriptions.{LinearRow}
-use Rattle.lra_cone.specs.Cones.{Shape}
+use Rattle.lra_cone.specs.Cones.{ConeContent}
 use Rattle.lra_cone.specs.Losses.{IfLost}
 
 -- Behind those taken in all these were tried in their order. Each was taken in, and is kept; or it was left out behind
@@ -17,7 +17,7 @@ AreTried w taken (g ∷ all) kept losses =
 
 -- Behind the first rows all were tried in their order: those kept are among them, and are all where none was left out;
 -- the first that was left out strains.
-pub record IsConversion (first all kept : List LinearRow) (cone : Shape) (losses : List Loss) : Type 0 where
+pub record IsConversion (first all kept : List LinearRow) (cone : ConeContent) (losses : List Loss) : Type 0 where
   pub taken : cone.taken ≡ first ++ kept
   pub among : (g : LinearRow) → Contains kept g → Contains all g
   pub whole : losses ≡ [] → kept ≡ all

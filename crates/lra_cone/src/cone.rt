@@ -9,24 +9,24 @@ ghost use Rattle.lra_linear_spec.specs.Cones.{all_rows};
 ghost use Rattle.lra_linear_spec.specs.Descriptions.{inequality};
 ghost use Rattle.lra_linear_spec.specs.Polyhedra.{positivity};
 ghost use Rattle.lra_linear_spec.specs.ConeStrain.{IsIntersection};
-ghost use Rattle.lra_sys.specs.Dimensions.{too_many_dimensions};
-ghost use Rattle.lra_sys.specs.Listed.{constraints};
+ghost use Rattle.lra_systems.specs.Dimensions.{too_many_dimensions};
+ghost use Rattle.lra_systems.specs.LinearSystems.{constraints};
 ghost use Rattle.lra_linear_spec.specs.Kinds.{is_equality};
-ghost use Rattle.lra_cone.specs.Cones.{Shape, IsCone, IsTakenIn, saturation_of, saturation_rows, whole_space};
-ghost use Rattle.lra_steps.specs.Pairs.{IsCut};
-ghost use Rattle.lra_steps.specs.Steps.{IsLastAcross};
-ghost use Rattle.lra_steps.specs.Thirds.{FewHaveThird};
+ghost use Rattle.lra_cone.specs.Cones.{ConeContent, IsCone, IsTakenIn, cone_saturation, saturation_rows, whole_space};
+ghost use Rattle.lra_double_description.specs.Pairs.{IsCut};
+ghost use Rattle.lra_double_description.specs.Steps.{IsLastAcross};
+ghost use Rattle.lra_double_description.specs.Thirds.{FewHaveThird};
 ghost use Rattle.lra_cone.specs.Strains.{IsConeError};
 ghost use Rattle.lra_cone.specs.Flat.{AreFlat, IsFlatError};
 
 use lra_bits::SatMatrix;
-use lra_canon::remove_marked;
-use lra_row::Row;
-use lra_steps::{
+use lra_canonical::remove_marked;
+use lra_double_description::{
     ConeError, Cut, Family, RAY_LIMIT, Strained, cut_rays, flat_lines, flat_rays, flat_saturation,
     last_across, multiply_all, orient_line,
 };
-use lra_sys::{ConKind, ConSys, unit};
+use lra_row::Row;
+use lra_systems::{ConKind, ConSys, unit};
 use std::alloc::{AllocError, Global};
 use std::marker::Model;
 
@@ -52,17 +52,17 @@ impl Drop for Cone {
 
 impl Model for Cone {
     ghost use Rattle.std.specs.Prelude.{◌≡◌, length};
-    ghost use Rattle.lra_sys.specs.Listed.{constraints};
-    ghost use Rattle.lra_cone.specs.Cones.{Shape, IsCone, saturation_of};
+    ghost use Rattle.lra_systems.specs.LinearSystems.{constraints};
+    ghost use Rattle.lra_cone.specs.Cones.{ConeContent, IsCone, cone_saturation};
 
-    ghost Value = { Shape };
+    ghost Value = { ConeContent };
 
     ghost view = { λ s.
         record { dims = s.taken.dims; taken = constraints s.taken; lines = s.lines.items; rays = s.rays.items } };
 
     ghost invariant = { λ s.
         IsCone (record { dims = s.taken.dims; taken = constraints s.taken; lines = s.lines.items; rays = s.rays.items })
-        × (s.saturation ≡ saturation_of (constraints s.taken) s.rays.items)
+        × (s.saturation ≡ cone_saturation (constraints s.taken) s.rays.items)
         × (length s.taken.rows ≡ length s.taken.kinds) };
 }
 
@@ -102,7 +102,7 @@ impl Cone {
           lines = lines.items;
           rays = rays.items;
         }) }
-        requires saturation { saturation ≡ saturation_of (constraints taken) rays.items }
+        requires saturation { saturation ≡ cone_saturation (constraints taken) rays.items }
         ensures { result ≡ record {
           dims = taken.dims;
           taken = constraints taken;
@@ -153,7 +153,7 @@ impl Cone {
 
     /// Which of the rows taken in are tight at which of the rays.
     pub fn saturation(&self) -> &SatMatrix
-        ensures { result.now ≡ saturation_of self.now.taken self.now.rays }
+        ensures { result.now ≡ cone_saturation self.now.taken self.now.rays }
     {
         &self.saturation
     }
@@ -277,7 +277,7 @@ impl Cone {
         requires width { length row.now ≡ suc self.old.dims }
         requires flat { All (λ l. product row.now l ≡ pos 0) self.old.lines }
         requires cut { IsCut (is_equality kind) (map (product row.now) self.old.rays) self.old.rays
-            (saturation_of self.old.taken self.old.rays) made }
+            (cone_saturation self.old.taken self.old.rays) made }
         ensures ok { OnOk result (IsTakenIn self.old (record { row = row.now; equal = is_equality kind }) self.new) }
         ensures unchanged { OnErr result (self.new ≡ self.old) }
     {

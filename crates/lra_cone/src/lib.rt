@@ -1,6 +1,6 @@
 //! Cones by the double description method: the lines and rays of the solutions of rows that are taken in one by one.
 //!
-//! What a row makes of them is a step of `lra_steps`.
+//! What a row makes of them is a step of `lra_double_description`.
 #![tactic(auto)]
 
 mod cone;
@@ -9,6 +9,6 @@ mod losses;
 
 pub use cone::{Cone, positive_cone};
 pub use conversions::{Conversion, take_rows};
-pub use losses::{GivenRow, Loss};
-pub use lra_steps::{ConeError, Family, Member, RAY_LIMIT, Strained};
-pub use lra_sys::ConKind;
+pub use losses::{Loss, LossRow};
+pub use lra_double_description::{ConeError, Family, Member, RAY_LIMIT, Strained};
+pub use lra_systems::ConKind;

@@ -1,24 +1,24 @@
 //! Rows that were left out.
 
 ghost use Rattle.std.specs.Prelude.{◌≡◌, IfOk};
-ghost use Rattle.lra_sys.specs.Listed.{constraints};
+ghost use Rattle.lra_systems.specs.LinearSystems.{constraints};
 ghost use Rattle.lra_linear_spec.specs.Kinds.{is_equality};
 ghost use Rattle.lra_linear_spec.specs.Strain as told;
 
 use lra_linear_spec::Cause;
 use lra_row::Row;
-use lra_sys::{ConKind, ConSys};
+use lra_systems::{ConKind, ConSys};
 use std::alloc::{AllocError, Global};
 use std::marker::Model;
 
 /// A row of a list: an inequality or an equality; or a point or a ray, or a line.
 #[derive(Drop)]
-pub struct GivenRow {
+pub struct LossRow {
     row: Row,
     equal: bool,
 }
 
-impl Model for GivenRow {
+impl Model for LossRow {
     ghost use Rattle.lra_linear_spec.specs.Descriptions.{LinearRow};
 
     ghost Value = { LinearRow };
@@ -26,7 +26,7 @@ impl Model for GivenRow {
     ghost view = { λ g. record { row = g.row; equal = g.equal } };
 }
 
-impl GivenRow {
+impl LossRow {
     /// The row's numbers.
     pub fn row(&self) -> &Row
         ensures { result.now ≡ self.now.row }
@@ -38,8 +38,8 @@ impl GivenRow {
 /// What is told of a row that was left out.
 #[derive(Drop)]
 pub struct Loss {
-    chosen: Vec<GivenRow>,
-    further: GivenRow,
+    chosen: Vec<LossRow>,
+    further: LossRow,
     cause: Cause,
 }
 
@@ -77,14 +77,14 @@ impl Loss {
     }
 
     /// The rows taken before it.
-    pub fn chosen(&self) -> &[GivenRow]
+    pub fn chosen(&self) -> &[LossRow]
         ensures { result.now ≡ self.now.chosen }
     {
         self.chosen.as_slice()
     }
 
     /// The row that with these passes a limit: the next one, or one of these.
-    pub fn further(&self) -> &GivenRow
+    pub fn further(&self) -> &LossRow
         ensures { result.now ≡ self.now.further }
     {
         &self.further
@@ -98,16 +98,16 @@ impl Loss {
     }
 }
 
-fn given_row(row: &Row, kind: ConKind) -> Result<GivenRow, AllocError>
+fn given_row(row: &Row, kind: ConKind) -> Result<LossRow, AllocError>
     ensures { IfOk result (λ g. g ≡ record { row = row.now; equal = is_equality kind }) }
 {
     let row = row.copy()?;
     let equal = kind == ConKind::Eq;
-    Ok(GivenRow { row, equal })
+    Ok(LossRow { row, equal })
 }
 
 // The rows of the list.
-fn given_rows(alloc: Global, list: &ConSys) -> Result<Vec<GivenRow>, AllocError>
+fn given_rows(alloc: Global, list: &ConSys) -> Result<Vec<LossRow>, AllocError>
     ensures { IfOk result (λ rows. rows.items ≡ constraints list.now) }
 {
     let (listed, kinds) = (list.rows(), list.kinds());

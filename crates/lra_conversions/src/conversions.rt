@@ -6,10 +6,10 @@ ghost use Rattle.lra_linear_spec.specs.Descriptions.{LinearRow, Con, Gen};
 ghost use Rattle.lra_linear_spec.specs.OperationStrain.{with_positivity};
 ghost use Rattle.lra_linear_spec.specs.Points.{IsWithin, SameSet};
 ghost use Rattle.lra_linear_spec.specs.Strain.{Strains};
-ghost use Rattle.lra_sys.specs.Dimensions.{too_many_dimensions};
-ghost use Rattle.lra_sys.specs.Listed.{constraints, generators, FitKinds};
+ghost use Rattle.lra_systems.specs.Dimensions.{too_many_dimensions};
+ghost use Rattle.lra_systems.specs.LinearSystems.{constraints, generators, FitKinds};
 ghost use Rattle.lra_descriptions.specs.ShownLists.{AreGeneratorsOf, AreConstraintsOf, dual_kind};
-ghost use Rattle.lra_cone.specs.Cones.{Shape};
+ghost use Rattle.lra_cone.specs.Cones.{ConeContent};
 ghost use Rattle.lra_cone.specs.Conversions.{AreTried, IsConversion};
 ghost use Rattle.lra_cone.specs.Losses.{IfLost};
 ghost use Rattle.lra_pair.specs.TakenPoints.{AreTaken};
@@ -17,7 +17,7 @@ ghost use Rattle.lra_pair.specs.TakenPoints.{AreTaken};
 use lra_cone::{Cone, Conversion, Loss, positive_cone, take_rows};
 use lra_descriptions::{dual_rows, generator_list, has_point, nothing};
 use lra_pair::valid_list;
-use lra_sys::{ConSys, GenSys, TOO_MANY_DIMENSIONS};
+use lra_systems::{ConSys, GenSys, TOO_MANY_DIMENSIONS};
 use std::alloc::{AllocError, Global};
 
 /// The rows kept, their points, rays and lines, and the rows left out. The positivity row is taken first, then the rows
@@ -81,7 +81,7 @@ pub fn constrain(alloc: Global, given: &GenSys) -> Result<(ConSys, Vec<Loss>), A
     ensures canonical { IfOk result (λ r. r.1.items ≡ [] →
         AreConstraintsOf given.now.dims (generators given.now) (constraints r.0)) }
     ensures taken { IfOk result (λ r. r.1.items ≢ [] →
-        (cone : Shape) × AreTaken given.now.dims (generators given.now) r.0 cone r.1.items) }
+        (cone : ConeContent) × AreTaken given.now.dims (generators given.now) r.0 cone r.1.items) }
 {
     let n = given.dims();
     if n >= TOO_MANY_DIMENSIONS {

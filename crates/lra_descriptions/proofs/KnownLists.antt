@@ -12,9 +12,9 @@ use Rattle.lra_bits.specs.Matrix.{Matrix}
 use Rattle.lra_linear_spec.specs.RowOrder.{row_cmp}
 use Rattle.lra_linear_spec.specs.declared.GenKind.TheVariants.{Point, Ray, Line}
 use Rattle.lra_linear_spec.proofs.Membership.{contains_head, contains_tail}
-use Rattle.lra_canon.specs.MarkedRows.{AreToldBy, bits_in, rows_in}
-use Rattle.lra_canon.specs.declared.order.Marked.{Marked}
-use Rattle.lra_canon.proofs.MarkedOrder.{row_at, rows_length, rows_shuffled, told_bits, told_shuffled}
+use Rattle.lra_canonical.specs.MarkedRows.{AreToldBy, bits_in, rows_in}
+use Rattle.lra_canonical.specs.declared.order.Marked.{Marked}
+use Rattle.lra_canonical.proofs.MarkedOrder.{row_at, rows_length, rows_shuffled, told_bits, told_shuffled}
 use Rattle.lra_descriptions.specs.ShownLists.{directions_of, points_of, ShowsGenerators}
 use Rattle.lra_descriptions.specs.Tightness.{GoesWith, TellsFirst}
 use Rattle.lra_descriptions.specs.declared.known.KnownGenerators.{KnownGenerators}

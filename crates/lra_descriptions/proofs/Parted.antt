@@ -14,7 +14,7 @@ use Rattle.std.proofs.lemmas.List.Sorted.{Contains-permutation, All-permutation}
 use Rattle.lra_linear_spec.specs.Vectors.{entry}
 use Rattle.lra_linear_spec.specs.RowOrder.{row_cmp, inequality_cmp}
 use Rattle.lra_linear_spec.specs.Polyhedra.{positivity}
-use Rattle.lra_sys.specs.Listed.{Listed}
+use Rattle.lra_systems.specs.LinearSystems.{LinearSystem}
 use Rattle.lra_linear_spec.specs.declared.ConKind.{ConKind}
 use Rattle.lra_linear_spec.specs.declared.ConKind.TheVariants.{Ge, Eq}
 use Rattle.lra_linear_spec.specs.declared.GenKind.{GenKind}
@@ -22,7 +22,7 @@ use Rattle.lra_linear_spec.specs.declared.GenKind.TheVariants.{Point, Ray, Line}
 use Rattle.lra_linear_spec.proofs.Membership.{contains_none, contains_cases, contains_head, contains_tail}
 use Rattle.lra_row.proofs.OrderLemmas.{row_cmp_ties}
 use Rattle.lra_linear_spec.proofs.RowOrder.{row_cmp_total}
-use Rattle.lra_canon.proofs.Orders.{tied_itself}
+use Rattle.lra_canonical.proofs.Orders.{tied_itself}
 use Rattle.lra_descriptions.specs.ShownLists.{points_of, directions_of, without, ShowsGenerators, ShowsConstraints}
 
 -- ---- the rays above 0 in column 0, and the others
@@ -192,7 +192,8 @@ without_widths w row rays others h p = All-permutation (λ r. length r ≡ w) (w
     (all_without w row rays h)
 
 -- ---- the list of generators, as it is put together
-pub put_together : {E : Type 0} (lines rays points directions : List (List ℤ)) (result : Result (Listed GenKind) E) → IsPermutation (points_of rays) points →
+pub put_together : {E : Type 0} (lines rays points directions : List (List ℤ)) (result : Result (LinearSystem GenKind) E) →
+    IsPermutation (points_of rays) points →
     IsPermutation (directions_of rays) directions → IsSorted row_cmp points → IsSorted row_cmp directions → points ≢ [] →
     IfOk result (λ list. list.rows ≡ (points ++ directions) ++ lines) →
     IfOk result (λ list. list.kinds ≡ (replicate (length points) Point ++ replicate (length directions) Ray) ++ replicate (length lines) Line) →
@@ -216,7 +217,7 @@ none_before (x ∷ xs) [] p e = absurd (contains_none x (Contains-permutation (x
 none_before (x ∷ xs) (y ∷ ys) p e = absurd (omega (arith, e))
 
 -- ---- and of constraints
-pub put_constraints : (n : ℕ) (lines rays found inequalities : List (List ℤ)) (row : List ℤ) (empty first list : Listed ConKind) → row ≡ positivity n → found ≡ without row rays →
+pub put_constraints : (n : ℕ) (lines rays found inequalities : List (List ℤ)) (row : List ℤ) (empty first list : LinearSystem ConKind) → row ≡ positivity n → found ≡ without row rays →
     IsPermutation found inequalities → IsSorted inequality_cmp inequalities → empty.rows ≡ [] → empty.kinds ≡ [] →
     first.rows ≡ empty.rows ++ lines → first.kinds ≡ empty.kinds ++ replicate (length lines) Eq → list.rows ≡ first.rows ++ inequalities →
     list.kinds ≡ first.kinds ++ replicate (length inequalities) Ge → ShowsConstraints n lines rays list

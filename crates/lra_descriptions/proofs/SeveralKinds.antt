@@ -6,7 +6,7 @@ use Rattle.lra_linear_spec.specs.Cones.{both_ways, with_row}
 use Rattle.lra_linear_spec.specs.Descriptions.{LinearRow, rows_as, system_of}
 use Rattle.lra_linear_spec.proofs.Membership.{contains_head, contains_tail}
 use Rattle.lra_linear_spec.specs.Kinds.{is_equality, is_line}
-use Rattle.lra_sys.specs.Listed.{given_by, FitsKind, FitKinds}
+use Rattle.lra_systems.specs.LinearSystems.{rows_by_kind, FitsKind, FitKinds}
 use Rattle.lra_linear_spec.specs.declared.GenKind.{GenKind}
 use Rattle.lra_linear_spec.specs.declared.GenKind.TheVariants.{Point, Ray, Line}
 use Rattle.lra_descriptions.specs.ShownLists.{dual_kind}
@@ -28,13 +28,13 @@ system_lines [] = refl
 system_lines (r ∷ rows) = ap (λ (l : List (List ℤ)). r ∷ negated r ∷ l) (system_lines rows)
 
 pub given_append : {K : Type 0} (equal : K → Bool) (xs ys : List (List ℤ)) (ks ls : List K) → length xs ≡ length ks →
-    given_by equal (xs ++ ys) (ks ++ ls) ≡ given_by equal xs ks ++ given_by equal ys ls
+    rows_by_kind equal (xs ++ ys) (ks ++ ls) ≡ rows_by_kind equal xs ks ++ rows_by_kind equal ys ls
 given_append equal [] ys [] ls n = refl
 given_append equal [] ys (k ∷ ks) ls n = absurd (omega (arith, n))
 given_append equal (x ∷ xs) ys [] ls n = absurd (omega (arith, n))
 given_append equal (x ∷ xs) ys (k ∷ ks) ls n = ap (λ (l : List LinearRow). record { row = x; equal = equal k } ∷ l) (given_append equal xs ys ks ls (omega (arith, n)))
 
-pub given_same : {K : Type 0} (equal : K → Bool) (rows : List (List ℤ)) (k : K) → given_by equal rows (replicate (length rows) k) ≡ rows_as (equal k) rows
+pub given_same : {K : Type 0} (equal : K → Bool) (rows : List (List ℤ)) (k : K) → rows_by_kind equal rows (replicate (length rows) k) ≡ rows_as (equal k) rows
 given_same equal [] k = refl
 given_same equal (r ∷ rows) k = ap (λ (l : List LinearRow). record { row = r; equal = equal k } ∷ l) (given_same equal rows k)
 
@@ -49,11 +49,11 @@ fit_same [] k f = tt
 fit_same (r ∷ rows) k f = (f r (contains_head r rows), fit_same rows k (λ t m. f t (contains_tail r t rows m)))
 
 -- generators as rows of the cone of what is valid on them
-pub dual_given : (rows : List (List ℤ)) (kinds : List GenKind) → given_by is_equality rows (map dual_kind kinds) ≡ given_by is_line rows kinds
+pub dual_given : (rows : List (List ℤ)) (kinds : List GenKind) → rows_by_kind is_equality rows (map dual_kind kinds) ≡ rows_by_kind is_line rows kinds
 dual_given [] kinds = refl
 dual_given (r ∷ rows) [] = refl
 dual_given (r ∷ rows) (k ∷ kinds) = ap (λ (l : List LinearRow). record { row = r; equal = is_equality (dual_kind k) } ∷ l) (dual_given rows kinds) ∙
-    ap (λ (b : Bool). record { row = r; equal = b } ∷ given_by is_line rows kinds) (same k)
+    ap (λ (b : Bool). record { row = r; equal = b } ∷ rows_by_kind is_line rows kinds) (same k)
   where
     same : (k : GenKind) → is_equality (dual_kind k) ≡ is_line k
     same Point = refl

@@ -6,7 +6,7 @@ use Rattle.std.proofs.lemmas.Bool.Decides.{Decides-int_eq}
 use Rattle.std.proofs.lemmas.List.{append-nil, ext_get_or, get_or-map, get_or_append_left, length-append, length-map}
 use Rattle.lra_bits.specs.Matrix.{Matrix}
 use Rattle.lra_bits.specs.TruthValues.{value_at}
-use Rattle.lra_bits.specs.Turned.{AreColumns}
+use Rattle.lra_bits.specs.Transposed.{AreColumns}
 use Rattle.lra_linear_spec.specs.Descriptions.{LinearRow}
 use Rattle.lra_linear_spec.specs.Kinds.{is_equality, is_line}
 use Rattle.lra_linear_spec.specs.Vectors.{product}
@@ -14,7 +14,7 @@ use Rattle.lra_linear_spec.specs.declared.ConKind.{ConKind}
 use Rattle.lra_linear_spec.specs.declared.GenKind.{GenKind}
 use Rattle.lra_linear_spec.proofs.Membership.{contains_head, contains_tail}
 use Rattle.lra_linear_spec.proofs.Products.{product_comm}
-use Rattle.lra_sys.specs.Listed.{Listed, constraints, generators, given_by}
+use Rattle.lra_systems.specs.LinearSystems.{LinearSystem, constraints, generators, rows_by_kind}
 use Rattle.lra_descriptions.specs.Tightness.{GoesWith, TellsFirst, saturated, saturation_of, tight_at, tight_matrix}
 
 -- ---- one row
@@ -95,13 +95,13 @@ goes_all columns lines rays old rows new e zero goes =
 
 -- ---- of both lists of a polyhedron
 given_tight : {K : Type 0} (equal : K → Bool) (rows : List (List ℤ)) (kinds : List K) (r : List ℤ) → length kinds ≡ length rows → tight_at rows r ≡ saturated
-    (given_by equal rows kinds) r
+    (rows_by_kind equal rows kinds) r
 given_tight equal [] kinds r n = refl
 given_tight equal (x ∷ rows) [] r n = absurd (omega (arith, n))
 given_tight equal (x ∷ rows) (k ∷ kinds) r n = ap (λ (l : List Bool). int_eq (product r x) (pos 0) ∷ l) (given_tight equal rows kinds r (omega (arith, n)))
 
 given_many : {K : Type 0} (equal : K → Bool) (rows : List (List ℤ)) (kinds : List K) → length kinds ≡ length rows → length rows ≡ length
-    (given_by equal rows kinds)
+    (rows_by_kind equal rows kinds)
 given_many equal [] kinds n = refl
 given_many equal (x ∷ rows) [] n = absurd (omega (arith, n))
 given_many equal (x ∷ rows) (k ∷ kinds) n = ap suc (given_many equal rows kinds (omega (arith, n)))
@@ -109,14 +109,15 @@ given_many equal (x ∷ rows) (k ∷ kinds) n = ap suc (given_many equal rows ki
 rows_tight : {K : Type 0} (equal : K → Bool) (generators : List LinearRow) (columns : List (List ℤ)) (rows : List (List ℤ)) (kinds : List K) → length kinds ≡
     length rows →
     ((r : List ℤ) → tight_at columns r ≡ saturated generators r) → map (tight_at columns) rows ≡ map (λ (s : LinearRow). saturated generators s.row)
-    (given_by equal rows kinds)
+    (rows_by_kind equal rows kinds)
 rows_tight equal generators columns [] kinds n h = refl
 rows_tight equal generators columns (x ∷ rows) [] n h = absurd (omega (arith, n))
 rows_tight equal generators columns (x ∷ rows) (k ∷ kinds) n h =
     ap (λ (b : List Bool). b ∷ map (tight_at columns) rows) (h x) ∙
     ap (λ (l : List (List Bool)). saturated generators x ∷ l) (rows_tight equal generators columns rows kinds (omega (arith, n)) h)
 
-pub known_saturation : (rows : Listed ConKind) (list : Listed GenKind) (m : Matrix) → length rows.kinds ≡ length rows.rows → length list.kinds ≡ length
+pub known_saturation : (rows : LinearSystem ConKind) (list : LinearSystem GenKind) (m : Matrix) → length rows.kinds ≡ length rows.rows →
+    length list.kinds ≡ length
     list.rows →
     m ≡ tight_matrix list.rows rows.rows → m ≡ saturation_of (constraints rows) (generators list)
 known_saturation rows list m nr ng e =

@@ -11,8 +11,8 @@ use Rattle.lra_linear_spec.specs.Descriptions.{LinearRow, HoldsWith}
 use Rattle.lra_linear_spec.proofs.Membership.{all_from, contains_cases, contains_head, contains_none, contains_tail, each_one}
 use Rattle.lra_linear_spec.specs.declared.GenKind.{GenKind}
 use Rattle.lra_linear_spec.specs.declared.GenKind.TheVariants.{Point}
-use Rattle.lra_sys.specs.Listed.{given_by}
-use Rattle.lra_sys.proofs.GivenRows.{given_pushed, all_given}
+use Rattle.lra_systems.specs.LinearSystems.{rows_by_kind}
+use Rattle.lra_systems.proofs.LinearRows.{given_pushed, all_given}
 use Rattle.lra_descriptions.specs.ShownLists.{IsSeenValid}
 
 -- kinds that are looked through
@@ -22,11 +22,11 @@ no_point_found kinds h m = h m.0 m.1 (get_or_default kinds m.0 Point Point m.1 �
 -- ---- validity, generator by generator
 pub valid_next : {K : Type 0} (equal : K → Bool) (e : Bool) (r : List ℤ) (rows : List (List ℤ)) (kinds : List K) (i : ℕ) (own : List (List ℤ)) → rows ≡ own → length kinds ≡ length own →
     i < length rows → (g : List ℤ) (d : K) (p : ℤ) → g ≡ get_or rows i g → p ≡ product r g →
-    IsOk (checked_product r g) → HoldsWith e p → HoldsWith (equal (get_or kinds i d)) p → IsSeenValid e r (given_by equal (take i rows) (take i kinds)) →
-    IsSeenValid e r (given_by equal (take (i + 1) rows) (take (i + 1) kinds))
+    IsOk (checked_product r g) → HoldsWith e p → HoldsWith (equal (get_or kinds i d)) p → IsSeenValid e r (rows_by_kind equal (take i rows) (take i kinds)) →
+    IsSeenValid e r (rows_by_kind equal (take (i + 1) rows) (take (i + 1) kinds))
 valid_next equal e r rows kinds i own eo n h g d p eg ep ok first second before x m =
     let here : LinearRow = record { row = g; equal = equal (get_or kinds i d) } in
-    let list = given_by equal (take i rows) (take i kinds) in
+    let list = rows_by_kind equal (take i rows) (take i kinds) in
     let more = given_pushed equal rows kinds i own eo n h list (list ++ here ∷ []) here g d eg refl refl refl in
     elim (Contains-append_cases list (here ∷ []) x (subst (λ (l : List LinearRow). Contains l x) (sym more) m)) [
       | inl j ↦ before x j
@@ -41,35 +41,35 @@ pub valid_none : (e : Bool) (r : List ℤ) (list : List LinearRow) → list ≡ 
 valid_none e r list el g m = absurd (contains_none g (subst (λ (l : List LinearRow). Contains l g) el m))
 
 pub valid_all : {K : Type 0} (equal : K → Bool) (e : Bool) (r : List ℤ) (rows own : List (List ℤ)) (kinds own_kinds : List K) (i : ℕ) → rows ≡ own → kinds ≡ own_kinds → length kinds ≡ length own →
-    i ≡ length rows → IsSeenValid e r (given_by equal (take i rows) (take i kinds)) → IsSeenValid e r (given_by equal own own_kinds)
+    i ≡ length rows → IsSeenValid e r (rows_by_kind equal (take i rows) (take i kinds)) → IsSeenValid e r (rows_by_kind equal own own_kinds)
 valid_all {K = K} equal e r rows own kinds own_kinds i er ek n h v =
-    subst (λ (x : List (List ℤ)). IsSeenValid e r (given_by equal x own_kinds)) er (subst (λ (x : List K). IsSeenValid e r (given_by equal rows x)) ek
+    subst (λ (x : List (List ℤ)). IsSeenValid e r (rows_by_kind equal x own_kinds)) er (subst (λ (x : List K). IsSeenValid e r (rows_by_kind equal rows x)) ek
     (subst (IsSeenValid e r) (all_given equal rows kinds i (ap length er ∙ sym n) h) v))
 
 -- the row of a place with its kind is among the given ones
 given_there : {K : Type 0} (equal : K → Bool) (rows : List (List ℤ)) (kinds : List K) (i : ℕ) (g : List ℤ) (d : K) → length kinds ≡ length rows → i < length rows → g ≡ get_or rows i g →
-    Contains (given_by equal rows kinds) (record { row = g; equal = equal (get_or kinds i d) })
+    Contains (rows_by_kind equal rows kinds) (record { row = g; equal = equal (get_or kinds i d) })
 given_there equal [] kinds i g d n h e = absurd (omega (arith, h))
 given_there equal (r ∷ rows) [] i g d n h e = absurd (omega (arith, n))
-given_there equal (r ∷ rows) (k ∷ kinds) zero g d n h e = subst (λ (x : List ℤ). Contains (given_by equal (r ∷ rows) (k ∷ kinds)) (record { row = x; equal = equal k })) (sym e)
-    (contains_head (let x : LinearRow = record { row = r; equal = equal k } in x) (given_by equal rows kinds))
+given_there equal (r ∷ rows) (k ∷ kinds) zero g d n h e = subst (λ (x : List ℤ). Contains (rows_by_kind equal (r ∷ rows) (k ∷ kinds)) (record { row = x; equal = equal k })) (sym e)
+    (contains_head (let x : LinearRow = record { row = r; equal = equal k } in x) (rows_by_kind equal rows kinds))
 given_there equal (r ∷ rows) (k ∷ kinds) (suc i) g d n h e = contains_tail (let x : LinearRow = record { row = r; equal = equal k } in x) (record { row = g; equal = equal (get_or kinds i d) })
-    (given_by equal rows kinds) (given_there equal rows kinds i g d (omega (arith, n)) (omega (arith, h)) e)
+    (rows_by_kind equal rows kinds) (given_there equal rows kinds i g d (omega (arith, n)) (omega (arith, h)) e)
 
 -- where one of the list passes the range, or isn't as a kind asks, the row isn't seen to be valid
 pub unseen_at : {K : Type 0} (equal : K → Bool) (e : Bool) (r : List ℤ) (rows : List (List ℤ)) (kinds : List K) (i : ℕ) (g : List ℤ) (d : K) → length kinds ≡ length rows → i < length rows →
-    g ≡ get_or rows i g → ¬ (IsOk (checked_product r g) × HoldsWith e (product r g) × HoldsWith (equal (get_or kinds i d)) (product r g)) → ¬ IsSeenValid e r (given_by equal rows kinds)
+    g ≡ get_or rows i g → ¬ (IsOk (checked_product r g) × HoldsWith e (product r g) × HoldsWith (equal (get_or kinds i d)) (product r g)) → ¬ IsSeenValid e r (rows_by_kind equal rows kinds)
 unseen_at equal e r rows kinds i g d n h eg out seen = out (seen (record { row = g; equal = equal (get_or kinds i d) }) (given_there equal rows kinds i g d n h eg))
 
 -- no row that isn't seen to be valid is told to be
 pub refuses : {K : Type 0} {X : Type 0} (equal : K → Bool) (e : Bool) (r : List ℤ) (rows own : List (List ℤ)) (kinds own_kinds : List K) (i : ℕ) (g : List ℤ) (d : K) → rows ≡ own → kinds ≡ own_kinds →
     length kinds ≡ length own → i < length rows → g ≡ get_or rows i g →
     ¬ (IsOk (checked_product r g) × HoldsWith e (product r g) × HoldsWith (equal (get_or kinds i d)) (product r g)) →
-    (IsTrue false → X) × (IsSeenValid e r (given_by equal own own_kinds) → IsTrue false)
+    (IsTrue false → X) × (IsSeenValid e r (rows_by_kind equal own own_kinds) → IsTrue false)
 refuses {K = K} equal e r rows own kinds own_kinds i g d er ek n h eg out = (
   λ t. let wrong : ⊥ = cc in absurd wrong,
   λ seen. absurd (unseen_at equal e r rows kinds i g d (n ∙ ap length (sym er)) h eg out
-      (subst (λ (x : List K). IsSeenValid e r (given_by equal rows x)) (sym ek) (subst (λ (x : List (List ℤ)). IsSeenValid e r (given_by equal x own_kinds)) (sym er) seen))),
+      (subst (λ (x : List K). IsSeenValid e r (rows_by_kind equal rows x)) (sym ek) (subst (λ (x : List (List ℤ)). IsSeenValid e r (rows_by_kind equal x own_kinds)) (sym er) seen))),
 )
 
 pub not_accepted : (e b : Bool) (p q : ℤ) → p ≡ q → (IsTrue b ↔ HoldsWith e p) → b ≡ false → HoldsWith e q → ⊥

@@ -5,7 +5,7 @@ use Rattle.std.specs.Prelude.{length, replicate, IsOk}
 use Rattle.std.specs.List.{Contains}
 use Rattle.std.specs.List.Sorted.{IsPermutation, IsSorted}
 use Rattle.std.specs.Ordering.{is_eq}
-use Rattle.lra_sys.specs.Listed.{Listed}
+use Rattle.lra_systems.specs.LinearSystems.{LinearSystem}
 use Rattle.lra_linear_spec.specs.declared.ConKind.{ConKind}
 use Rattle.lra_linear_spec.specs.declared.ConKind.TheVariants.{Ge, Eq}
 use Rattle.lra_linear_spec.specs.declared.GenKind.{GenKind}
@@ -78,7 +78,7 @@ without row [] = []
 without row (r ∷ rows) = cond (is_eq (row_cmp r row)) (without row rows) (r ∷ without row rows)
 
 -- Those of the rays that are above 0 in column 0, then the others, each in order, then the lines.
-pub record ListsGenerators (lines rays : List (List ℤ)) (list : Listed GenKind) : Type 0 where
+pub record ListsGenerators (lines rays : List (List ℤ)) (list : LinearSystem GenKind) : Type 0 where
   pub points : List (List ℤ)
   pub directions : List (List ℤ)
   pub rows_are : list.rows ≡ (points ++ directions) ++ lines
@@ -91,12 +91,12 @@ pub record ListsGenerators (lines rays : List (List ℤ)) (list : Listed GenKind
   pub some_point : points ≢ []
 
 -- nothing where no ray is above 0 in column 0
-abbrev pub ShowsGenerators : List (List ℤ) → List (List ℤ) → Listed GenKind → Type 0
+abbrev pub ShowsGenerators : List (List ℤ) → List (List ℤ) → LinearSystem GenKind → Type 0
 ShowsGenerators lines rays list =
     ((list.rows ≡ []) × (list.kinds ≡ []) × (points_of rays ≡ [])) ⊎ ListsGenerators lines rays list
 
 -- the lines as equalities, then the rays but the positivity row, in order, as inequalities
-pub record ShowsConstraints (n : ℕ) (lines rays : List (List ℤ)) (list : Listed ConKind) : Type 0 where
+pub record ShowsConstraints (n : ℕ) (lines rays : List (List ℤ)) (list : LinearSystem ConKind) : Type 0 where
   pub inequalities : List (List ℤ)
   pub rows_are : list.rows ≡ lines ++ inequalities
   pub kinds_are : list.kinds ≡ replicate (length lines) Eq ++ replicate (length inequalities) Ge
@@ -121,7 +121,8 @@ IsSeenValid equal r list = (g : LinearRow) → Contains list g
     → IsOk (checked_product r g.row) × HoldsWith equal (product r g.row) × HoldsWith g.equal (product r g.row)
 
 -- of these lines and rays those that are seen to be valid on each of the rows
-pub record ShowsValid (n : ℕ) (all_lines all_rays : List (List ℤ)) (given : List LinearRow) (list : Listed ConKind)
+pub record ShowsValid (n : ℕ) (all_lines all_rays : List (List ℤ)) (given : List LinearRow)
+    (list : LinearSystem ConKind)
     : Type 0 where
   pub lines : List (List ℤ)
   pub rays : List (List ℤ)

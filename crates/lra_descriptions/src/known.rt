@@ -5,17 +5,17 @@ ghost use Rattle.std.specs.Prelude.{ℕ, ℤ, Bool, true, cond, List};
 ghost use Rattle.std.specs.List.{All};
 ghost use Rattle.lra_linear_spec.specs.Polyhedra.{positivity};
 ghost use Rattle.lra_linear_spec.specs.declared.GenKind.TheVariants.{Point, Ray, Line};
-ghost use Rattle.lra_sys.specs.Dimensions.{too_many_dimensions};
-ghost use Rattle.lra_canon.specs.MarkedRows.{bits_in, rows_in, AreToldBy};
+ghost use Rattle.lra_systems.specs.Dimensions.{too_many_dimensions};
+ghost use Rattle.lra_canonical.specs.MarkedRows.{bits_in, rows_in, AreToldBy};
 ghost use Rattle.lra_descriptions.specs.ShownLists.{points_of, directions_of, without};
 ghost use Rattle.lra_descriptions.specs.ShownLists.{ShowsConstraints, ShowsGenerators};
 ghost use Rattle.lra_descriptions.specs.Tightness.{GoesWith, TellsFirst};
 
 use crate::shown::{are_same, is_point, push_constraints, push_generators};
 use lra_bits::{BitRow, SatMatrix};
-use lra_canon::{Marked, Order, order_marked};
+use lra_canonical::{Marked, Order, order_marked};
 use lra_row::Row;
-use lra_sys::{ConKind, ConSys, GenKind, GenSys};
+use lra_systems::{ConKind, ConSys, GenKind, GenSys};
 use std::alloc::{AllocError, Global};
 
 /// Constraints, and a row of the matrix for each.

@@ -4,15 +4,15 @@ ghost use Rattle.std.specs.Prelude.{◌≡◌, ◌↔◌, ◌∷◌, [], ℤ, Li
 ghost use Rattle.std.specs.List.{All, Contains};
 ghost use Rattle.lra_linear_spec.specs.OperationStrain.{unit_row};
 ghost use Rattle.lra_linear_spec.specs.Vectors.{negated};
-ghost use Rattle.lra_sys.specs.Dimensions.{too_many_dimensions};
-ghost use Rattle.lra_sys.specs.Listed.{constraints};
+ghost use Rattle.lra_systems.specs.Dimensions.{too_many_dimensions};
+ghost use Rattle.lra_systems.specs.LinearSystems.{constraints};
 ghost use Rattle.lra_linear_spec.specs.Kinds.{is_equality};
 ghost use Rattle.lra_linear_spec.specs.declared.ConKind.TheVariants.{Ge};
 ghost use Rattle.lra_linear_spec.specs.declared.GenKind.TheVariants.{Point};
 ghost use Rattle.lra_descriptions.specs.ShownLists.{dual_kind, IsSeenValid};
 
 use lra_row::Row;
-use lra_sys::{ConKind, ConSys, GenKind, GenSys, unit};
+use lra_systems::{ConKind, ConSys, GenKind, GenSys, unit};
 use std::alloc::{AllocError, Global};
 
 // What is asked of the product of a constraint with such a generator.

@@ -9,12 +9,12 @@ ghost use Rattle.lra_linear_spec.specs.RowOrder.{row_cmp};
 ghost use Rattle.lra_linear_spec.specs.Polyhedra.{positivity};
 ghost use Rattle.lra_descriptions.specs.ShownLists.{points_of, directions_of, without, ShowsGenerators};
 ghost use Rattle.lra_descriptions.specs.ShownLists.{ShowsConstraints};
-ghost use Rattle.lra_sys.specs.Dimensions.{too_many_dimensions};
+ghost use Rattle.lra_systems.specs.Dimensions.{too_many_dimensions};
 ghost use Rattle.lra_linear_spec.specs.declared.GenKind.TheVariants.{Point, Ray, Line};
 
-use lra_canon::{Order, canonical_order};
+use lra_canonical::{Order, canonical_order};
 use lra_row::Row;
-use lra_sys::{ConKind, ConSys, GenKind, GenSys};
+use lra_systems::{ConKind, ConSys, GenKind, GenSys};
 use std::alloc::{AllocError, Global};
 
 // Whether column 0 is above 0.

@@ -1,8 +1,8 @@
 -- What every meaning keeps. What is said of stores, and of what is told of a form, is asked of contents that values and
 -- heads hold; what relates dimensions, caps, parts and answers to each other is asked of all contents.
 use Rattle.std.specs.Prelude.{◌≡◌, ◌≢◌, ◌↔◌, ◌≤◌, ℕ, ℤ, List, [], length, Option, None}
-use Rattle.lra_lin.specs.Form.{Form, form_value}
-use Rattle.lra_sys.specs.Listed.{Listed}
+use Rattle.lra_linear_forms.specs.Form.{Form, form_value}
+use Rattle.lra_systems.specs.LinearSystems.{LinearSystem}
 use Rattle.lra_linear_spec.specs.declared.ConKind.{ConKind}
 use Rattle.lra_domain.specs.Actions.{Action, Leads, Within}
 use Rattle.lra_domain.specs.Bounds.{IsBetween}
@@ -70,7 +70,7 @@ pub record SingleLaws {V H : Type 0} (m : Meaning V H) : Type 0 where
   pub one_void : (n cap : ℕ) (v w : V) → m.void n cap v → m.void n cap w → v ≡ w
   pub one_done : (step : Action) (a v w : V) → m.done step a v → m.done step a w → v ≡ w
   pub one_joined : (a b v w : V) → m.joined a b v → m.joined a b w → v ≡ w
-  pub one_started : (v : V) (given : Listed ConKind) (g h : H) → m.started v given g → m.started v given h → g ≡ h
+  pub one_started : (v : V) (given : LinearSystem ConKind) (g h : H) → m.started v given g → m.started v given h → g ≡ h
   pub one_grown : (h : H) (v : V) (mode : Mode) (i j : H) → m.grown h v mode i → m.grown h v mode j → i ≡ j
   pub one_valued : (h : H) (v w : V) → m.valued h v → m.valued h w → v ≡ w
 
@@ -80,7 +80,7 @@ pub record PlainLaws {V H : Type 0} (m : Meaning V H) : Type 0 where
   -- there is one universal value, whatever the cap; one join, one head that starts with a value, one value of a head
   pub one_universal : (n c d : ℕ) (v w : V) → m.universal n c v → m.universal n d w → v ≡ w
   pub one_joined : (a b v w : V) → m.joined a b v → m.joined a b w → v ≡ w
-  pub one_started : (v : V) (given : Listed ConKind) (g h : H) → m.started v given g → m.started v given h → g ≡ h
+  pub one_started : (v : V) (given : LinearSystem ConKind) (g h : H) → m.started v given g → m.started v given h → g ≡ h
   pub one_valued : (h : H) (v w : V) → m.valued h v → m.valued h w → v ≡ w
   pub covered_reflexive : (a : V) → m.covered a a
   pub covered_transitive : (a b c : V) → m.covered a b → m.covered b c → m.covered a c
@@ -96,11 +96,14 @@ pub record PlainLaws {V H : Type 0} (m : Meaning V H) : Type 0 where
   pub stays_joined : (h : H) (a b j : V) (mode : Mode)
       → m.joined a b j → m.stays h a mode → m.stays h b mode → m.stays h j mode
   pub stays_value : (h : H) (v : V) (mode : Mode) → m.valued h v → m.stays h v mode
-  pub stays_started : (h : H) (v : V) (given : Listed ConKind) (mode : Mode) → m.started v given h → m.stays h v mode
+  pub stays_started : (h : H) (v : V) (given : LinearSystem ConKind) (mode : Mode) → m.started v given h →
+      m.stays h v mode
   -- a head that is held started with a value that is; a universal value has a part
-  pub started_formed : (h : H) (v : V) (given : Listed ConKind) → m.started v given h → m.head_formed h → m.formed v
+  pub started_formed : (h : H) (v : V) (given : LinearSystem ConKind) → m.started v given h → m.head_formed h →
+      m.formed v
   pub universal_filled : (n cap : ℕ) (v : V) → m.universal n cap v → m.parts v ≢ []
   -- a head that starts with a value has no store beyond it
-  pub started_stores : (h : H) (v : V) (given : Listed ConKind) → m.started v given h → Within (m.head_has h) (m.has v)
+  pub started_stores : (h : H) (v : V) (given : LinearSystem ConKind) → m.started v given h →
+      Within (m.head_has h) (m.has v)
   -- the first number of a rank is 1
   pub rank_first : (h : H) → (m.rank h).first ≡ 1

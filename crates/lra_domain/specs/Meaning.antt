@@ -1,8 +1,8 @@
 -- What a domain's values and heads mean.
 -- The value that contracts see is the content of a value or a head: so equal contents are equal values.
 use Rattle.std.specs.Prelude.{◌≡◌, ℕ, ℤ, List, Option, ◌⊎◌}
-use Rattle.lra_lin.specs.Form.{Form}
-use Rattle.lra_sys.specs.Listed.{Listed}
+use Rattle.lra_linear_forms.specs.Form.{Form}
+use Rattle.lra_systems.specs.LinearSystems.{LinearSystem}
 use Rattle.lra_linear_spec.specs.declared.ConKind.{ConKind}
 use Rattle.lra_domain.specs.Actions.{Action, Within}
 use Rattle.lra_domain.specs.declared.Mode.{Mode}
@@ -26,7 +26,7 @@ pub record Meaning (V H : Type 0) : Type 1 where
   -- how many dimensions it has
   pub dims : V → ℕ
   -- the lists of rows that tell of the value, part by part; it may have so many
-  pub parts : V → List (Listed ConKind)
+  pub parts : V → List (LinearSystem ConKind)
   pub capped : V → ℕ → Type 0
   -- what the content tells of a form's values: a lower and an upper bound, each of them or none
   pub bounded : V → Form → Option ℤ → Option ℤ → Type 0
@@ -56,7 +56,7 @@ pub record Meaning (V H : Type 0) : Type 1 where
   pub rank : H → Rank
   pub head_covered : H → H → Type 0
   -- the head that starts with the value, for the given rows
-  pub started : V → Listed ConKind → H → Type 0
+  pub started : V → LinearSystem ConKind → H → Type 0
   -- next is included in the head; what the inclusion may answer: Wide only where it strains
   pub stays : H → V → Mode → Type 0
   pub answers : H → V → Mode → Included → Type 0
@@ -96,7 +96,7 @@ pub record Joins {V H : Type 0} (m : Meaning V H) (one two : V) (exactness : Exa
   pub flagged : exactness ≡ Flagged → m.join_strains one two
 
 -- a head that starts with a value
-pub record Starts {V H : Type 0} (m : Meaning V H) (first : V) (given : Listed ConKind) (head : H) : Type 0 where
+pub record Starts {V H : Type 0} (m : Meaning V H) (first : V) (given : LinearSystem ConKind) (head : H) : Type 0 where
   pub formed : m.head_formed head
   pub stores : Within (m.has first) (m.head_has head)
   pub started : m.started first given head

@@ -2,11 +2,11 @@
 -- And how many parts there may be.
 use Rattle.std.specs.Prelude.{ℕ, ℤ, pos, List, [], ◌∷◌, ◌⊎◌}
 use Rattle.lra_linear_spec.specs.Descriptions.{Con}
-use Rattle.lra_sys.specs.Listed.{Listed, constraints}
+use Rattle.lra_systems.specs.LinearSystems.{LinearSystem, constraints}
 use Rattle.lra_linear_spec.specs.declared.ConKind.{ConKind}
 
 -- all rows of some part hold at the store
-abbrev pub SomePartHolds : List (Listed ConKind) → List ℤ → Type 0
+abbrev pub SomePartHolds : List (LinearSystem ConKind) → List ℤ → Type 0
 SomePartHolds [] s = ⊥
 SomePartHolds (p ∷ ps) s = Con (constraints p) (pos 1 ∷ s) ⊎ SomePartHolds ps s
 

@@ -2,9 +2,9 @@
 -- joins alone: what the author gives, and the meaning and the laws that follow from it.
 use Rattle.std.specs.Prelude.{◌≡◌, ◌≤◌, ℕ, ℤ, List, [], length, None, ⊤}
 use Rattle.std.proofs.Common.{refl, subst, sym, ◌∙◌, arith}
-use Rattle.lra_lin.specs.Form.{form_value}
+use Rattle.lra_linear_forms.specs.Form.{form_value}
 use Rattle.lra_linear_spec.specs.declared.ConKind.{ConKind}
-use Rattle.lra_sys.specs.Listed.{Listed}
+use Rattle.lra_systems.specs.LinearSystems.{LinearSystem}
 use Rattle.lra_domain.specs.Actions.{Action, ActionFits, Leads, Within, KeepsStores, HoldsStores}
 use Rattle.lra_domain.specs.Bounds.{IsBetween}
 use Rattle.lra_domain.specs.Laws.{Laws}
@@ -17,7 +17,7 @@ use Rattle.lra_domain.specs.declared.Included.TheVariants.{Yes, No, Wide}
 pub record Unstrained (V : Type 0) : Type 1 where
   pub has : V → List ℤ → Type 0
   pub dims : V → ℕ
-  pub parts : V → List (Listed ConKind)
+  pub parts : V → List (LinearSystem ConKind)
   pub covered : V → V → Type 0
   pub whole : ℕ → V
   pub void : ℕ → V

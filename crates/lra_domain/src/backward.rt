@@ -6,7 +6,7 @@ ghost use Rattle.lra_domain.specs.Backward.{GoesBack, MeetsBoth, Retracing};
 ghost use Rattle.lra_domain.specs.Parts.{CapsWithin};
 
 use crate::{Domain, Exactness};
-use lra_lin::{LinExpr, Test};
+use lra_linear_forms::{LinExpr, Test};
 use std::alloc::AllocError;
 
 /// A domain that also goes back: from what is so behind an assignment or a test to what was so before it.

@@ -7,7 +7,7 @@ ghost use Rattle.lra_domain.specs.Parts.{CapsWithin};
 ghost use Rattle.lra_domain.specs.Stores.{Has};
 
 use crate::{Domain, Exactness, worse};
-use lra_lin::{LinExpr, Test};
+use lra_linear_forms::{LinExpr, Test};
 use std::alloc::AllocError;
 
 /// A least change of a value, as a call of `Domain` makes it.

@@ -8,8 +8,8 @@ ghost use Rattle.lra_domain.specs.Meaning.{Meaning, Meets, Joins, Starts, Grew, 
 ghost use Rattle.lra_domain.specs.Laws.{Laws, PartsTell, PlainLaws};
 
 use crate::{Change, Exactness, Grown, Included, Mode, Rank};
-use lra_lin::{LinExpr, Test};
-use lra_sys::ConSys;
+use lra_linear_forms::{LinExpr, Test};
+use lra_systems::ConSys;
 use std::alloc::{AllocError, Global};
 
 /// An abstract domain: its values stand for sets of stores, its heads for values that grow at the head of a loop.

@@ -14,14 +14,14 @@ use Rattle.lra_linear_spec.specs.Vectors.{entry, product}
 use Rattle.lra_linear_spec.specs.declared.ConKind.{ConKind}
 use Rattle.lra_linear_spec.specs.declared.ConKind.TheVariants.{Ge}
 use Rattle.lra_linear_spec.proofs.Products.{product_comm}
-use Rattle.lra_cone.specs.Cones.{IsCone, Shape, saturation_of as by_rays, saturation_rows, tight_values}
+use Rattle.lra_cone.specs.Cones.{IsCone, ConeContent, cone_saturation as by_rays, saturation_rows, tight_values}
 use Rattle.lra_descriptions.specs.ShownLists.{dual_kind}
 use Rattle.lra_descriptions.proofs.SeveralKinds.{dual_given}
 use Rattle.lra_cone.proofs.TightRows.{rows_append, subset_from, subset_said}
-use Rattle.lra_sys.specs.Listed.{Listed, constraints, generators, given_by}
+use Rattle.lra_systems.specs.LinearSystems.{LinearSystem, constraints, generators, rows_by_kind}
 use Rattle.lra_linear_spec.specs.declared.GenKind.{GenKind}
 use Rattle.lra_duality.specs.Saturations.{IsCovered, IsCoveredAt, saturated, saturation_of}
-use Rattle.lra_sys.proofs.FirstMembers.{front}
+use Rattle.lra_systems.proofs.FirstMembers.{front}
 use Rattle.lra_duality.proofs.KeptCones.{fewer_rays, with_some}
 use Rattle.lra_duality.proofs.KeptFacets.{alone_cone, covered_cone}
 use Rattle.lra_duality.proofs.SaturationLemmas.{given_length}
@@ -57,7 +57,7 @@ values_from generators u r tight =
 -- ---- the constraint at a place
 given_at : {K : Type 0} (equal : K → Bool) (rows : List (List ℤ)) (kinds : List K) (i : ℕ) (k : K) (d : LinearRow) → length kinds ≡ length rows →
     i < length rows →
-    get_or (given_by equal rows kinds) i d ≡ record { row = get_or rows i []; equal = equal (get_or kinds i k) }
+    get_or (rows_by_kind equal rows kinds) i d ≡ record { row = get_or rows i []; equal = equal (get_or kinds i k) }
 given_at equal [] kinds i k d n h = absurd (omega (arith, h))
 given_at equal (x ∷ rows) [] i k d n h = absurd (omega (arith, n))
 given_at equal (x ∷ rows) (kind ∷ kinds) zero k d n h = refl
@@ -69,17 +69,17 @@ row_values given generators m i d e h =
     ap (λ (x : Matrix). get_or x.rows i []) e ∙ get_or-map (λ (r : LinearRow). saturated generators r.row) given i d [] h
 
 pub values_at : {K : Type 0} (equal : K → Bool) (rows : List (List ℤ)) (kinds : List K) (generators : List LinearRow) (m : Matrix) (i : ℕ) (k : K) → length kinds ≡ length rows → i < length rows →
-    m ≡ saturation_of (given_by equal rows kinds) generators → get_or m.rows i [] ≡ saturated generators (get_or rows i [])
+    m ≡ saturation_of (rows_by_kind equal rows kinds) generators → get_or m.rows i [] ≡ saturated generators (get_or rows i [])
 values_at equal rows kinds generators m i k n h e =
     let d : LinearRow = record { row = []; equal = false } in
     let l = given_length equal rows kinds n in
-    row_values (given_by equal rows kinds) generators m i d e (omega (arith, l, h)) ∙ ap (λ (g : LinearRow). saturated generators g.row) (given_at equal rows kinds i k d n h)
+    row_values (rows_by_kind equal rows kinds) generators m i d e (omega (arith, l, h)) ∙ ap (λ (g : LinearRow). saturated generators g.row) (given_at equal rows kinds i k d n h)
 
 -- ---- which generators the inequalities are tight at, one after the other
 pub tight_more : {K : Type 0} (equal : K → Bool) (generators : List LinearRow) (rows : List (List ℤ)) (kinds : List K) (i : ℕ) (r : List ℤ) (k : K) (line : Bool) (bits : List Bool)
     (m old new : Matrix) →
     length kinds ≡ length rows → i < length rows → r ≡ get_or rows i r → r ≡ get_or rows i [] → line ≡ equal (get_or kinds i k) → line ≡ false → bits ≡ get_or m.rows i [] →
-    m ≡ saturation_of (given_by equal rows kinds) generators → new ≡ record old { rows = old.rows ++ bits ∷ [] } →
+    m ≡ saturation_of (rows_by_kind equal rows kinds) generators → new ≡ record old { rows = old.rows ++ bits ∷ [] } →
     old ≡ by_rays generators (rays_of (front equal rows kinds i)) → new ≡ by_rays generators (rays_of (front equal rows kinds (i + 1)))
 tight_more equal generators rows kinds i r k line bits m old new n h er ed el l eb em en eo =
     let rays = rays_of (front equal rows kinds i) in
@@ -114,7 +114,7 @@ covered_yes kinds rows values row place equal b e f er both = (
 )
 
 -- what it means
-covered_by : (list : Listed ConKind) (generators : List LinearRow) (m : Matrix) (u : List ℤ) → length list.kinds ≡ length list.rows → m ≡ saturation_of (constraints list) generators →
+covered_by : (list : LinearSystem ConKind) (generators : List LinearRow) (m : Matrix) (u : List ℤ) → length list.kinds ≡ length list.rows → m ≡ saturation_of (constraints list) generators →
     IsCovered list.kinds m.rows (saturated generators u) → (r : List ℤ) × Contains (constraints list) (inequality r) × TightToo (system_of generators) (entry u) (entry r)
 covered_by list generators m u n e c =
     let i = c.place in
@@ -128,7 +128,7 @@ covered_by list generators m u n e c =
       values_said generators u r (subst (IsSubset (saturated generators u)) (values_at is_equality list.rows list.kinds generators m i Ge n h e) c.by.tight),
     )
 
-alone_from : (list : Listed ConKind) (generators : List LinearRow) (m : Matrix) (u : List ℤ) → length list.kinds ≡ length list.rows → m ≡ saturation_of (constraints list) generators →
+alone_from : (list : LinearSystem ConKind) (generators : List LinearRow) (m : Matrix) (u : List ℤ) → length list.kinds ≡ length list.rows → m ≡ saturation_of (constraints list) generators →
     ¬ (IsCovered list.kinds m.rows (saturated generators u)) → (r : List ℤ) → Contains (constraints list) (inequality r) → ¬ (TightToo (system_of generators) (entry u) (entry r))
 alone_from list generators m u n e alone r k tight =
     let i = k.0 in
@@ -147,38 +147,41 @@ alone_from list generators m u n e alone r k tight =
     })
 
 -- ---- as the code tells it
-pub seen : (n : ℕ) (rows given : List LinearRow) (taken : Listed ConKind) (lines rays others : List (List ℤ)) → taken.dims ≡ n → constraints taken ≡ given → lines ≡ lines_of rows → rays ≡ others →
+pub seen : (n : ℕ) (rows given : List LinearRow) (taken : LinearSystem ConKind) (lines rays others : List (List ℤ)) → taken.dims ≡ n → constraints taken ≡ given → lines ≡ lines_of rows →
+    rays ≡ others →
     IsCone (record { dims = n; taken = given; lines = lines_of rows; rays = others }) → IsCone (record { dims = taken.dims; taken = constraints taken; lines = lines; rays = rays })
 seen n rows given taken lines rays others ed et el er k =
-    let same : (let s : Shape = record { dims = n; taken = given; lines = lines_of rows; rays = others } in s) ≡ record { dims = taken.dims; taken = constraints taken; lines = lines; rays = rays } =
-    ap (λ (m : ℕ). (let s : Shape = record { dims = m; taken = given; lines = lines_of rows; rays = others } in s)) (sym ed) ∙
-    ap (λ (t : List LinearRow). (let s : Shape = record { dims = taken.dims; taken = t; lines = lines_of rows; rays = others } in s)) (sym et) ∙
-    ap (λ (l : List (List ℤ)). (let s : Shape = record { dims = taken.dims; taken = constraints taken; lines = l; rays = others } in s)) (sym el) ∙
-    ap (λ (l : List (List ℤ)). (let s : Shape = record { dims = taken.dims; taken = constraints taken; lines = lines; rays = l } in s)) (sym er) in
+    let same : (let s : ConeContent = record { dims = n; taken = given; lines = lines_of rows; rays = others } in s)
+    ≡ record { dims = taken.dims; taken = constraints taken; lines = lines; rays = rays } =
+    ap (λ (m : ℕ). (let s : ConeContent = record { dims = m; taken = given; lines = lines_of rows; rays = others } in s)) (sym ed) ∙
+    ap (λ (t : List LinearRow). (let s : ConeContent = record { dims = taken.dims; taken = t; lines = lines_of rows; rays = others } in s)) (sym et) ∙
+    ap (λ (l : List (List ℤ)). (let s : ConeContent = record { dims = taken.dims; taken = constraints taken; lines = l; rays = others } in s)) (sym el) ∙
+    ap (λ (l : List (List ℤ)). (let s : ConeContent = record { dims = taken.dims; taken = constraints taken; lines = lines; rays = l } in s)) (sym er) in
     subst IsCone same k
 
 -- the generators as rows
-pub taken_generators : (given : Listed GenKind) (taken : Listed ConKind) → taken.rows ≡ given.rows → taken.kinds ≡ map dual_kind given.kinds → constraints taken ≡ generators given
-taken_generators given taken er ek = ap (λ (y : List (List ℤ)). given_by is_equality y taken.kinds) er ∙ ap (given_by is_equality given.rows) ek ∙ dual_given given.rows given.kinds
+pub taken_generators : (given : LinearSystem GenKind) (taken : LinearSystem ConKind) → taken.rows ≡ given.rows → taken.kinds ≡ map dual_kind given.kinds → constraints taken ≡ generators given
+taken_generators given taken er ek = ap (λ (y : List (List ℤ)). rows_by_kind is_equality y taken.kinds) er ∙ ap (rows_by_kind is_equality given.rows) ek ∙ dual_given given.rows given.kinds
 
 -- what the code has at hand
-pub record AtHand (list : Listed ConKind) (given : List LinearRow) (rays : List (List ℤ)) (m : Matrix) (positive : List ℤ) (values : List Bool) : Type 0 where
-  pub polyhedron : IsPolyhedron (record { dims = list.dims; rows = constraints list; generators = given })
-  pub some : given ≢ []
-  pub many : length list.kinds ≡ length list.rows
-  pub few : length list.rows + 1 ≤ row_limit
-  pub rays_are : rays ≡ rays_of (constraints list)
-  pub saturation : m ≡ saturation_of (constraints list) given
-  pub is_positive : positive ≡ positivity list.dims
-  pub told : values ≡ saturated given positive
+pub record AtHand (list : LinearSystem ConKind) (given : List LinearRow) (rays : List (List ℤ)) (m : Matrix) (positive : List ℤ) (values : List Bool) : Type 0
+  where
+    pub polyhedron : IsPolyhedron (record { dims = list.dims; rows = constraints list; generators = given })
+    pub some : given ≢ []
+    pub many : length list.kinds ≡ length list.rows
+    pub few : length list.rows + 1 ≤ row_limit
+    pub rays_are : rays ≡ rays_of (constraints list)
+    pub saturation : m ≡ saturation_of (constraints list) given
+    pub is_positive : positive ≡ positivity list.dims
+    pub told : values ≡ saturated given positive
 
-few_rays : (list : Listed ConKind) → length list.kinds ≡ length list.rows → length list.rows + 1 ≤ row_limit → length (rays_of (constraints list)) + 1 ≤ row_limit
+few_rays : (list : LinearSystem ConKind) → length list.kinds ≡ length list.rows → length list.rows + 1 ≤ row_limit → length (rays_of (constraints list)) + 1 ≤ row_limit
 few_rays list n few =
     let l = given_length is_equality list.rows list.kinds n in
     let r = fewer_rays (constraints list) in
     omega (arith, l, r, few)
 
-pub covered_start : (list : Listed ConKind) (given : List LinearRow) (rays : List (List ℤ)) (m : Matrix) (positive : List ℤ) (values : List Bool) → AtHand list given rays m positive values →
+pub covered_start : (list : LinearSystem ConKind) (given : List LinearRow) (rays : List (List ℤ)) (m : Matrix) (positive : List ℤ) (values : List Bool) → AtHand list given rays m positive values →
     IsCovered list.kinds m.rows values → IsCone (record { dims = list.dims; taken = given; lines = lines_of (constraints list); rays = rays })
 covered_start list given rays m positive values a c =
     let p : Polyhedron = record { dims = list.dims; rows = constraints list; generators = given } in
@@ -188,7 +191,7 @@ covered_start list given rays m positive values a c =
     let few : length (rays_of (constraints list)) ≤ row_limit = let f = few_rays list a.many a.few in omega (arith, f) in
     subst (λ (l : List (List ℤ)). IsCone (record { dims = list.dims; taken = given; lines = lines_of (constraints list); rays = l })) (sym a.rays_are) (covered_cone p h x.0 x.1 x.2 few)
 
-pub alone_start : (list : Listed ConKind) (given : List LinearRow) (rays after : List (List ℤ)) (m : Matrix) (positive : List ℤ) (values : List Bool) → AtHand list given rays m positive values →
+pub alone_start : (list : LinearSystem ConKind) (given : List LinearRow) (rays after : List (List ℤ)) (m : Matrix) (positive : List ℤ) (values : List Bool) → AtHand list given rays m positive values →
     ¬ (IsCovered list.kinds m.rows values) → after ≡ rays ++ positive ∷ [] → IsCone (record { dims = list.dims; taken = given; lines = lines_of (constraints list); rays = after })
 alone_start list given rays after m positive values a never ea =
     let p : Polyhedron = record { dims = list.dims; rows = constraints list; generators = given } in
@@ -214,7 +217,8 @@ alone_matrix given rays shown after m new positive values er e ea ev en =
     ap (by_rays given) (sym (ea ∙ ap (λ (l : List (List ℤ)). l ++ positive ∷ []) er))
 
 -- the sizes
-pub matrix_rows : (list : Listed ConKind) (given : List LinearRow) (m : Matrix) → length list.kinds ≡ length list.rows → m ≡ saturation_of (constraints list) given → length m.rows ≡ length list.rows
+pub matrix_rows : (list : LinearSystem ConKind) (given : List LinearRow) (m : Matrix) → length list.kinds ≡ length list.rows → m ≡ saturation_of (constraints list) given →
+    length m.rows ≡ length list.rows
 matrix_rows list given m n e =
     ap (λ (x : Matrix). length x.rows) e ∙ length-map (constraints list) (λ (s : LinearRow). saturated given s.row) ∙ given_length is_equality list.rows list.kinds n
 

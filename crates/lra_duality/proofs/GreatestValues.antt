@@ -21,13 +21,13 @@ use Rattle.lra_linear_spec.proofs.Ring.{mul_nonnegative, ring, v, ⊖, ◌⊕◌
 use Rattle.lra_linear_spec.proofs.SetOperations.{has_vertex, valid_on_rows}
 use Rattle.lra_linear_spec.proofs.Lines.{zeros_length}
 use Rattle.lra_linear_spec.specs.Kinds.{is_line}
-use Rattle.lra_sys.specs.Listed.{Listed, generators, given_by}
+use Rattle.lra_systems.specs.LinearSystems.{LinearSystem, generators, rows_by_kind}
 use Rattle.lra_linear_spec.specs.declared.GenKind.{GenKind}
 use Rattle.lra_duality.specs.Maxima.{DoesNotImprove, Improves, IsAtMost, IsGreatestValue, IsMaximum, IsUnbounded, OfPoint}
 use Rattle.lra_duality.specs.Maxima.{TellsMaximum}
 use Rattle.lra_duality.specs.declared.maximum.Maximum.{Maximum}
 use Rattle.lra_duality.specs.declared.maximum.Maximum.TheVariants.{Empty, Wide, Unbounded, At}
-use Rattle.lra_sys.proofs.FirstMembers.{err_from}
+use Rattle.lra_systems.proofs.FirstMembers.{err_from}
 use Rattle.lra_duality.proofs.InclusionLemmas.{has_member}
 use Rattle.lra_duality.proofs.PolyhedronLemmas.{empty_where_none}
 
@@ -250,7 +250,7 @@ first_point p h = subst (λ (l : List LinearRow). pos 0 <ℤ entry (first_row l)
     by_points [] n d = absurd (n refl)
     by_points (q ∷ points) n d = d q (contains_head q points)
 
-pub starts_with_point : (p : Polyhedron) (list : Listed GenKind) → IsPolyhedron p → generators list ≡ p.generators →
+pub starts_with_point : (p : Polyhedron) (list : LinearSystem GenKind) → IsPolyhedron p → generators list ≡ p.generators →
     length list.kinds ≡ length list.rows → 0 < length list.rows →
     pos 0 <ℤ entry (get_or list.rows 0 []) 0
 starts_with_point p list h e n k = by_lists list.rows list.kinds n k e
@@ -262,8 +262,8 @@ starts_with_point p list h e n k = by_lists list.rows list.kinds n k e
         (first_point p h)
 
     by_lists : (rows : List (List ℤ)) (kinds : List GenKind) → length kinds ≡ length rows → 0 < length rows →
-        given_by is_line rows kinds ≡ p.generators → pos 0 <ℤ entry (get_or rows 0 []) 0
+        rows_by_kind is_line rows kinds ≡ p.generators → pos 0 <ℤ entry (get_or rows 0 []) 0
     by_lists [] kinds n k e = absurd (omega (arith, k))
     by_lists (r ∷ rows) [] n k e = absurd (omega (arith, n))
     by_lists (r ∷ rows) (x ∷ kinds) n k e = by_first r (record { row = r; equal = is_line x })
-        (given_by is_line rows kinds) refl e h
+        (rows_by_kind is_line rows kinds) refl e h

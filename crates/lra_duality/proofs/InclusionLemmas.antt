@@ -16,14 +16,14 @@ use Rattle.lra_linear_spec.proofs.Polyhedra.{con_gen}
 use Rattle.lra_linear_spec.proofs.Widening.{holds_on_generators, valid_decides}
 use Rattle.lra_duality.specs.declared.inclusion.Inclusion.{Inclusion}
 use Rattle.lra_duality.specs.declared.inclusion.Inclusion.TheVariants.{Yes, No, Wide}
-use Rattle.lra_sys.specs.FirstPlaces.{FirstAt}
+use Rattle.lra_systems.specs.FirstPlaces.{FirstAt}
 use Rattle.lra_duality.specs.Inclusions.{Meets, MeetsAll, IsInclusion, IsReply, TellsInclusion}
 use Rattle.lra_linear_spec.specs.Kinds.{is_equality, is_line}
 use Rattle.lra_linear_spec.specs.declared.ConKind.{ConKind}
-use Rattle.lra_sys.specs.declared.membership.Holds as H
+use Rattle.lra_systems.specs.declared.membership.MembershipAnswer as H
 use Rattle.lra_linear_spec.specs.declared.GenKind.{GenKind}
-use Rattle.lra_sys.specs.Listed.{Listed, constraints, generators, given_by}
-use Rattle.lra_sys.proofs.FirstMembers.{err_from}
+use Rattle.lra_systems.specs.LinearSystems.{LinearSystem, constraints, generators, rows_by_kind}
+use Rattle.lra_systems.proofs.FirstMembers.{err_from}
 
 pub has_member : {A : Type 0} (Before Here : A → Type 0) (list : List A) (place : ℕ) (f : FirstAt Before Here list place) → Contains list f.member
 has_member {A = A} Before Here list place f = subst (λ (l : List A). Contains l f.member) (sym f.is)
@@ -109,14 +109,17 @@ with_ray b kind d z l h r g ek ed ez =
     holds_by_kinds b kind false z r g ek (ed ∙ l) ez (subst (λ (k : Bool). IsTrue b ↔ HoldsWith k z) (sym (either_false kind)) h)
 
 -- ---- as the code tells it
-pub reply_seen : (list : Listed ConKind) (rows : List (List ℤ)) (kinds : List ConKind) (r : List ℤ) (line also : Bool) (answer : H.Holds) → rows ≡ list.rows → kinds ≡ list.kinds → line ≡ also →
-    IsReply (given_by is_equality rows kinds) (record { row = r; equal = line }) answer → IsReply (constraints list) (record { row = r; equal = also }) answer
+pub reply_seen : (list : LinearSystem ConKind) (rows : List (List ℤ)) (kinds : List ConKind) (r : List ℤ) (line also : Bool) (answer : H.MembershipAnswer) → rows ≡ list.rows → kinds ≡ list.kinds →
+    line ≡ also →
+    IsReply (rows_by_kind is_equality rows kinds) (record { row = r; equal = line }) answer →
+    IsReply (constraints list) (record { row = r; equal = also }) answer
 reply_seen list rows kinds r line also answer er ek el a =
     subst (λ (d : Bool). IsReply (constraints list) (record { row = r; equal = d }) answer) el
-    (subst (λ (ks : List ConKind). IsReply (given_by is_equality list.rows ks) (record { row = r; equal = line }) answer) ek
-    (subst (λ (rs : List (List ℤ)). IsReply (given_by is_equality rs kinds) (record { row = r; equal = line }) answer) er a))
+    (subst (λ (ks : List ConKind). IsReply (rows_by_kind is_equality list.rows ks) (record { row = r; equal = line }) answer) ek
+    (subst (λ (rs : List (List ℤ)). IsReply (rows_by_kind is_equality rs kinds) (record { row = r; equal = line }) answer) er a))
 
-pub seen_generators : (P : List LinearRow → Type 0) (list : Listed GenKind) (rows : List (List ℤ)) (kinds : List GenKind) → rows ≡ list.rows → kinds ≡ list.kinds → P (given_by is_line rows kinds) →
+pub seen_generators : (P : List LinearRow → Type 0) (list : LinearSystem GenKind) (rows : List (List ℤ)) (kinds : List GenKind) → rows ≡ list.rows → kinds ≡ list.kinds →
+    P (rows_by_kind is_line rows kinds) →
     P (generators list)
 seen_generators P list rows kinds er ek a =
-    subst (λ (ks : List GenKind). P (given_by is_line list.rows ks)) ek (subst (λ (rs : List (List ℤ)). P (given_by is_line rs kinds)) er a)
+    subst (λ (ks : List GenKind). P (rows_by_kind is_line list.rows ks)) ek (subst (λ (rs : List (List ℤ)). P (rows_by_kind is_line rs kinds)) er a)

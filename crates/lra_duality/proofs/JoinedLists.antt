@@ -4,21 +4,21 @@ use Rattle.std.proofs.lemmas.List.{take_all}
 use Rattle.lra_linear_spec.specs.Descriptions.{LinearRow}
 use Rattle.lra_linear_spec.specs.Kinds.{is_equality}
 use Rattle.lra_linear_spec.specs.declared.ConKind.{ConKind}
-use Rattle.lra_sys.specs.Listed.{Listed, constraints, given_by, FitKinds}
+use Rattle.lra_systems.specs.LinearSystems.{LinearSystem, constraints, rows_by_kind, FitKinds}
 use Rattle.lra_linear_spec.specs.declared.GenKind.{GenKind}
 use Rattle.lra_descriptions.proofs.SeveralKinds.{fit_append, given_append}
 
 -- as the code tells it
-pub joined_given : {K : Type 0} (equal : K → Bool) (first second all : Listed K) (rows : List (List ℤ)) (kinds : List K) (i : ℕ) → all.rows ≡ first.rows ++ take i rows →
+pub joined_given : {K : Type 0} (equal : K → Bool) (first second all : LinearSystem K) (rows : List (List ℤ)) (kinds : List K) (i : ℕ) → all.rows ≡ first.rows ++ take i rows →
     all.kinds ≡ first.kinds ++ take i kinds → rows ≡ second.rows → kinds ≡ second.kinds → length rows ≤ i → length kinds ≡ length second.rows → length first.kinds ≡ length first.rows →
-    given_by equal all.rows all.kinds ≡ given_by equal first.rows first.kinds ++ given_by equal second.rows second.kinds
+    rows_by_kind equal all.rows all.kinds ≡ rows_by_kind equal first.rows first.kinds ++ rows_by_kind equal second.rows second.kinds
 joined_given {K = K} equal first second all rows kinds i ar ak er ek h n m =
     let many : length kinds ≤ i = let x = ap length er in omega (arith, x, n, h) in
-    ap (λ (l : List (List ℤ)). given_by equal l all.kinds) (ar ∙ ap (λ (l : List (List ℤ)). first.rows ++ l) (take_all i rows h ∙ er))
-    ∙ ap (given_by equal (first.rows ++ second.rows)) (ak ∙ ap (λ (l : List K). first.kinds ++ l) (take_all i kinds many ∙ ek))
+    ap (λ (l : List (List ℤ)). rows_by_kind equal l all.kinds) (ar ∙ ap (λ (l : List (List ℤ)). first.rows ++ l) (take_all i rows h ∙ er))
+    ∙ ap (rows_by_kind equal (first.rows ++ second.rows)) (ak ∙ ap (λ (l : List K). first.kinds ++ l) (take_all i kinds many ∙ ek))
     ∙ given_append equal first.rows second.rows first.kinds second.kinds (sym m)
 
-pub joined_kinds : (first second all : Listed GenKind) (rows : List (List ℤ)) (kinds : List GenKind) (i : ℕ) → all.rows ≡ first.rows ++ take i rows →
+pub joined_kinds : (first second all : LinearSystem GenKind) (rows : List (List ℤ)) (kinds : List GenKind) (i : ℕ) → all.rows ≡ first.rows ++ take i rows →
     all.kinds ≡ first.kinds ++ take i kinds → rows ≡ second.rows → kinds ≡ second.kinds → length rows ≤ i → length kinds ≡ length second.rows → length first.kinds ≡ length first.rows →
     FitKinds first.rows first.kinds → FitKinds second.rows second.kinds → FitKinds all.rows all.kinds
 joined_kinds first second all rows kinds i ar ak er ek h n m f s =
@@ -27,10 +27,10 @@ joined_kinds first second all rows kinds i ar ak er ek h n m f s =
     (subst (FitKinds (first.rows ++ second.rows)) (sym (ak ∙ ap (λ (l : List GenKind). first.kinds ++ l) (take_all i kinds many ∙ ek)))
     (fit_append first.rows second.rows first.kinds second.kinds (sym m) f s))
 
-pub row_added : (list all more : Listed ConKind) (row r : List ℤ) (kind : ConKind) → all ≡ list → more.rows ≡ all.rows ++ row ∷ [] → more.kinds ≡ all.kinds ++ kind ∷ [] → row ≡ r →
+pub row_added : (list all more : LinearSystem ConKind) (row r : List ℤ) (kind : ConKind) → all ≡ list → more.rows ≡ all.rows ++ row ∷ [] → more.kinds ≡ all.kinds ++ kind ∷ [] → row ≡ r →
     length list.kinds ≡ length list.rows → constraints more ≡ constraints list ++ record { row = r; equal = is_equality kind } ∷ []
 row_added list all more row r kind ea mr mk er m =
-    ap (λ (l : List (List ℤ)). given_by is_equality l more.kinds) (mr ∙ ap (λ (s : Listed ConKind). s.rows ++ row ∷ []) ea)
-    ∙ ap (given_by is_equality (list.rows ++ row ∷ [])) (mk ∙ ap (λ (s : Listed ConKind). s.kinds ++ kind ∷ []) ea)
+    ap (λ (l : List (List ℤ)). rows_by_kind is_equality l more.kinds) (mr ∙ ap (λ (s : LinearSystem ConKind). s.rows ++ row ∷ []) ea)
+    ∙ ap (rows_by_kind is_equality (list.rows ++ row ∷ [])) (mk ∙ ap (λ (s : LinearSystem ConKind). s.kinds ++ kind ∷ []) ea)
     ∙ given_append is_equality list.rows (row ∷ []) list.kinds (kind ∷ []) (sym m)
     ∙ ap (λ (y : List ℤ). constraints list ++ (let g : LinearRow = record { row = y; equal = is_equality kind } in g) ∷ []) er

@@ -9,7 +9,7 @@ use Rattle.lra_linear_spec.specs.ConeStrain.{row_limit}
 use Rattle.lra_linear_spec.specs.Descriptions.{LinearRow, inequality, rows_as, lines_of, rays_of, system_of}
 use Rattle.lra_linear_spec.specs.Polyhedra.{HasPoint, IsPolyhedron, Polyhedron, positivity}
 use Rattle.lra_linear_spec.specs.declared.ConKind.{ConKind}
-use Rattle.lra_sys.specs.Listed.{Listed, constraints}
+use Rattle.lra_systems.specs.LinearSystems.{LinearSystem, constraints}
 use Rattle.lra_linear_spec.specs.Vectors.{entry, product}
 use Rattle.lra_linear_spec.proofs.Combinations.{generated_row}
 use Rattle.lra_linear_spec.proofs.Descriptions.{dual_flipped, system_from, system_there}
@@ -18,7 +18,7 @@ use Rattle.lra_linear_spec.proofs.Membership.{contains_cases, contains_head, con
 use Rattle.lra_linear_spec.proofs.OneSpelling.{columns_of, dual_same_cone, given_from, given_has, positivity_product}
 use Rattle.lra_linear_spec.proofs.Polyhedra.{generators_lines, generators_rays}
 use Rattle.lra_linear_spec.proofs.Products.{product_comm}
-use Rattle.lra_cone.specs.Cones.{IsCone, Shape}
+use Rattle.lra_cone.specs.Cones.{IsCone, ConeContent}
 use Rattle.lra_duality.proofs.PolyhedronLemmas.{rows_width}
 
 -- ---- the rows with the positivity row, and the facets with the equalities
@@ -119,18 +119,19 @@ pub with_some : (p : Polyhedron) → IsPolyhedron p → p.generators ≢ [] → 
 with_some p (inl none) some = absurd (some none.1)
 with_some p (inr h) some = h
 
-pub start_cone : (n : ℕ) (rows generators : List LinearRow) (taken : Listed ConKind) (lines rays : List (List ℤ)) →
+pub start_cone : (n : ℕ) (rows generators : List LinearRow) (taken : LinearSystem ConKind) (lines rays : List (List ℤ)) →
     IsPolyhedron (record { dims = n; rows = rows; generators = generators }) → generators ≢ [] → length generators ≤ row_limit → taken.dims ≡ n →
     constraints taken ≡ inequality (positivity n) ∷ rows → lines ≡ lines_of generators → rays ≡ rays_of generators →
     IsCone (record { dims = taken.dims; taken = constraints taken; lines = lines; rays = rays })
 start_cone n rows generators taken lines rays h some few ed et el er =
     let p : Polyhedron = record { dims = n; rows = rows; generators = generators } in
     let short : length (rays_of generators) ≤ row_limit = let f = fewer_rays generators in omega (arith, f, few) in
-    let made : Shape = record { dims = n; taken = inequality (positivity n) ∷ rows; lines = lines_of generators; rays = rays_of generators } in
+    let made : ConeContent = record { dims = n; taken = inequality (positivity n) ∷ rows; lines = lines_of generators; rays = rays_of generators } in
     let same : made ≡ record { dims = taken.dims; taken = constraints taken; lines = lines; rays = rays } =
-    ap (λ (m : ℕ). (let s : Shape = record { dims = m; taken = inequality (positivity n) ∷ rows; lines = lines_of generators; rays = rays_of generators } in s)) (sym ed) ∙
-    ap (λ (t : List LinearRow). (let s : Shape = record { dims = taken.dims; taken = t; lines = lines_of generators; rays = rays_of generators } in s))
+    ap (λ (m : ℕ). (let s : ConeContent = record { dims = m; taken = inequality (positivity n) ∷ rows; lines = lines_of generators; rays = rays_of generators } in s)) (sym ed) ∙
+    ap (λ (t : List LinearRow). (let s : ConeContent = record { dims = taken.dims; taken = t; lines = lines_of generators; rays = rays_of generators } in s))
     (sym et) ∙
-    ap (λ (l : List (List ℤ)). (let s : Shape = record { dims = taken.dims; taken = constraints taken; lines = l; rays = rays_of generators } in s)) (sym el) ∙
-    ap (λ (l : List (List ℤ)). (let s : Shape = record { dims = taken.dims; taken = constraints taken; lines = lines; rays = l } in s)) (sym er) in
+    ap (λ (l : List (List ℤ)). (let s : ConeContent = record { dims = taken.dims; taken = constraints taken; lines = l; rays = rays_of generators } in s))
+    (sym el) ∙
+    ap (λ (l : List (List ℤ)). (let s : ConeContent = record { dims = taken.dims; taken = constraints taken; lines = lines; rays = l } in s)) (sym er) in
     subst IsCone same (kept_cone p (with_some p h some) short)

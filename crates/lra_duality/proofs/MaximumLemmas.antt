@@ -24,13 +24,13 @@ use Rattle.lra_linear_spec.specs.Range.{InRange, in_range}
 use Rattle.lra_row.proofs.Ratio.{apart}
 use Rattle.lra_row.proofs.RowLemmas.{quotient_signed}
 use Rattle.lra_linear_spec.specs.Kinds.{is_line}
-use Rattle.lra_sys.specs.Listed.{Listed, generators, given_by}
+use Rattle.lra_systems.specs.LinearSystems.{LinearSystem, generators, rows_by_kind}
 use Rattle.lra_linear_spec.specs.declared.GenKind.{GenKind}
 use Rattle.lra_linear_spec.specs.declared.GenKind.TheVariants.{Point}
 use Rattle.lra_duality.specs.Maxima.{OfPoint, IsAtMost, IsBelow, HasValue, IsGreatest, IsMaximum, StaysInRange}
 use Rattle.lra_duality.specs.Maxima.{DoesNotImprove}
 use Rattle.lra_duality.specs.declared.maximum.Maximum.TheVariants.{At}
-use Rattle.lra_sys.proofs.FirstMembers.{front, first_at, one_more, none_yet, all_gone_through}
+use Rattle.lra_systems.proofs.FirstMembers.{front, first_at, one_more, none_yet, all_gone_through}
 
 -- ---- a checked product
 pub value_of_ok : (form row : List ℤ) (z : ℤ) → checked_product form row ≡ Ok z → z ≡ product form row
@@ -157,12 +157,12 @@ best_taken form rows kinds i best after r b n k e eb point above h ea =
         (λ g m p. below_further (product form g.row) (entry g.row 0) (product form (get_or rows best []))
         (entry (get_or rows best []) 0) (product form r) (entry r 0) p h.point point (m p) below) h.others
 
-pub best_found : (form : List ℤ) (list : Listed GenKind) (rows : List (List ℤ)) (i best : ℕ) → rows ≡ list.rows →
+pub best_found : (form : List ℤ) (list : LinearSystem GenKind) (rows : List (List ℤ)) (i best : ℕ) → rows ≡ list.rows →
     length list.kinds ≡ length rows → length rows ≤ i →
     BestOfFront form rows list.kinds i best → IsGreatest form (generators list)
     (product form (get_or list.rows best [])) (entry (get_or list.rows best []) 0) best
 best_found form list rows i best e n k h =
-    subst (λ (rs : List (List ℤ)). IsGreatest form (given_by is_line rs list.kinds) (product form (get_or rs best []))
+    subst (λ (rs : List (List ℤ)). IsGreatest form (rows_by_kind is_line rs list.kinds) (product form (get_or rs best []))
     (entry (get_or rs best []) 0) best) e (record {
       first = first_at (OfPoint (IsBelow form (product form (get_or rows best [])) (entry (get_or rows best []) 0)))
           (λ g. (pos 0 <ℤ entry g.row 0) × HasValue form (product form (get_or rows best []))
@@ -269,25 +269,25 @@ in_lowest_terms form n d p e g num den place np de h above k en ed list greatest
         )
 
 -- ---- as the code tells it
-pub rows_seen : (P : List LinearRow → Type 0) (list : Listed GenKind) (rows : List (List ℤ)) → rows ≡ list.rows →
-    P (generators list) → P (given_by is_line rows list.kinds)
-rows_seen P list rows e h = subst (λ (r : List (List ℤ)). P (given_by is_line r list.kinds)) (sym e) h
+pub rows_seen : (P : List LinearRow → Type 0) (list : LinearSystem GenKind) (rows : List (List ℤ)) → rows ≡ list.rows →
+    P (generators list) → P (rows_by_kind is_line rows list.kinds)
+rows_seen P list rows e h = subst (λ (r : List (List ℤ)). P (rows_by_kind is_line r list.kinds)) (sym e) h
 
-pub both_seen : (P : List LinearRow → Type 0) (list : Listed GenKind) (rows : List (List ℤ)) (kinds : List GenKind) →
+pub both_seen : (P : List LinearRow → Type 0) (list : LinearSystem GenKind) (rows : List (List ℤ)) (kinds : List GenKind) →
     rows ≡ list.rows → kinds ≡ list.kinds → P (generators list) →
-    P (given_by is_line rows kinds)
-both_seen P list rows kinds e f h = subst (λ (ks : List GenKind). P (given_by is_line rows ks)) (sym f)
+    P (rows_by_kind is_line rows kinds)
+both_seen P list rows kinds e f h = subst (λ (ks : List GenKind). P (rows_by_kind is_line rows ks)) (sym f)
     (rows_seen P list rows e h)
 
-pub many : (list : Listed GenKind) (rows : List (List ℤ)) (kinds : List GenKind) → rows ≡ list.rows →
+pub many : (list : LinearSystem GenKind) (rows : List (List ℤ)) (kinds : List GenKind) → rows ≡ list.rows →
     kinds ≡ list.kinds → length kinds ≡ length list.rows → length list.kinds ≡ length rows
 many list rows kinds e f n = ap length (sym f) ∙ n ∙ ap length (sym e)
 
-pub seen_rows : (P : List LinearRow → Type 0) (list : Listed GenKind) (rows : List (List ℤ)) → rows ≡ list.rows →
-    P (given_by is_line rows list.kinds) → P (generators list)
-seen_rows P list rows e h = subst (λ (r : List (List ℤ)). P (given_by is_line r list.kinds)) e h
+pub seen_rows : (P : List LinearRow → Type 0) (list : LinearSystem GenKind) (rows : List (List ℤ)) → rows ≡ list.rows →
+    P (rows_by_kind is_line rows list.kinds) → P (generators list)
+seen_rows P list rows e h = subst (λ (r : List (List ℤ)). P (rows_by_kind is_line r list.kinds)) e h
 
-pub row_there : (list : Listed GenKind) (rows : List (List ℤ)) (place : ℕ) (r : List ℤ) → rows ≡ list.rows →
+pub row_there : (list : LinearSystem GenKind) (rows : List (List ℤ)) (place : ℕ) (r : List ℤ) → rows ≡ list.rows →
     r ≡ get_or rows place r → place < length list.rows → get_or list.rows place [] ≡ r
 row_there list rows place r e er k = get_or_default list.rows place [] r k ∙
     ap (λ (rs : List (List ℤ)). get_or rs place r) (sym e) ∙ sym er

@@ -9,16 +9,16 @@ use Rattle.lra_linear_spec.specs.Descriptions.{LinearRow, inequality, lines_of, 
 use Rattle.lra_linear_spec.specs.Polyhedra.{positivity}
 use Rattle.lra_linear_spec.specs.Vectors.{entry, product}
 use Rattle.lra_linear_spec.proofs.OneSpelling.{positivity_product}
-use Rattle.lra_cone.specs.Cones.{saturation_of as by_rays, saturation_rows, tight_values}
-use Rattle.lra_steps.specs.Steps.{IsFilled}
+use Rattle.lra_cone.specs.Cones.{cone_saturation as by_rays, saturation_rows, tight_values}
+use Rattle.lra_double_description.specs.Steps.{IsFilled}
 use Rattle.lra_linear_spec.specs.Kinds.{is_line}
-use Rattle.lra_sys.specs.Dimensions.{too_many_dimensions}
-use Rattle.lra_sys.specs.Listed.{given_by}
+use Rattle.lra_systems.specs.Dimensions.{too_many_dimensions}
+use Rattle.lra_systems.specs.LinearSystems.{rows_by_kind}
 use Rattle.lra_linear_spec.specs.declared.GenKind.{GenKind}
 use Rattle.lra_duality.specs.Onward.{MayGoOn, MayTurn}
 use Rattle.lra_duality.specs.Saturations.{column, saturated, saturation_of}
 use Rattle.lra_duality.proofs.SaturationLemmas.{given_length}
-use Rattle.lra_sys.proofs.FirstMembers.{front, front_length, given_more, given_split, member}
+use Rattle.lra_systems.proofs.FirstMembers.{front, front_length, given_more, given_split, member}
 
 -- ---- lines and others
 parted : {K : Type 0} (equal : K → Bool) (f : List LinearRow → List (List ℤ)) → ((xs : List LinearRow) (g : LinearRow) → f (xs ++ g ∷ []) ≡ f xs ++ f (g ∷ [])) →
@@ -113,11 +113,11 @@ ray_left equal rows kinds i r k line items n h e el l ei = ei ∙ sym (rays_same
 -- once all are seen
 pub seen_all : {K : Type 0} (equal : K → Bool) (P : List LinearRow → Type 0) (rows listed : List (List ℤ)) (kinds also : List K) (i : ℕ) → rows ≡ listed → kinds ≡ also → length kinds ≡ length listed →
     length rows ≤ i →
-    P (front equal rows kinds i) → P (given_by equal listed also)
+    P (front equal rows kinds i) → P (rows_by_kind equal listed also)
 seen_all {K = K} equal P rows listed kinds also i er ek n h x =
     let many : length kinds ≤ i = let m = ap length er in omega (arith, m, n, h) in
-    subst (λ (l : List (List ℤ)). P (given_by equal l also)) er (subst (λ (l : List K). P (given_by equal rows l)) ek
-    (subst (λ (l : List K). P (given_by equal rows l)) (take_all i kinds many) (subst (λ (l : List (List ℤ)). P (given_by equal l (take i kinds))) (take_all i rows h) x)))
+    subst (λ (l : List (List ℤ)). P (rows_by_kind equal l also)) er (subst (λ (l : List K). P (rows_by_kind equal rows l)) ek
+    (subst (λ (l : List K). P (rows_by_kind equal rows l)) (take_all i kinds many) (subst (λ (l : List (List ℤ)). P (rows_by_kind equal l (take i kinds))) (take_all i rows h) x)))
 
 -- ---- the column of a generator
 value_split : (f : LinearRow → Bool) (xs : List LinearRow) (g : LinearRow) (ys : List LinearRow) → value_at (map f (xs ++ g ∷ ys)) (length xs) ≡ f g
@@ -132,11 +132,11 @@ column_split (s ∷ rows) xs g ys =
     ap (λ (l : List Bool). int_eq (product s.row g.row) (pos 0) ∷ l) (column_split rows xs g ys)
 
 column_values : (given : List LinearRow) (rows : List (List ℤ)) (kinds : List GenKind) (i : ℕ) (r : List ℤ) (k : GenKind) (m : Matrix) → length kinds ≡ length rows → i < length rows →
-    r ≡ get_or rows i r → m ≡ saturation_of given (given_by is_line rows kinds) → column m i ≡ tight_values given r
+    r ≡ get_or rows i r → m ≡ saturation_of given (rows_by_kind is_line rows kinds) → column m i ≡ tight_values given r
 column_values given rows kinds i r k m n h e em =
     let xs = front is_line rows kinds i in
     let g = member is_line kinds i r k in
-    let ys = given_by is_line (drop (suc i) rows) (drop (suc i) kinds) in
+    let ys = rows_by_kind is_line (drop (suc i) rows) (drop (suc i) kinds) in
     ap (λ (x : Matrix). column x i) (em ∙ ap (saturation_of given) (given_split is_line rows kinds i r k n h e)) ∙
     subst (λ (j : ℕ). column (saturation_of given (xs ++ g ∷ ys)) j ≡ tight_values given r) (front_length is_line rows kinds i n h) (column_split given xs g ys)
 
@@ -164,7 +164,7 @@ first_value n r b e = e ∙ ap (λ (y : ℤ). int_eq y (pos 0)) (sym (positivity
 
 pub matrix_more : (n : ℕ) (given : List LinearRow) (rows : List (List ℤ)) (kinds : List GenKind) (i : ℕ) (r : List ℤ) (k : GenKind) (line first : Bool) (bits : List Bool) (m old new : Matrix) →
     length kinds ≡ length rows → i < length rows → r ≡ get_or rows i r → line ≡ is_line (get_or kinds i k) → line ≡ false → first ≡ int_eq (entry r 0) (pos 0) →
-    bits ≡ first ∷ column m i → m ≡ saturation_of given (given_by is_line rows kinds) → new ≡ record old { rows = old.rows ++ bits ∷ [] } →
+    bits ≡ first ∷ column m i → m ≡ saturation_of given (rows_by_kind is_line rows kinds) → new ≡ record old { rows = old.rows ++ bits ∷ [] } →
     old ≡ by_rays (inequality (positivity n) ∷ given) (rays_of (front is_line rows kinds i)) →
     new ≡ by_rays (inequality (positivity n) ∷ given) (rays_of (front is_line rows kinds (i + 1)))
 matrix_more n given rows kinds i r k line first bits m old new nk h e el l ef eb em en eo =
@@ -191,7 +191,7 @@ matrix_none first given generators m start width em ew es =
 
 -- ---- as the code tells it
 pub matrix_width : (equal : GenKind → Bool) (given : List LinearRow) (rows seen : List (List ℤ)) (kinds also : List GenKind) (m : Matrix) → seen ≡ rows → also ≡ kinds →
-    length also ≡ length rows → m ≡ saturation_of given (given_by equal rows kinds) → m.width ≡ length rows
+    length also ≡ length rows → m ≡ saturation_of given (rows_by_kind equal rows kinds) → m.width ≡ length rows
 matrix_width equal given rows seen kinds also m er ek n e = ap (λ (x : Matrix). x.width) e ∙ given_length equal rows kinds (ap length (sym ek) ∙ n)
 
 pub start_matrix : (n d : ℕ) (rows generators taken : List LinearRow) (rays : List (List ℤ)) (m : Matrix) → d ≡ n → taken ≡ inequality (positivity n) ∷ rows → rays ≡ rays_of generators →
@@ -202,7 +202,7 @@ start_matrix n d rows generators taken rays m ed et er e =
     ap (by_rays taken) (sym er)
 
 pub some_given : {K : Type 0} (equal : K → Bool) (rows seen : List (List ℤ)) (kinds also : List K) → seen ≡ rows → also ≡ kinds → length also ≡ length rows → 0 < length seen →
-    given_by equal rows kinds ≢ []
+    rows_by_kind equal rows kinds ≢ []
 some_given equal rows seen kinds also er ek n h e =
     let l = given_length equal rows kinds (ap length (sym ek) ∙ n) in
     let z = ap length e in
@@ -210,14 +210,14 @@ some_given equal rows seen kinds also er ek n h e =
     absurd (omega (arith, l, z, s, h))
 
 pub few_given : {K : Type 0} (equal : K → Bool) (rows seen : List (List ℤ)) (kinds also : List K) (most : ℕ) → seen ≡ rows → also ≡ kinds → length also ≡ length rows → length seen ≤ most →
-    length (given_by equal rows kinds) ≤ most
+    length (rows_by_kind equal rows kinds) ≤ most
 few_given equal rows seen kinds also most er ek n h =
     let l = given_length equal rows kinds (ap length (sym ek) ∙ n) in
     let s = ap length er in
     omega (arith, l, s, h)
 
 pub given_count : {K : Type 0} (equal : K → Bool) (rows seen : List (List ℤ)) (kinds also : List K) → seen ≡ rows → also ≡ kinds → length also ≡ length rows →
-    length seen ≡ length (given_by equal rows kinds)
+    length seen ≡ length (rows_by_kind equal rows kinds)
 given_count equal rows seen kinds also er ek n = ap length er ∙ sym (given_length equal rows kinds (ap length (sym ek) ∙ n))
 
 -- ---- whether they make a cone

@@ -9,11 +9,11 @@ use Rattle.lra_linear_spec.specs.OperationStrain.{InclusionStrains}
 use Rattle.lra_linear_spec.specs.Points.{IsWithin}
 use Rattle.lra_linear_spec.specs.Polyhedra.{Polyhedron}
 use Rattle.lra_linear_spec.specs.Widening.{holds_with}
-use Rattle.lra_sys.specs.declared.membership.Holds as H
-use Rattle.lra_sys.specs.declared.membership.Holds.TheVariants as holds
+use Rattle.lra_systems.specs.declared.membership.MembershipAnswer as H
+use Rattle.lra_systems.specs.declared.membership.MembershipAnswer.TheVariants as holds
 use Rattle.lra_duality.specs.declared.inclusion.Inclusion.{Inclusion}
 use Rattle.lra_duality.specs.declared.inclusion.Inclusion.TheVariants.{Yes, No, Wide}
-use Rattle.lra_sys.specs.FirstPlaces.{FirstAt}
+use Rattle.lra_systems.specs.FirstPlaces.{FirstAt}
 
 -- ---- a generator and a row
 -- the product stays in the range, and the row holds with the generator
@@ -32,7 +32,7 @@ Passes g r = IsErr (checked_product r.row g.row)
 abbrev pub MeetsAll : List LinearRow → LinearRow → Type 0
 MeetsAll rows g = All (Meets g) rows
 
-abbrev pub IsReply : List LinearRow → LinearRow → H.Holds → Type 0
+abbrev pub IsReply : List LinearRow → LinearRow → H.MembershipAnswer → Type 0
 IsReply rows g holds.Yes = MeetsAll rows g
 IsReply rows g (holds.No place) = FirstAt (Meets g) (Violates g) rows place
 IsReply rows g (holds.Wide place) = FirstAt (Meets g) (Passes g) rows place

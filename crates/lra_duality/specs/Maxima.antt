@@ -12,10 +12,10 @@ use Rattle.lra_linear_spec.specs.Points.{IsPoint, IsEmptySet}
 use Rattle.lra_linear_spec.specs.Polyhedra.{Polyhedron}
 use Rattle.lra_linear_spec.specs.Range.{InRange}
 use Rattle.lra_linear_spec.specs.Vectors.{entry, negated, product}
-use Rattle.lra_lin.specs.Form.{Form, form_row}
+use Rattle.lra_linear_forms.specs.Form.{Form, form_row}
 use Rattle.lra_duality.specs.declared.maximum.Maximum.{Maximum}
 use Rattle.lra_duality.specs.declared.maximum.Maximum.TheVariants.{Empty, Wide, Unbounded, At}
-use Rattle.lra_sys.specs.FirstPlaces.{FirstAt}
+use Rattle.lra_systems.specs.FirstPlaces.{FirstAt}
 
 -- the form's row, or the row of its opposite: the least value of a form is, with its sign turned, the greatest of that
 abbrev pub directed : Form → Bool → List ℤ

@@ -1,5 +1,5 @@
 -- The constraints of tests.
-use Rattle.lra_lin.specs.Form.{Form, form_row}
+use Rattle.lra_linear_forms.specs.Form.{Form, form_row}
 use Rattle.lra_linear_spec.specs.declared.ConKind.{ConKind}
 use Rattle.lra_linear_spec.specs.Descriptions.{LinearRow}
 use Rattle.lra_linear_spec.specs.Kinds.{is_equality}

@@ -5,9 +5,9 @@ ghost use Rattle.std.specs.Prelude.{IfSome, IfNone};
 ghost use Rattle.lra_linear_spec.specs.ConeStrain.{row_limit};
 ghost use Rattle.lra_linear_spec.specs.Descriptions.{LinearRow, lines_of, rays_of};
 ghost use Rattle.lra_linear_spec.specs.Polyhedra.{IsPolyhedron};
-ghost use Rattle.lra_cone.specs.Cones.{IsCone, saturation_of as by_rays};
-ghost use Rattle.lra_sys.specs.Dimensions.{too_many_dimensions};
-ghost use Rattle.lra_sys.specs.Listed.{constraints, generators};
+ghost use Rattle.lra_cone.specs.Cones.{IsCone, cone_saturation as by_rays};
+ghost use Rattle.lra_systems.specs.Dimensions.{too_many_dimensions};
+ghost use Rattle.lra_systems.specs.LinearSystems.{constraints, generators};
 ghost use Rattle.lra_duality.specs.Onward.{MayTurn};
 ghost use Rattle.lra_duality.specs.Saturations.{saturation_of, IsCovered, IsCoveredAt};
 
@@ -17,7 +17,7 @@ use lra_bits::{BitRow, SatMatrix};
 use lra_cone::Cone;
 use lra_descriptions::dual_rows;
 use lra_row::Row;
-use lra_sys::{ConKind, ConSys, GenSys, unit};
+use lra_systems::{ConKind, ConSys, GenSys, unit};
 use std::alloc::{AllocError, Global};
 
 // The equalities among the constraints.

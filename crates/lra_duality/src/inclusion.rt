@@ -6,12 +6,12 @@ ghost use Rattle.lra_linear_spec.specs.Descriptions.{LinearRow};
 ghost use Rattle.lra_linear_spec.specs.Kinds.{is_equality};
 ghost use Rattle.lra_linear_spec.specs.Widening.{holds_with};
 ghost use Rattle.lra_linear_spec.specs.Vectors.{product};
-ghost use Rattle.lra_sys.specs.Listed.{given_by, constraints, generators};
+ghost use Rattle.lra_systems.specs.LinearSystems.{rows_by_kind, constraints, generators};
 ghost use Rattle.lra_duality.specs.Inclusions.{IsReply, IsInclusion};
 
 use lra_linear_spec::ConKind;
 use lra_row::Row;
-use lra_sys::{ConSys, GenSys, Holds};
+use lra_systems::{ConSys, GenSys, MembershipAnswer};
 
 /// Whether each point of one polyhedron is in another. The generators of the one are tried in their order, with each
 /// the constraints of the other in theirs; the first pair that doesn't hold decides. Where its product passes the range
@@ -38,22 +38,23 @@ pub fn accepts(kind: ConKind, line: bool, value: i128) -> bool
 }
 
 // Whether each row holds with the generator: the place of the first that doesn't, or whose product passes the range.
-fn reply(generator: &Row, line: bool, rows: &[Row], kinds: &[ConKind]) -> Holds
+fn reply(generator: &Row, line: bool, rows: &[Row], kinds: &[ConKind]) -> MembershipAnswer
     requires kinds { length kinds.now ≡ length rows.now }
     requires widths { All (λ r. length r ≡ length generator.now) rows.now }
-    ensures { IsReply (given_by is_equality rows.now kinds.now) (record { row = generator.now; equal = line }) result }
+    ensures { IsReply (rows_by_kind is_equality rows.now kinds.now) (record { row = generator.now; equal = line })
+        result }
 {
     for (place, row) in rows.iter().enumerate() {
         match row.dot(generator) {
             Ok(product) => {
                 if !accepts(kinds[place], line, product) {
-                    return Holds::No(place);
+                    return MembershipAnswer::No(place);
                 }
             }
-            Err(_) => return Holds::Wide(place),
+            Err(_) => return MembershipAnswer::Wide(place),
         }
     }
-    Holds::Yes
+    MembershipAnswer::Yes
 }
 
 /// Whether each of the generators meets each of the constraints.
@@ -65,9 +66,9 @@ pub fn inclusion_of(by_generators: &GenSys, list: &ConSys) -> Inclusion
     for (place, generator) in rows.iter().enumerate() {
         let line = kinds[place].goes_both_ways();
         match reply(generator, line, list.rows(), list.kinds()) {
-            Holds::Yes => {}
-            Holds::No(_) => return Inclusion::No(place),
-            Holds::Wide(row) => return Inclusion::Wide(place, row),
+            MembershipAnswer::Yes => {}
+            MembershipAnswer::No(_) => return Inclusion::No(place),
+            MembershipAnswer::Wide(row) => return Inclusion::Wide(place, row),
         }
     }
     Inclusion::Yes

@@ -5,19 +5,19 @@ ghost use Rattle.std.specs.Prelude.{Ok, IsErr, IsOk, IsTrue, MatchOption, slice_
 ghost use Rattle.std.specs.Int.{IsGcd};
 ghost use Rattle.std.specs.List.{All};
 ghost use Rattle.std.specs.Option.{SomeIff};
-ghost use Rattle.lra_lin.specs.Form.{AddsInRange, form_row};
+ghost use Rattle.lra_linear_forms.specs.Form.{AddsInRange, form_row};
 ghost use Rattle.lra_linear_spec.specs.CheckedArithmetic.{checked_product, checked_product_from};
 ghost use Rattle.lra_linear_spec.specs.Descriptions.{LinearRow};
 ghost use Rattle.lra_linear_spec.specs.Range.{InRange};
 ghost use Rattle.lra_linear_spec.specs.Vectors.{entry, product};
-ghost use Rattle.lra_sys.specs.Listed.{generators};
-ghost use Rattle.lra_sys.specs.FirstPlaces.{FirstAt};
+ghost use Rattle.lra_systems.specs.LinearSystems.{generators};
+ghost use Rattle.lra_systems.specs.FirstPlaces.{FirstAt};
 ghost use Rattle.lra_duality.specs.Maxima.{StaysInRange, PassesRange, Improves, DoesNotImprove};
 ghost use Rattle.lra_duality.specs.Maxima.{IsAtMost, IsBelow, IsGreatest, IsMaximum, ValueInRange, directed};
 
-use lra_lin::LinExpr;
+use lra_linear_forms::LinExpr;
 use lra_row::{Row, add, gcd, mul, opposite, ratio_cmp};
-use lra_sys::GenSys;
+use lra_systems::GenSys;
 use std::cmp::Ordering;
 
 /// The greatest value of a form on a polyhedron, or why there is none. Places are those of generators, from 0.

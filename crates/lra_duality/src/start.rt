@@ -7,9 +7,9 @@ ghost use Rattle.lra_linear_spec.specs.Descriptions.{LinearRow, inequality, line
 ghost use Rattle.lra_linear_spec.specs.Polyhedra.{IsPolyhedron, positivity};
 ghost use Rattle.lra_linear_spec.specs.Vectors.{entry};
 ghost use Rattle.lra_bits.specs.TruthValues.{value_at};
-ghost use Rattle.lra_cone.specs.Cones.{saturation_of as by_rays};
-ghost use Rattle.lra_sys.specs.Dimensions.{too_many_dimensions};
-ghost use Rattle.lra_sys.specs.Listed.{constraints, generators};
+ghost use Rattle.lra_cone.specs.Cones.{cone_saturation as by_rays};
+ghost use Rattle.lra_systems.specs.Dimensions.{too_many_dimensions};
+ghost use Rattle.lra_systems.specs.LinearSystems.{constraints, generators};
 ghost use Rattle.lra_duality.specs.Onward.{MayGoOn};
 ghost use Rattle.lra_duality.specs.Saturations.{column, saturation_of};
 
@@ -17,7 +17,7 @@ use crate::lists::join_rows;
 use lra_bits::{BitRow, SatMatrix};
 use lra_cone::{Cone, RAY_LIMIT};
 use lra_row::Row;
-use lra_sys::{ConKind, ConSys, GenSys, TOO_MANY_DIMENSIONS, unit};
+use lra_systems::{ConKind, ConSys, GenSys, TOO_MANY_DIMENSIONS, unit};
 use std::alloc::{AllocError, Global};
 
 // The lines among the generators.

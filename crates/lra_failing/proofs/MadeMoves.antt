@@ -20,8 +20,8 @@ use Rattle.lra_program.specs.Program.{Cond, literal, compare, nonzero, opposite,
 use Rattle.lra_program.specs.Step.{Op, append, fill, give, give_element, give_any, push_for, keep}
 use Rattle.lra_program.specs.Step as step
 use Rattle.lra_linear_spec.specs.declared.ConKind.TheVariants.{Ge}
-use Rattle.lra_lin.specs.Form.{Form}
-use Rattle.lra_lin.specs.declared.test.Test.{Test}
+use Rattle.lra_linear_forms.specs.Form.{Form}
+use Rattle.lra_linear_forms.specs.declared.test.Test.{Test}
 use Rattle.lra_domain.specs.Actions.{Action, assign, forget, embed, remove_last, dims_after}
 use Rattle.lra_domain.specs.Actions as action
 use Rattle.lra_domain.specs.Changes.{CanBeMade, AllCanBeMade}

@@ -2,7 +2,7 @@
 use Rattle.std.proofs.Common.{◌≡◌, ℕ, ◌+◌, ◌-◌, ◌≤◌, ℤ, List, [], ◌∷◌, ◌++◌, length, take, drop, set, get_or, sym, ap, ◌∙◌, subst, arith}
 use Rattle.std.proofs.lemmas.List.{length-append, length-set, set-get_or, set-set, take-append-drop, length-take-le}
 use Rattle.std.proofs.Math.Seq.{take-append_seam}
-use Rattle.lra_lin.specs.Form.{form_value}
+use Rattle.lra_linear_forms.specs.Form.{form_value}
 use Rattle.lra_domain.specs.Actions.{Action, assign, forget, test, embed, remove_last, dims_after, Leads}
 use Rattle.lra_domain.specs.Backward.{Retracing}
 use Rattle.lra_domain.specs.Changes.{AllCanBeMade, CanBeMade}

@@ -20,7 +20,7 @@ use Rattle.lra_linear_spec.specs.declared.GenKind.{GenKind}
 use Rattle.lra_linear_spec.proofs.Combinations.{generated_row}
 use Rattle.lra_linear_spec.proofs.Membership.{contains_none, contains_head, contains_tail, contains_cases}
 use Rattle.lra_linear_spec.proofs.Polyhedra.{con_gen, cone_gen}
-use Rattle.lra_sys.specs.Listed.{Listed, given_by, generators, constraints}
+use Rattle.lra_systems.specs.LinearSystems.{LinearSystem, rows_by_kind, generators, constraints}
 use Rattle.lra_duality.proofs.PolyhedronLemmas.{falsity_is_empty}
 use Rattle.lra_duality.proofs.SaturationLemmas.{given_length}
 use Rattle.lra_poly.specs.Outcomes.{IfExact, IfFlagged, IsOfRows}
@@ -75,18 +75,18 @@ first_where_some p (inl none) some = absurd (some (falsity_is_empty p.dims p.row
 first_where_some p (inr h) some = first_point p h
 
 -- ---- as it is listed
-some_given : (rows : List (List ℤ)) (kinds : List GenKind) (g : LinearRow) → slice_get (given_by is_line rows kinds) 0 ≡ Some g → 0 < length rows
+some_given : (rows : List (List ℤ)) (kinds : List GenKind) (g : LinearRow) → slice_get (rows_by_kind is_line rows kinds) 0 ≡ Some g → 0 < length rows
 some_given [] kinds g e = absurd (none-some g e)
 some_given (r ∷ rows) kinds g e = omega arith
 
-pub some_rows : (p : Polyhedron) (list : Listed GenKind) → IsPolyhedron p → ¬ (IsEmptySet p.dims (Con p.rows)) → generators list ≡ p.generators →
+pub some_rows : (p : Polyhedron) (list : LinearSystem GenKind) → IsPolyhedron p → ¬ (IsEmptySet p.dims (Con p.rows)) → generators list ≡ p.generators →
     0 < length list.rows
 some_rows p list h some e =
     let f = first_where_some p h some in
     some_given list.rows list.kinds (generator f.row) (ap (λ (gs : List LinearRow). slice_get gs 0) e ∙ f.first)
 
 row_given : (rows : List (List ℤ)) (kinds : List GenKind) (row : List ℤ) (kind : GenKind) → slice_get rows 0 ≡ Some row → slice_get kinds 0 ≡ Some kind →
-    slice_get (given_by is_line rows kinds) 0 ≡ Some (record { row = row; equal = is_line kind })
+    slice_get (rows_by_kind is_line rows kinds) 0 ≡ Some (record { row = row; equal = is_line kind })
 row_given [] kinds row kind er ek = absurd (none-some row er)
 row_given (r ∷ rows) [] row kind er ek = absurd (none-some kind ek)
 row_given (r ∷ rows) (k ∷ kinds) row kind er ek =
@@ -99,7 +99,8 @@ split_row (x ∷ []) ls d c h ed ec el = absurd (omega (arith, h))
 split_row (x ∷ y ∷ r) ls d c h ed ec el =
     ap (λ (z : ℤ). z ∷ y ∷ r) (sym ed) ∙ ap (λ (z : ℤ). d ∷ z ∷ r) (sym ec) ∙ ap (λ (zs : List ℤ). d ∷ c ∷ zs) (sym el)
 
-pub first_listed : (p : Polyhedron) (list : Listed GenKind) (row ls : List ℤ) (kind : GenKind) (d c : ℤ) → IsPolyhedron p → ¬ (IsEmptySet p.dims (Con p.rows)) →
+pub first_listed : (p : Polyhedron) (list : LinearSystem GenKind) (row ls : List ℤ) (kind : GenKind) (d c : ℤ) → IsPolyhedron p →
+    ¬ (IsEmptySet p.dims (Con p.rows)) →
     generators list ≡ p.generators → slice_get list.rows 0 ≡ Some row → slice_get list.kinds 0 ≡ Some kind → 2 ≤ length row →
     d ≡ entry row 0 → c ≡ entry row 1 → ls ≡ drop 2 row → slice_get p.generators 0 ≡ Some (generator (d ∷ c ∷ ls))
 first_listed p list row ls kind d c h some e er ek long ed ec el =
@@ -168,16 +169,17 @@ module _ (premises : List LinearRow) (claim : List ℤ) (m : Multipliers) (a : A
   first_strained w = inr (m, a, w)
 
 -- the premises of a list are as wide as its claim
-row_kept : (rows : List (List ℤ)) (kinds : List ConKind) (g : LinearRow) → Contains (given_by is_equality rows kinds) g → Contains rows g.row
+row_kept : (rows : List (List ℤ)) (kinds : List ConKind) (g : LinearRow) → Contains (rows_by_kind is_equality rows kinds) g → Contains rows g.row
 row_kept [] kinds g k = absurd (contains_none g k)
 row_kept (r ∷ rows) [] g k = absurd (contains_none g k)
 row_kept (r ∷ rows) (x ∷ kinds) g k =
-    elim (contains_cases (let f : LinearRow = record { row = r; equal = is_equality x } in f) g (given_by is_equality rows kinds) k) [
+    elim (contains_cases (let f : LinearRow = record { row = r; equal = is_equality x } in f) g (rows_by_kind is_equality rows kinds) k) [
       | inl e ↦ subst (Contains (r ∷ rows)) (ap (λ (f : LinearRow). f.row) e) (contains_head r rows)
       | inr d ↦ contains_tail r g.row rows (row_kept rows kinds g d)
     ]
 
-pub as_wide : (s : Listed ConKind) (rows : List (List ℤ)) (claim : List ℤ) → rows ≡ s.rows → All (λ r. length r ≡ suc s.dims) rows → length claim ≡ suc s.dims →
+pub as_wide : (s : LinearSystem ConKind) (rows : List (List ℤ)) (claim : List ℤ) → rows ≡ s.rows → All (λ r. length r ≡ suc s.dims) rows →
+    length claim ≡ suc s.dims →
     AreAsWide (constraints s) claim
 as_wide s rows claim e widths width = record {
   some = omega (arith, width);
@@ -187,7 +189,7 @@ as_wide s rows claim e widths width = record {
       sym width;
 }
 
-pub as_many : (s : Listed ConKind) (factors : List ℤ) → length s.kinds ≡ length s.rows → length factors ≡ length (constraints s) →
+pub as_many : (s : LinearSystem ConKind) (factors : List ℤ) → length s.kinds ≡ length s.rows → length factors ≡ length (constraints s) →
     length factors ≡ length s.rows
 as_many s factors n e = e ∙ given_length is_equality s.rows s.kinds n
 

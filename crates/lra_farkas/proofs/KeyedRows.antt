@@ -11,8 +11,8 @@ use Rattle.lra_linear_spec.specs.Kinds.{is_equality}
 use Rattle.lra_linear_spec.specs.Points.{IsPoint}
 use Rattle.lra_linear_spec.specs.Polyhedra.{Polyhedron, IsPolyhedronOf}
 use Rattle.lra_linear_spec.specs.declared.ConKind.{ConKind}
-use Rattle.lra_sys.specs.Listed.{Listed, given_by, constraints}
-use Rattle.lra_sys.proofs.GivenRows.{constraints_pushed, given_more}
+use Rattle.lra_systems.specs.LinearSystems.{LinearSystem, rows_by_kind, constraints}
+use Rattle.lra_systems.proofs.LinearRows.{constraints_pushed, given_more}
 use Rattle.lra_farkas.specs.KeyedRows.{given_of}
 use Rattle.lra_farkas.specs.RowsByKinds.{HasNoFirst, HasNoPoint}
 use Rattle.lra_farkas.specs.declared.first.MultipliersFailure.{MultipliersFailure}
@@ -22,15 +22,15 @@ use Rattle.lra_farkas.specs.declared.orders.Keyed.{Keyed}
 -- ---- keys
 pub keyed_pushed : (rows : List (List ℤ)) (kinds : List ConKind) (before new : List Keyed) (i : ℕ) (row : List ℤ) (kind : ConKind) (x : Keyed) →
     length rows ≡ length kinds → i < length rows → slice_get rows i ≡ Some row → slice_get kinds i ≡ Some kind → x.row ≡ row → x.kind ≡ kind →
-    new ≡ before ++ x ∷ [] → map given_of before ≡ given_by is_equality (take i rows) (take i kinds) →
-    map given_of new ≡ given_by is_equality (take (i + 1) rows) (take (i + 1) kinds)
+    new ≡ before ++ x ∷ [] → map given_of before ≡ rows_by_kind is_equality (take i rows) (take i kinds) →
+    map given_of new ≡ rows_by_kind is_equality (take (i + 1) rows) (take (i + 1) kinds)
 keyed_pushed rows kinds before new i row kind x n h er ek xr xk pushed so_far =
     ap (map given_of) pushed ∙ map-append given_of before (x ∷ []) ∙ ap (λ (gs : List LinearRow). gs ++ given_of x ∷ []) so_far ∙
-    ap (λ (r : List ℤ). given_by is_equality (take i rows) (take i kinds) ++ record { row = r; equal = is_equality x.kind } ∷ []) xr ∙
-    ap (λ (k : ConKind). given_by is_equality (take i rows) (take i kinds) ++ record { row = row; equal = is_equality k } ∷ []) xk ∙
+    ap (λ (r : List ℤ). rows_by_kind is_equality (take i rows) (take i kinds) ++ record { row = r; equal = is_equality x.kind } ∷ []) xr ∙
+    ap (λ (k : ConKind). rows_by_kind is_equality (take i rows) (take i kinds) ++ record { row = row; equal = is_equality k } ∷ []) xk ∙
     sym (given_more is_equality rows kinds i row kind n h (sym (get_or_from_slice_get rows i row row er)) (sym (get_or_from_slice_get kinds i kind kind ek)))
 
-pub unkeyed_more : (before new : Listed ConKind) (keyed : List Keyed) (i : ℕ) (x : Keyed) → i < length keyed → x ≡ get_or keyed i x →
+pub unkeyed_more : (before new : LinearSystem ConKind) (keyed : List Keyed) (i : ℕ) (x : Keyed) → i < length keyed → x ≡ get_or keyed i x →
     length before.kinds ≡ length before.rows → new.rows ≡ before.rows ++ x.row ∷ [] → new.kinds ≡ before.kinds ++ x.kind ∷ [] →
     constraints before ≡ map given_of (take i keyed) → constraints new ≡ map given_of (take (i + 1) keyed)
 unkeyed_more before new keyed i x h is n er ek so_far =

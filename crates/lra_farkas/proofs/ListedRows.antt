@@ -10,8 +10,8 @@ use Rattle.lra_linear_spec.specs.OperationStrain.{unit_row}
 use Rattle.lra_linear_spec.specs.Vectors.{entry}
 use Rattle.lra_linear_spec.specs.declared.ConKind.{ConKind}
 use Rattle.lra_linear_spec.specs.declared.ConKind.TheVariants.{Ge, Eq}
-use Rattle.lra_sys.specs.Listed.{Listed, constraints, given_by}
-use Rattle.lra_sys.proofs.GivenRows.{constraints_pushed}
+use Rattle.lra_systems.specs.LinearSystems.{LinearSystem, constraints, rows_by_kind}
+use Rattle.lra_systems.proofs.LinearRows.{constraints_pushed}
 use Rattle.lra_pair.proofs.OwnRows.{rows_of_given}
 use Rattle.lra_multipliers.specs.Columns.{first_of}
 use Rattle.lra_farkas.specs.MultiplierRows.{balance_row, inequality_columns, multiplier_dims, sign_row, multiplier_rows}
@@ -19,7 +19,7 @@ use Rattle.lra_farkas.specs.RowsByKinds.{columns_by_kinds}
 
 -- ---- a list's rows and kinds
 columns_given : (column : ℕ) (rows : List (List ℤ)) (kinds : List ConKind) → length kinds ≡ length rows →
-    inequality_columns column (given_by is_equality rows kinds) ≡ columns_by_kinds column kinds
+    inequality_columns column (rows_by_kind is_equality rows kinds) ≡ columns_by_kinds column kinds
 columns_given column [] [] n = refl
 columns_given column [] (k ∷ kinds) n = absurd (omega (arith, n))
 columns_given column (r ∷ rows) [] n = absurd (omega (arith, n))
@@ -49,7 +49,7 @@ pub balance_width : (rows : List (List ℤ)) (claim row : List ℤ) (j : ℕ) �
 balance_width rows claim row j e = ap (λ (x : List ℤ). length x) e ∙ ap (λ (n : ℕ). suc (suc n)) (length-map rows (λ r. entry r j))
 
 -- the equality of a column more
-pub balances_more : (rows : List (List ℤ)) (claim row : List ℤ) (old before new : Listed ConKind) (j : ℕ) → length before.kinds ≡ length before.rows →
+pub balances_more : (rows : List (List ℤ)) (claim row : List ℤ) (old before new : LinearSystem ConKind) (j : ℕ) → length before.kinds ≡ length before.rows →
     new.rows ≡ before.rows ++ row ∷ [] → new.kinds ≡ before.kinds ++ Eq ∷ [] → row ≡ balance_row rows claim j →
     constraints before ≡ constraints old ++ map (λ i. equality (balance_row rows claim i)) (range_with_len 0 j) →
     constraints new ≡ constraints old ++ map (λ i. equality (balance_row rows claim i)) (range_with_len 0 (j + 1))
@@ -61,7 +61,7 @@ balances_more rows claim row old before new j n er ek is so_far =
     (sym (map-range_with_len_more (λ i. equality (balance_row rows claim i)) 0 j j (let e : 0 + j ≡ j = omega arith in e)))
 
 -- a sign more
-pub sign_pushed : (old new : Listed ConKind) (row : List ℤ) (n column : ℕ) → length old.kinds ≡ length old.rows → new.rows ≡ old.rows ++ row ∷ [] →
+pub sign_pushed : (old new : LinearSystem ConKind) (row : List ℤ) (n column : ℕ) → length old.kinds ≡ length old.rows → new.rows ≡ old.rows ++ row ∷ [] →
     new.kinds ≡ old.kinds ++ Ge ∷ [] → row ≡ unit_row n column → n ≡ old.dims → constraints new ≡ constraints old ++ sign_row old.dims column ∷ []
 sign_pushed old new row n column k er ek is e =
     constraints_pushed old new row Ge k er ek ∙ ap (λ (r : List ℤ). constraints old ++ inequality r ∷ []) (is ∙ ap (λ (m : ℕ). unit_row m column) e)
@@ -102,10 +102,11 @@ signs_end dims i kinds before h =
 abbrev balances : List (List ℤ) → List ℤ → ℕ → List LinearRow
 balances rows claim n = map (λ j. equality (balance_row rows claim j)) (range_with_len 0 n)
 
-pub none_listed : (start : Listed ConKind) → start.rows ≡ [] → constraints start ≡ []
-none_listed start e = ap (λ (x : List (List ℤ)). given_by is_equality x start.kinds) e
+pub none_listed : (start : LinearSystem ConKind) → start.rows ≡ [] → constraints start ≡ []
+none_listed start e = ap (λ (x : List (List ℤ)). rows_by_kind is_equality x start.kinds) e
 
-pub rows_listed : (premises start first second all : Listed ConKind) (rows : List (List ℤ)) (kinds : List ConKind) (claim : List ℤ) (n : ℕ) → start.rows ≡ [] →
+pub rows_listed : (premises start first second all : LinearSystem ConKind) (rows : List (List ℤ)) (kinds : List ConKind) (claim : List ℤ) (n : ℕ) →
+    start.rows ≡ [] →
     constraints first ≡ constraints start ++ map (λ j. equality (balance_row rows claim j)) (range_with_len 0 n) →
     constraints second ≡ constraints first ++ sign_row first.dims 1 ∷ [] →
     constraints all ≡ constraints second ++ map (sign_row second.dims) (columns_by_kinds 2 kinds) → rows ≡ premises.rows → kinds ≡ premises.kinds →

@@ -13,7 +13,7 @@ use Rattle.lra_linear_spec.proofs.OneSpelling.{positivity_product, dot_zeros, fa
 use Rattle.lra_linear_spec.proofs.Ring.{ring, v, ⊖, ◌⊕◌, ◌⊗◌, mul_nonnegative}
 use Rattle.lra_linear_spec.proofs.Products.{entry_negated, negated_length, entry_blend, blend_length, dot_same, dot_plus, dot_scale}
 use Rattle.lra_linear_spec.proofs.Signs.{above_zero, zero_at_least, add_nonnegative}
-use Rattle.lra_canon.proofs.Solutions.{farkas, sum_none}
+use Rattle.lra_canonical.proofs.Solutions.{farkas, sum_none}
 use Rattle.lra_multipliers.specs.Multipliers.{Multipliers, AreSigned, Shows}
 use Rattle.lra_farkas.specs.MultiplierRows.{AreAsWide, WhatHoldsIsShown, WhatHoldsAtPointsIsShown, NoPointIsShown}
 

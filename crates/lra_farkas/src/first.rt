@@ -4,8 +4,8 @@ ghost use Rattle.std.specs.Prelude.{◌≡◌, ◌<◌, suc, length, IfOk, IfErr
 ghost use Rattle.lra_linear_spec.specs.Descriptions.{Con, generator};
 ghost use Rattle.lra_linear_spec.specs.Points.{IsEmptySet};
 ghost use Rattle.lra_linear_spec.specs.Polyhedra.{IsPolyhedronOf};
-ghost use Rattle.lra_sys.specs.Dimensions.{too_many_dimensions};
-ghost use Rattle.lra_sys.specs.Listed.{constraints};
+ghost use Rattle.lra_systems.specs.Dimensions.{too_many_dimensions};
+ghost use Rattle.lra_systems.specs.LinearSystems.{constraints};
 ghost use Rattle.lra_multipliers.specs.Multipliers.{IsAnswer, yes};
 ghost use Rattle.lra_multipliers.specs.MultiplierViews.{multipliers_view};
 ghost use Rattle.lra_farkas.specs.MultiplierRows.{point_of};
@@ -17,7 +17,7 @@ use crate::rows::list_rows;
 use lra_multipliers::{Answer, Multipliers, check};
 use lra_poly::Poly;
 use lra_row::Row;
-use lra_sys::ConSys;
+use lra_systems::ConSys;
 use std::alloc::{AllocError, Global};
 
 /// Why there are no multipliers.

@@ -6,14 +6,14 @@ ghost use Rattle.lra_linear_spec.specs.Descriptions.{equality};
 ghost use Rattle.lra_linear_spec.specs.Range.{InRange};
 ghost use Rattle.lra_linear_spec.specs.Vectors.{entry};
 ghost use Rattle.lra_multipliers.specs.Columns.{first_of};
-ghost use Rattle.lra_sys.specs.Dimensions.{too_many_dimensions};
-ghost use Rattle.lra_sys.specs.Listed.{constraints};
+ghost use Rattle.lra_systems.specs.Dimensions.{too_many_dimensions};
+ghost use Rattle.lra_systems.specs.LinearSystems.{constraints};
 ghost use Rattle.lra_farkas.specs.MultiplierRows.{balance_row, sign_row, multiplier_dims, multiplier_rows};
 ghost use Rattle.lra_farkas.specs.RowsByKinds.{columns_by_kinds};
 
 use lra_linear_spec::ConKind;
 use lra_row::{Row, opposite};
-use lra_sys::{ConSys, TOO_MANY_DIMENSIONS, unit};
+use lra_systems::{ConSys, TOO_MANY_DIMENSIONS, unit};
 use std::alloc::{AllocError, Global};
 
 /// The entries of the rows in a column come last.

@@ -4,7 +4,7 @@ use Rattle.std.proofs.Common.{length, map, take, get_or, rules, Box, Global}
 use Rattle.std.proofs.Common.{refl, sym, ap, subst, append_assoc, append-nil, negsuc}
 use Rattle.std.specs.Prelude.{Result, Ok, Err, IfOk, OnOk}
 use Rattle.std.proofs.lemmas.List.{map_more, take_all}
-use Rattle.lra_lin.specs.Form.{Form}
+use Rattle.lra_linear_forms.specs.Form.{Form}
 use Rattle.lra_domain.specs.Meaning.{Meaning}
 use Rattle.lra_base.specs.Operators.{Operator}
 use Rattle.lra_base.specs.OperatorViews.{operator_view}

@@ -2,7 +2,7 @@
 -- points.
 use Rattle.std.specs.Prelude.{◌≡◌, ◌<◌, ◌⊎◌, ℕ, suc, ℤ, List, [], ◌∷◌, ◌++◌, length, Option, None, Some, Bool, true}
 use Rattle.std.specs.Prelude.{false, ◌||◌, filter, slice_get, Contains, ⊤}
-use Rattle.lra_lin.specs.Form.{Form}
+use Rattle.lra_linear_forms.specs.Form.{Form}
 use Rattle.lra_domain.specs.Meaning.{Meaning, worse}
 use Rattle.lra_domain.specs.declared.Exactness.{Exactness}
 use Rattle.lra_base.specs.declared.number_types.NumberType.{NumberType}

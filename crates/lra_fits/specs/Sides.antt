@@ -1,6 +1,6 @@
 -- What operators and signs make of forms, where these are there.
 use Rattle.std.specs.Prelude.{Option, negsuc}
-use Rattle.lra_lin.specs.Form.{Form}
+use Rattle.lra_linear_forms.specs.Form.{Form}
 use Rattle.lra_base.specs.Operators.{Operator}
 use Rattle.lra_program.specs.Value.{◌>>=◌}
 use Rattle.lra_flow.specs.Linear.{operator_form, scaled}

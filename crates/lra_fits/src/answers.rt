@@ -10,7 +10,7 @@ ghost use Rattle.lra_fits.specs.Sides.{between_sides, with_other_sign};
 use lra_base::{NumberType, Operator};
 use lra_domain::Domain;
 use lra_forms::{apply_operator, has_no_variable, multiple_of};
-use lra_lin::LinExpr;
+use lra_linear_forms::LinExpr;
 use std::alloc::{AllocError, Global};
 
 /// Whether the bound is there and one of the type's numbers.

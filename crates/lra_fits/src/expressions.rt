@@ -15,7 +15,7 @@ use crate::computes::parameter;
 use lra_base::{NumberType, Operator};
 use lra_domain::Domain;
 use lra_forms::form_of_expression;
-use lra_lin::LinExpr;
+use lra_linear_forms::LinExpr;
 use lra_program::{Argument, Element, Expr, Operation, Receiver};
 use std::alloc::{AllocError, Global};
 

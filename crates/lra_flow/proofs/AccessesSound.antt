@@ -5,8 +5,8 @@ use Rattle.std.specs.Prelude.{◌-ℤ◌, ◌≤ℤ◌, ◌⊎◌, nat_lt, if◌
 use Rattle.std.proofs.lemmas.Bool.{ltb-false}
 use Rattle.std.proofs.lemmas.Int.{ints}
 use Rattle.std.proofs.lemmas.Option.{same_Some, slice_get_within, slice_get-get_or}
-use Rattle.lra_lin.specs.Form.{Form, form_value}
-use Rattle.lra_lin.specs.declared.test.Test.{Test}
+use Rattle.lra_linear_forms.specs.Form.{Form, form_value}
+use Rattle.lra_linear_forms.specs.declared.test.Test.{Test}
 use Rattle.lra_domain.specs.Meaning.{Meaning}
 use Rattle.lra_domain.specs.Laws.{Laws}
 use Rattle.lra_domain.specs.Moves.{make}
@@ -24,7 +24,7 @@ use Rattle.lra_program.proofs.AccessLaws.{HasOutside, get_left, get_right, expr_
 use Rattle.lra_program.proofs.TypeLaws.{bind_some}
 use Rattle.lra_operations.specs.Asked.{FreshMeets}
 use Rattle.lra_flow.specs.Linear.{form_of, fitting, at_least_zero, less_by, comparison_test, TestHolds}
-use Rattle.lra_lin.specs.Form.{opposite_form}
+use Rattle.lra_linear_forms.specs.Form.{opposite_form}
 use Rattle.lra_flow.specs.MovesOf.{tested}
 use Rattle.lra_flow.specs.Operations.{dropping}
 use Rattle.lra_flow.specs.Analysis.{IsUnreachable}

@@ -3,7 +3,7 @@ use Rattle.std.proofs.Common.{◌≡◌, ℕ, zero, suc, ℤ, ◌-◌, ◌≤◌
 use Rattle.std.specs.List.{AllByRecursion, Contains}
 use Rattle.std.proofs.lemmas.Option.{slice_get_read}
 use Rattle.lra_linear_spec.proofs.Membership.{contains_none, contains_cases}
-use Rattle.lra_sys.specs.Listed.{Listed}
+use Rattle.lra_systems.specs.LinearSystems.{LinearSystem}
 use Rattle.lra_linear_spec.specs.declared.ConKind.{ConKind}
 use Rattle.lra_domain.specs.Actions.{Action}
 use Rattle.lra_domain.specs.declared.Mode.{Mode}
@@ -32,7 +32,7 @@ pub record Preserves {V H : Type 0} (ops : Operations V H) (parts : ℕ) (Good :
   pub void : (n : ℕ) (v : V) → ops.void n parts v → Good v
   pub changed : (step : Action) (v : V) (e : Exactness) (w : V) → ops.changed step v e w → Good v → Good w
   pub joined : (u v : V) (e : Exactness) (w : V) → ops.joined u v e w → Good u → Good v → Good w
-  pub started : (v : V) (rows : Listed ConKind) (h : H) → ops.started v rows h → Good v → Fine h
+  pub started : (v : V) (rows : LinearSystem ConKind) (h : H) → ops.started v rows h → Good v → Fine h
   pub grown : (h : H) (v : V) (mode : Mode) (e : Exactness) (next : H) → ops.grown h v mode e next → Fine h → Good v → Fine next
   pub valued : (h : H) (e : Exactness) (v : V) → ops.valued h e v → Fine h → Good v
 

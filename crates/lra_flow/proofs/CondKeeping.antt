@@ -5,7 +5,7 @@ use Rattle.std.proofs.lemmas.Int.{ints}
 use Rattle.lra_base.specs.Operators.{Comparison, below, at_most, above, at_least, equal, differs}
 use Rattle.lra_program.specs.Program.{Expr, literal, Cond, compare, nonzero, opposite, both_of, either_of}
 use Rattle.lra_program.specs.Value.{Scene, Drawn, is_zero, compares, value_of, truth_of}
-use Rattle.lra_lin.specs.declared.test.Test.{Test}
+use Rattle.lra_linear_forms.specs.declared.test.Test.{Test}
 use Rattle.lra_flow.specs.declared.seen.Division.{Division}
 use Rattle.lra_flow.specs.declared.seen.Seen.{Seen}
 use Rattle.lra_flow.specs.declared.seen.Seen.TheVariants.{Linear, Divided, Unseen}

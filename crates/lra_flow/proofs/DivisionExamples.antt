@@ -8,7 +8,7 @@ use Rattle.lra_program.specs.Program.{local, Expr, literal, read, negate, binary
 use Rattle.lra_program.specs.Step.{give}
 use Rattle.lra_base.specs.Operators.{plus, minus, times, over, modulo, equal, differs}
 use Rattle.lra_linear_spec.specs.declared.ConKind.TheVariants.{Ge, Eq}
-use Rattle.lra_lin.specs.Form.{Form}
+use Rattle.lra_linear_forms.specs.Form.{Form}
 use Rattle.lra_domain.specs.Actions.{Action, assign, test, embed, remove_last}
 use Rattle.lra_domain.specs.Moves.{stay, make, first_then, join_of, dims_moved, cases, MayLead}
 use Rattle.lra_flow.specs.declared.seen.Division.{Division}

@@ -7,8 +7,8 @@ use Rattle.std.proofs.lemmas.Bool.{and_parts}
 use Rattle.std.proofs.lemmas.Int.{ints, quot-rem, rem_below}
 use Rattle.lra_linear_spec.specs.Vectors.{product}
 use Rattle.lra_linear_spec.proofs.Ring.{ring, v, ⊖, ◌⊕◌, ◌⊗◌}
-use Rattle.lra_lin.specs.Form.{Form, form_value, opposite_form}
-use Rattle.lra_lin.proofs.FormLemmas.{product_negated}
+use Rattle.lra_linear_forms.specs.Form.{Form, form_value, opposite_form}
+use Rattle.lra_linear_forms.proofs.FormLemmas.{product_negated}
 use Rattle.lra_base.specs.declared.number_types.NumberType.{NumberType}
 use Rattle.lra_base.specs.NumberTypes.{wider}
 use Rattle.lra_base.specs.Operators.{Operator, plus, minus, times, over, modulo}

@@ -1,6 +1,6 @@
 -- What is asked of operations, on small ones, over any value.
 use Rattle.std.proofs.Common.{◌≡◌, ℕ, pos, negsuc, List, [], ◌∷◌, ◌++◌, Some, None, Bool, true, false, refl, inl, inr}
-use Rattle.lra_lin.specs.Form.{Form}
+use Rattle.lra_linear_forms.specs.Form.{Form}
 use Rattle.lra_domain.specs.Meaning.{Meaning}
 use Rattle.lra_domain.specs.Laws.{Laws}
 use Rattle.lra_domain.specs.declared.Exactness.TheVariants.{Exact, Flagged}

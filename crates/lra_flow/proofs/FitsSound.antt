@@ -8,7 +8,7 @@ use Rattle.std.proofs.lemmas.Bool.{and_parts}
 use Rattle.std.proofs.lemmas.Int.{ints}
 use Rattle.std.proofs.lemmas.Option.{same_Some}
 use Rattle.std.proofs.Math.Nat.{div-le_self, div-mul-le_self, mul-le-mul, mod-le}
-use Rattle.lra_lin.specs.Form.{Form, form_value}
+use Rattle.lra_linear_forms.specs.Form.{Form, form_value}
 use Rattle.lra_domain.specs.Meaning.{Meaning}
 use Rattle.lra_domain.specs.Laws.{Laws}
 use Rattle.lra_domain.specs.Moves.{MayLead}

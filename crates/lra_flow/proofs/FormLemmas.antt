@@ -7,9 +7,9 @@ use Rattle.std.proofs.lemmas.Int.{ints}
 use Rattle.lra_linear_spec.specs.declared.ConKind.TheVariants.{Ge, Eq}
 use Rattle.lra_linear_spec.specs.Vectors.{product}
 use Rattle.lra_linear_spec.proofs.Products.{product_none}
-use Rattle.lra_lin.specs.Form.{Form, form_value, opposite_form}
-use Rattle.lra_lin.specs.declared.test.Test.{Test}
-use Rattle.lra_lin.proofs.FormLemmas.{product_negated}
+use Rattle.lra_linear_forms.specs.Form.{Form, form_value, opposite_form}
+use Rattle.lra_linear_forms.specs.declared.test.Test.{Test}
+use Rattle.lra_linear_forms.proofs.FormLemmas.{product_negated}
 use Rattle.lra_linear_spec.proofs.Ring.{ring, v, ⊖, ◌⊕◌, ◌⊗◌}
 use Rattle.lra_base.specs.Operators.{Operator, plus, minus, times, over, modulo, Comparison, below, at_most, above, at_least, equal, differs}
 use Rattle.lra_base.specs.declared.number_types.NumberType.{NumberType}

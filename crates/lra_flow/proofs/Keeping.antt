@@ -3,7 +3,7 @@ use Rattle.std.proofs.Common.{◌≡◌, ℕ, zero, suc, ◌+◌, ◌-◌, ◌�
 use Rattle.std.proofs.Common.{append_assoc, append-nil, length-append}
 use Rattle.std.specs.Prelude.{map, ◌-ℤ◌, ◌+ℤ◌, ◌*ℤ◌, ◌≤ℤ◌, negsuc, ◌⊎◌, replicate, slice_set, slice_get}
 use Rattle.lra_domain.specs.Actions.{embed}
-use Rattle.lra_lin.specs.Form.{Form}
+use Rattle.lra_linear_forms.specs.Form.{Form}
 use Rattle.lra_base.specs.declared.number_types.NumberType.{NumberType}
 use Rattle.lra_base.specs.declared.number_types.NumberType.TheVariants.{Int, Long}
 use Rattle.lra_base.specs.NumberTypes.{fits, wider, least_of}
@@ -34,7 +34,7 @@ use Rattle.lra_flow.specs.MovesOf.{set_cell, first_values, guard}
 use Rattle.lra_linear_spec.proofs.Ring.{ring, v, ◌⊗◌}
 use Rattle.std.proofs.lemmas.Bool.{and_parts}
 use Rattle.std.proofs.lemmas.Int.{ints}
-use Rattle.lra_lin.specs.Form.{form_value}
+use Rattle.lra_linear_forms.specs.Form.{form_value}
 use Rattle.lra_flow.proofs.FormLemmas.{number_same, pair_first, product_at, product_out, minus_is, set_length, constant_form_value}
 use Rattle.lra_flow.proofs.DivisionLemmas.{seen_set, seen_right}
 use Rattle.lra_flow.proofs.CondKeeping.{cond_leads}

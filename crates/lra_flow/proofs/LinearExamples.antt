@@ -7,7 +7,7 @@ use Rattle.lra_program.specs.Program.{local, Expr, literal, read, input, binary,
 use Rattle.lra_base.specs.Operators.{plus, minus, times, over, below, above, at_least, differs}
 use Rattle.lra_program.specs.Value.{Scene, value_of, truth_of}
 use Rattle.lra_linear_spec.specs.declared.ConKind.TheVariants.{Ge}
-use Rattle.lra_lin.specs.Form.{Form}
+use Rattle.lra_linear_forms.specs.Form.{Form}
 use Rattle.lra_flow.specs.Linear.{TestHolds, form_of, comparison_test}
 use Rattle.lra_flow.specs.Given.{given_rows}
 

@@ -1,7 +1,7 @@
 -- Where each operation has one result, the same values tell one thing of accesses; and what is judged of them with drops is
 -- what is defined, as far as nothing is flagged.
 use Rattle.std.proofs.Common.{◌≡◌, ◌∙◌, ℕ, List, [], ◌∷◌, ◌++◌, Option, Some, None, Bool, refl, sym, subst}
-use Rattle.lra_lin.specs.declared.test.Test.{Test}
+use Rattle.lra_linear_forms.specs.declared.test.Test.{Test}
 use Rattle.lra_domain.specs.Laws.{Laws}
 use Rattle.lra_domain.specs.Meaning.{Meaning}
 use Rattle.lra_domain.specs.declared.Exactness.{Exactness}

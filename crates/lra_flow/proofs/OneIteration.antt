@@ -1,6 +1,6 @@
 -- The written iteration finds one value at each point: where each operation has one result, so has a pass.
 use Rattle.std.proofs.Common.{◌≡◌, ◌∙◌, ℕ, zero, suc, ℤ, ◌-◌, List, [], ◌∷◌, Option, None, Some, Bool, true, false, refl, sym, subst}
-use Rattle.lra_sys.specs.Listed.{Listed}
+use Rattle.lra_systems.specs.LinearSystems.{LinearSystem}
 use Rattle.lra_linear_spec.specs.declared.ConKind.{ConKind}
 use Rattle.lra_domain.specs.Actions.{Action}
 use Rattle.lra_domain.specs.Laws.{SingleLaws}
@@ -28,7 +28,7 @@ pub record Single {V H : Type 0} (ops : Operations V H) : Type 0 where
   pub void : (n cap : ℕ) (v w : V) → ops.void n cap v → ops.void n cap w → v ≡ w
   pub changed : (step : Action) (v : V) (e d : Exactness) (w x : V) → ops.changed step v e w → ops.changed step v d x → (e ≡ d) × (w ≡ x)
   pub joined : (u v : V) (e d : Exactness) (w x : V) → ops.joined u v e w → ops.joined u v d x → (e ≡ d) × (w ≡ x)
-  pub started : (v : V) (rows : Listed ConKind) (g h : H) → ops.started v rows g → ops.started v rows h → g ≡ h
+  pub started : (v : V) (rows : LinearSystem ConKind) (g h : H) → ops.started v rows g → ops.started v rows h → g ≡ h
   pub apart : (h : H) (v : V) (mode : Mode) (e : Exactness) (next : H) → ops.stays h v mode → ops.grown h v mode e next → ⊥
   pub grown : (h : H) (v : V) (mode : Mode) (e d : Exactness) (i j : H) → ops.grown h v mode e i → ops.grown h v mode d j → (e ≡ d) × (i ≡ j)
   pub valued : (h : H) (e d : Exactness) (v w : V) → ops.valued h e v → ops.valued h d w → (e ≡ d) × (v ≡ w)

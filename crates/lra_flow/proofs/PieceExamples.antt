@@ -1,6 +1,6 @@
 -- Single definitions of the iteration on small operands.
 use Rattle.std.proofs.Common.{◌≡◌, ℕ, ℤ, pos, negsuc, List, [], ◌∷◌, None, Some, refl}
-use Rattle.lra_lin.specs.Form.{Form}
+use Rattle.lra_linear_forms.specs.Form.{Form}
 use Rattle.lra_domain.specs.Actions.{assign, forget, embed, remove_last, test}
 use Rattle.lra_domain.specs.declared.Exactness.TheVariants.{Flagged}
 use Rattle.lra_domain.specs.declared.Mode.TheVariants.{Join, Widen, Limited, Tightest}

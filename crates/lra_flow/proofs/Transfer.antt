@@ -1,6 +1,6 @@
 -- From an iteration by some operations to one by others, where each answer of the first that matters is one of the second.
 use Rattle.std.proofs.Common.{◌≡◌, ℕ, zero, suc, ℤ, ◌-◌, List, [], ◌∷◌, Option, None, Some, Bool, true, false, refl, subst}
-use Rattle.lra_sys.specs.Listed.{Listed}
+use Rattle.lra_systems.specs.LinearSystems.{LinearSystem}
 use Rattle.lra_linear_spec.specs.declared.ConKind.{ConKind}
 use Rattle.lra_domain.specs.Actions.{Action}
 use Rattle.lra_domain.specs.declared.Mode.{Mode}
@@ -29,7 +29,7 @@ pub record Matters (Keeps : Exactness → Type 0) (Fine : Option ℕ → Type 0)
 pub record Transfers {V H : Type 0} (Keeps : Exactness → Type 0) (a b : Operations V H) : Type 0 where
   pub changed : (step : Action) (v : V) (e : Exactness) (w : V) → Keeps e → a.changed step v e w → b.changed step v e w
   pub joined : (u v : V) (e : Exactness) (w : V) → Keeps e → a.joined u v e w → b.joined u v e w
-  pub started : (v : V) (rows : Listed ConKind) (h : H) → a.started v rows h → b.started v rows h
+  pub started : (v : V) (rows : LinearSystem ConKind) (h : H) → a.started v rows h → b.started v rows h
   pub stays : (h : H) (v : V) (mode : Mode) → a.stays h v mode → b.stays h v mode
   pub grown : (h : H) (v : V) (mode : Mode) (e : Exactness) (next : H) → Keeps e → a.grown h v mode e next → b.grown h v mode e next
   pub valued : (h : H) (e : Exactness) (v : V) → Keeps e → a.valued h e v → b.valued h e v

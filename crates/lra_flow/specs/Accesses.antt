@@ -4,8 +4,8 @@
 -- two tests have 64 bits, that it is below 0 and that it is at least the array's length, each of which alone leaves
 -- nothing of the value. What is told of an access is the place where its array is named, and whether it is inside.
 use Rattle.std.specs.Prelude.{◌≡◌, ◌++◌, ℕ, List, [], ◌∷◌, Option, None, Some, Bool, true, slice_get}
-use Rattle.lra_lin.specs.Form.{Form}
-use Rattle.lra_lin.specs.declared.test.Test.{Test}
+use Rattle.lra_linear_forms.specs.Form.{Form}
+use Rattle.lra_linear_forms.specs.declared.test.Test.{Test}
 use Rattle.lra_domain.specs.Meaning.{Meaning, worse}
 use Rattle.lra_domain.specs.declared.Exactness.{Exactness}
 use Rattle.lra_domain.specs.declared.Exactness.TheVariants.{Exact}

@@ -1,13 +1,13 @@
 -- The rows that a loop's condition gives to its head: from its comparisons in text order, `!` pushed to them.
 use Rattle.std.specs.Prelude.{ℕ, ℤ, pos, neg_ℤ, ◌+ℤ◌, List, [], ◌∷◌, ◌++◌, map, Option, None, Some, Bool, true, not}
-use Rattle.lra_sys.specs.Listed.{Listed}
+use Rattle.lra_systems.specs.LinearSystems.{LinearSystem}
 use Rattle.lra_linear_spec.specs.declared.ConKind.{ConKind}
 use Rattle.lra_linear_spec.specs.declared.ConKind.TheVariants.{Ge}
 use Rattle.lra_base.specs.Operators.{Comparison, equal, differs}
 use Rattle.lra_base.specs.declared.number_types.NumberType.TheVariants.{Int}
 use Rattle.lra_program.specs.Program.{literal, Cond, compare, nonzero, opposite, both_of, either_of}
-use Rattle.lra_lin.specs.Form.{Form}
-use Rattle.lra_lin.specs.declared.test.Test.{Test}
+use Rattle.lra_linear_forms.specs.Form.{Form}
+use Rattle.lra_linear_forms.specs.declared.test.Test.{Test}
 use Rattle.lra_flow.specs.Linear.{comparison_test, difference_form}
 use Rattle.lra_flow.specs.MovesOf.{comparison_as}
 
@@ -40,8 +40,8 @@ guard_rows live base wanted (opposite c) = guard_rows live base (not wanted) c
 guard_rows live base wanted (both_of a b) = guard_rows live base wanted a ++ guard_rows live base wanted b
 guard_rows live base wanted (either_of a b) = guard_rows live base wanted a ++ guard_rows live base wanted b
 
-abbrev pub inequalities : ℕ → List (List ℤ) → Listed ConKind
+abbrev pub inequalities : ℕ → List (List ℤ) → LinearSystem ConKind
 inequalities live rows = record { dims = live; rows = rows; kinds = map (λ row. Ge) rows }
 
-abbrev pub given_rows : ℕ → ℕ → Cond → Listed ConKind
+abbrev pub given_rows : ℕ → ℕ → Cond → LinearSystem ConKind
 given_rows live base c = inequalities live (guard_rows live base true c)

@@ -21,8 +21,8 @@ use Rattle.lra_program.specs.declared.receivers.Target.{Target}
 use Rattle.lra_program.specs.Value.{Argument}
 use Rattle.lra_program.specs.Step.{Op, append, fill, give, give_element, give_any, push, push_for, keep}
 use Rattle.lra_program.specs.Step as step
-use Rattle.lra_lin.specs.Form.{Form}
-use Rattle.lra_lin.specs.declared.test.Test.{Test}
+use Rattle.lra_linear_forms.specs.Form.{Form}
+use Rattle.lra_linear_forms.specs.declared.test.Test.{Test}
 use Rattle.lra_domain.specs.Actions.{Action, assign, forget, embed, remove_last}
 use Rattle.lra_domain.specs.Actions as action
 use Rattle.lra_flow.specs.Linear as linear

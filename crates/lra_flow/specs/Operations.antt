@@ -2,7 +2,7 @@
 -- that one definition of the iteration serves for the written one, for one in which operations may be flagged, and for
 -- where one strains.
 use Rattle.std.specs.Prelude.{◌≡◌, ℕ}
-use Rattle.lra_sys.specs.Listed.{Listed}
+use Rattle.lra_systems.specs.LinearSystems.{LinearSystem}
 use Rattle.lra_linear_spec.specs.declared.ConKind.{ConKind}
 use Rattle.lra_domain.specs.Actions.{Action, dims_after}
 use Rattle.lra_domain.specs.declared.Mode.{Mode}
@@ -20,7 +20,7 @@ pub record Operations (V H : Type 0) : Type 1 where
   pub changed : Action → V → Exactness → V → Type 0
   pub joined : V → V → Exactness → V → Type 0
   -- a loop's head starts with a value and the given rows; it is stable under the next value, or grows by it; its value
-  pub started : V → Listed ConKind → H → Type 0
+  pub started : V → LinearSystem ConKind → H → Type 0
   pub stays : H → V → Mode → Type 0
   pub grown : H → V → Mode → Exactness → H → Type 0
   pub valued : H → Exactness → V → Type 0

@@ -4,7 +4,7 @@
 -- taken as two variables behind the live ones, first t, then r, and what is seen is a linear form over all of them.
 use Rattle.std.specs.Prelude.{◌≡◌, ◌≤ℤ◌, ⊤, ℕ, ◌+◌, ℤ, pos, negsuc, neg_ℤ, ◌-ℤ◌, ◌&&◌, if◌then◌else◌}
 use Rattle.std.specs.Prelude.{List, [], ◌∷◌, ◌++◌, length, Option, Some, None, int_le, int_div, int_rem}
-use Rattle.lra_lin.specs.Form.{Form, form_value, opposite_form}
+use Rattle.lra_linear_forms.specs.Form.{Form, form_value, opposite_form}
 use Rattle.lra_base.specs.Operators.{Operator, plus, minus, times, over, modulo}
 use Rattle.lra_program.specs.Program.{Expr, literal, read, input, negate, binary, element}
 use Rattle.lra_program.specs.Value.{◌>>=◌, Scene, value_of}

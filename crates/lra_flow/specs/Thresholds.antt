@@ -6,14 +6,14 @@ use Rattle.std.specs.Prelude.{Option, None, Some, nat_le, unsigned_abs, if◌the
 use Rattle.std.specs.Cmp.Lexicographic.{pointwise}
 use Rattle.std.specs.List.{filter, flat_map, list_all, list_any}
 use Rattle.std.specs.Ordering.{int_eq}
-use Rattle.lra_sys.specs.Listed.{Listed}
+use Rattle.lra_systems.specs.LinearSystems.{LinearSystem}
 use Rattle.lra_linear_spec.specs.declared.ConKind.{ConKind}
 use Rattle.lra_base.specs.declared.number_types.NumberType.TheVariants.{Int}
 use Rattle.lra_program.specs.Program.{literal, Cond, compare, nonzero, opposite, both_of, either_of}
 use Rattle.lra_program.specs.Step.{Op, append, fill, give, give_element, give_any, push, push_for, keep, test}
 use Rattle.lra_operations.specs.Graph.{Node, empty, aside, point, act, check, seq, choose, iterate, catch, leave, select}
 use Rattle.lra_operations.specs.Graph.{Arms, no_arms, entry, arm}
-use Rattle.lra_lin.specs.Form.{Form}
+use Rattle.lra_linear_forms.specs.Form.{Form}
 use Rattle.lra_flow.specs.Linear.{difference_form, variable_form}
 use Rattle.lra_flow.specs.Given.{given_rows, inequalities, row_of}
 use Rattle.lra_flow.specs.Plan.{Widening, standard, limited, by_thresholds}
@@ -119,13 +119,13 @@ rows_once rows = fold with_row [] rows
 abbrev pub all_rows : List (List ℤ) → List (List ℤ) → List (List ℤ)
 all_rows own more = own ++ filter (λ row. not (is_among own row)) more
 
-abbrev pub threshold_rows : List ℤ → ℕ → ℕ → Cond → Node → Listed ConKind
+abbrev pub threshold_rows : List ℤ → ℕ → ℕ → Cond → Node → LinearSystem ConKind
 threshold_rows constants live base c a =
     inequalities live
     (all_rows (rows_once (condition_rows live base c ++ round_rows live a)) (constant_rows live constants))
 
 -- the rows that a loop's head is given, of which so many variables live
-abbrev pub loop_rows : Widening → ℕ → ℕ → Cond → Node → Listed ConKind
+abbrev pub loop_rows : Widening → ℕ → ℕ → Cond → Node → LinearSystem ConKind
 loop_rows standard live base c a = given_rows live base c
 loop_rows limited live base c a = given_rows live base c
 loop_rows (by_thresholds constants) live base c a = threshold_rows constants live base c a

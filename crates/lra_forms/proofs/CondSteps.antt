@@ -2,7 +2,7 @@
 use Rattle.std.proofs.Common.{rules, Box, Vec, Global, ◌≡◌, ℕ, ℤ, pos, List, [], ◌∷◌, Option, Some, None, true, false, length, map, refl, sym, ap, ◌∙◌, subst, arith}
 use Rattle.std.specs.Prelude.{◌-ℤ◌, replicate}
 use Rattle.std.proofs.lemmas.Int.{ints}
-use Rattle.lra_lin.specs.Form.{Form}
+use Rattle.lra_linear_forms.specs.Form.{Form}
 use Rattle.lra_base.specs.Operators.{minus}
 use Rattle.lra_program.specs.Program.{Expr, binary, Cond}
 use Rattle.lra_program.specs.declared.program.Cond as declared_cond

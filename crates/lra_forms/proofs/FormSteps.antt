@@ -10,7 +10,7 @@ use Rattle.std.specs.List.{All, list_all}
 use Rattle.std.specs.Option.{SomeIff}
 use Rattle.lra_base.specs.declared.number_types.NumberType.TheVariants.{Long}
 use Rattle.lra_program.specs.Value.{◌>>=◌, number, is_word}
-use Rattle.lra_lin.specs.Form.{Form, FormFits}
+use Rattle.lra_linear_forms.specs.Form.{Form, FormFits}
 use Rattle.lra_base.specs.Operators.{Operator}
 use Rattle.lra_program.specs.Program.{Expr, binary}
 use Rattle.lra_program.specs.declared.program.Operation.{Operation}

@@ -5,9 +5,9 @@ use Rattle.std.specs.Prelude.{◌-ℤ◌, neg_ℤ}
 use Rattle.std.proofs.lemmas.List.{map-append, map_more, length-map}
 use Rattle.lra_flow.proofs.FormLemmas.{fitting_same}
 use Rattle.lra_flow.proofs.Keeping.{some_is}
-use Rattle.lra_lin.specs.Form.{Form, opposite_form}
-use Rattle.lra_lin.specs.declared.test.Test.{Test}
-use Rattle.lra_sys.specs.Listed.{Listed}
+use Rattle.lra_linear_forms.specs.Form.{Form, opposite_form}
+use Rattle.lra_linear_forms.specs.declared.test.Test.{Test}
+use Rattle.lra_systems.specs.LinearSystems.{LinearSystem}
 use Rattle.lra_linear_spec.specs.declared.ConKind.{ConKind}
 use Rattle.lra_linear_spec.specs.declared.ConKind.TheVariants.{Ge, Eq}
 use Rattle.lra_base.specs.declared.operators.Comparison as declared
@@ -21,10 +21,10 @@ use Rattle.lra_flow.specs.Given.{row_of, test_rows, comparison_rows, guard_rows}
 use Rattle.lra_forms.specs.Given.{HasMore}
 
 -- more and more
-pub more_none : (s : Listed ConKind) → HasMore s s []
+pub more_none : (s : LinearSystem ConKind) → HasMore s s []
 more_none s = record { dims = refl; are = sym (append-nil s.rows); kinds = sym (append-nil s.kinds) }
 
-pub more_both : (s t u : Listed ConKind) (xs ys : List (List ℤ)) → HasMore s t xs → HasMore t u ys → HasMore s u (xs ++ ys)
+pub more_both : (s t u : LinearSystem ConKind) (xs ys : List (List ℤ)) → HasMore s t xs → HasMore t u ys → HasMore s u (xs ++ ys)
 more_both s t u xs ys h k = record {
   dims = k.dims ∙ h.dims;
   are = k.are ∙ ap (λ (rs : List (List ℤ)). rs ++ ys) h.are ∙ append_assoc s.rows xs ys;
@@ -45,7 +45,7 @@ rows_behind live base wanted c (e ∷ es) d =
     ap (λ (rs : List (List ℤ)). guard_rows live base wanted c ++ rs) (rows_behind live base wanted e es d) ∙
     sym (append_assoc (guard_rows live base wanted c) (guard_rows live base wanted (all_of e es)) (guard_rows live base wanted d))
 
-pub chain_more : (base : ℕ) (wanted : Bool) (c : Cond) (cs : List declared_cond.Cond) (i : ℕ) (x : declared_cond.Cond) (s t u : Listed ConKind) →
+pub chain_more : (base : ℕ) (wanted : Bool) (c : Cond) (cs : List declared_cond.Cond) (i : ℕ) (x : declared_cond.Cond) (s t u : LinearSystem ConKind) →
     i < length cs → x ≡ get_or cs i x → HasMore s t (guard_rows s.dims base wanted (all_of c (map cond_view (take i cs)))) →
     HasMore t u (guard_rows t.dims base wanted (cond_view x)) → HasMore s u (guard_rows s.dims base wanted (all_of c (map cond_view (take (i + 1) cs))))
 chain_more base wanted c cs i x s t u h is before one =

@@ -4,7 +4,7 @@ use Rattle.std.proofs.Common.{refl, sym, ap, subst, ◌∙◌, append_assoc}
 use Rattle.std.specs.Prelude.{◌-ℤ◌, ◌&&◌, if◌then◌else◌, int_le, IfOk}
 use Rattle.std.specs.Prelude as handed
 use Rattle.std.proofs.lemmas.List.{map-append}
-use Rattle.lra_lin.specs.Form.{Form, opposite_form}
+use Rattle.lra_linear_forms.specs.Form.{Form, opposite_form}
 use Rattle.lra_base.specs.Operators.{Operator}
 use Rattle.lra_base.specs.OperatorViews.{operator_view}
 use Rattle.lra_program.specs.Program.{Expr, binary}

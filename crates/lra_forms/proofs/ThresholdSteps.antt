@@ -7,7 +7,7 @@ use Rattle.std.proofs.lemmas.Int.{ints, to_z-of_z}
 use Rattle.std.specs.List.{filter, flat_map}
 use Rattle.std.proofs.lemmas.List.{length-map, map-append, map_more, take_all}
 use Rattle.std.proofs.lemmas.List.Elements.{filter-append}
-use Rattle.lra_sys.specs.Listed.{Listed}
+use Rattle.lra_systems.specs.LinearSystems.{LinearSystem}
 use Rattle.lra_linear_spec.specs.declared.ConKind.{ConKind}
 use Rattle.lra_linear_spec.specs.declared.ConKind.TheVariants.{Ge}
 use Rattle.lra_operations.specs.declared.graph.Node as declared
@@ -16,7 +16,7 @@ use Rattle.lra_operations.specs.GraphViews.{node_view, row}
 use Rattle.lra_program.specs.declared.program.Cond as declared_cond
 use Rattle.lra_program.specs.Program.{Cond}
 use Rattle.lra_program.specs.ProgramViews.{all_of, any_of, cond_view}
-use Rattle.lra_lin.specs.Form.{Form}
+use Rattle.lra_linear_forms.specs.Form.{Form}
 use Rattle.lra_flow.specs.Given.{inequalities, row_of}
 use Rattle.lra_flow.specs.Linear.{variable_form}
 use Rattle.lra_flow.specs.Thresholds.{all_rows, condition_rows, constant_rows, is_among, round_rows, row_against, rows_at, rows_from, rows_in, rows_once, with_row}
@@ -50,7 +50,7 @@ folded_both : (so : List (List ℤ)) (xs ys : List (List ℤ)) → fold with_row
 folded_both so [] ys = refl
 folded_both so (x ∷ xs) ys = folded_both (with_row so x) xs ys
 
-pub taken_both : (s t u : Listed ConKind) (xs ys : List (List ℤ)) → HasTaken s t xs → HasTaken t u ys → HasTaken s u (xs ++ ys)
+pub taken_both : (s t u : LinearSystem ConKind) (xs ys : List (List ℤ)) → HasTaken s t xs → HasTaken t u ys → HasTaken s u (xs ++ ys)
 taken_both s t u xs ys h k = record {
   dims = k.dims ∙ h.dims;
   are = k.are ∙ ap (λ (rows : List (List ℤ)). fold with_row rows ys) h.are ∙ sym (folded_both s.rows xs ys);
@@ -61,7 +61,7 @@ pub against_width : (f : Form) (more : ℤ) → length (row_against f more) ≡ 
 against_width f more = ap suc (length-map f.coefficients neg_ℤ)
 
 -- ---- rows that come behind unless they are the loop's own
-pub added_both : (own : List (List ℤ)) (s t u : Listed ConKind) (xs ys : List (List ℤ)) → HasMore s t (filter (λ x. not (is_among own x)) xs)
+pub added_both : (own : List (List ℤ)) (s t u : LinearSystem ConKind) (xs ys : List (List ℤ)) → HasMore s t (filter (λ x. not (is_among own x)) xs)
     → HasMore t u (filter (λ x. not (is_among own x)) ys) → HasMore s u (filter (λ x. not (is_among own x)) (xs ++ ys))
 added_both own s t u xs ys h k = subst (HasMore s u) (sym (filter-append (λ x. not (is_among own x)) xs ys)) (more_both s t u _ _ h k)
 
@@ -76,7 +76,7 @@ rows_behind live base c (e ∷ es) d =
     ap (λ (rs : List (List ℤ)). condition_rows live base c ++ rs) (rows_behind live base e es d) ∙
     sym (append_assoc (condition_rows live base c) (condition_rows live base (all_of e es)) (condition_rows live base d))
 
-pub chain_taken : (base : ℕ) (c : Cond) (cs : List declared_cond.Cond) (i : ℕ) (x : declared_cond.Cond) (s t u : Listed ConKind) →
+pub chain_taken : (base : ℕ) (c : Cond) (cs : List declared_cond.Cond) (i : ℕ) (x : declared_cond.Cond) (s t u : LinearSystem ConKind) →
     i < length cs → x ≡ get_or cs i x → HasTaken s t (condition_rows s.dims base (all_of c (map cond_view (take i cs)))) →
     HasTaken t u (condition_rows t.dims base (cond_view x)) → HasTaken s u (condition_rows s.dims base (all_of c (map cond_view (take (i + 1) cs))))
 chain_taken base c cs i x s t u h is before one =
@@ -101,7 +101,7 @@ flat_behind live (f ∷ gs) g =
     ap (λ (rs : List (List ℤ)). rows_in live f ++ rs) (flat_behind live gs g) ∙ sym (append_assoc (rows_in live f) (flat_map (rows_in live) gs) (rows_in live g))
 
 -- one tree more of a row
-pub trees_taken : (gs : List declared.Node) (i : ℕ) (x : declared.Node) (s t u : Listed ConKind) → i < length gs → x ≡ get_or gs i x
+pub trees_taken : (gs : List declared.Node) (i : ℕ) (x : declared.Node) (s t u : LinearSystem ConKind) → i < length gs → x ≡ get_or gs i x
     → HasTaken s t (flat_map (rows_in s.dims) (map node_view (take i gs))) → HasTaken t u (rows_in t.dims (node_view x))
     → HasTaken s u (flat_map (rows_in s.dims) (map node_view (take (i + 1) gs)))
 trees_taken gs i x s t u h is before one =
@@ -112,7 +112,7 @@ trees_taken gs i x s t u h is before one =
     subst (HasTaken s u) (sym rows) (taken_both s t u _ _ before last)
 
 -- all of a row, and the last
-pub row_taken : (gs : List declared.Node) (h : graph.Node) (i : ℕ) (s t u : Listed ConKind) → length gs ≤ i → HasTaken s t (flat_map (rows_in s.dims) (map node_view (take i gs)))
+pub row_taken : (gs : List declared.Node) (h : graph.Node) (i : ℕ) (s t u : LinearSystem ConKind) → length gs ≤ i → HasTaken s t (flat_map (rows_in s.dims) (map node_view (take i gs)))
     → HasTaken t u (rows_in t.dims h) → HasTaken s u (rows_in s.dims (row (map node_view gs) h))
 row_taken gs h i s t u past before one =
     let whole : HasTaken s t (flat_map (rows_in s.dims) (map node_view gs)) =
@@ -121,7 +121,7 @@ row_taken gs h i s t u past before one =
     subst (HasTaken s u) (sym (row_rows s.dims (map node_view gs) h)) (taken_both s t u _ _ whole last)
 
 -- a condition, and what comes behind it
-pub then_taken : (s t u : Listed ConKind) (xs : List (List ℤ)) (ys : ℕ → List (List ℤ)) → HasTaken s t xs → HasTaken t u (ys t.dims) → HasTaken s u (xs ++ ys s.dims)
+pub then_taken : (s t u : LinearSystem ConKind) (xs : List (List ℤ)) (ys : ℕ → List (List ℤ)) → HasTaken s t xs → HasTaken t u (ys t.dims) → HasTaken s u (xs ++ ys s.dims)
 then_taken s t u xs ys a b = taken_both s t u xs (ys s.dims) a (subst (λ (n : ℕ). HasTaken t u (ys n)) a.dims b)
 
 -- a loop gives its condition's rows and those of a round
@@ -158,7 +158,7 @@ all_from_more live constants n =
     ap (rows_from live constants 0) (let one : n + 1 ≡ suc n = omega arith in one) ∙ rows_from_more live constants 0 n ∙
     ap (λ (k : ℕ). rows_from live constants 0 n ++ rows_at live constants k) (let none : 0 + n ≡ n = omega arith in none)
 
-pub variables_added : (own : List (List ℤ)) (constants : List ℤ) (n : ℕ) (s t u : Listed ConKind)
+pub variables_added : (own : List (List ℤ)) (constants : List ℤ) (n : ℕ) (s t u : LinearSystem ConKind)
     → HasMore s t (filter (λ x. not (is_among own x)) (rows_from s.dims constants 0 n)) → HasMore t u (filter (λ x. not (is_among own x)) (rows_at t.dims constants n))
     → HasMore s u (filter (λ x. not (is_among own x)) (rows_from s.dims constants 0 (n + 1)))
 variables_added own constants n s t u before one =
@@ -172,14 +172,14 @@ rows_at_behind live [] t place = refl
 rows_at_behind live (u ∷ us) t place =
     ap (λ (rs : List (List ℤ)). row_of (variable_form live place) (neg_ℤ u) ∷ row_against (variable_form live place) u ∷ rs) (rows_at_behind live us t place)
 
-constants_more : (own : List (List ℤ)) (place : ℕ) (before : List ℤ) (t : ℤ) (s u v : Listed ConKind)
+constants_more : (own : List (List ℤ)) (place : ℕ) (before : List ℤ) (t : ℤ) (s u v : LinearSystem ConKind)
     → HasMore s u (filter (λ x. not (is_among own x)) (rows_at s.dims before place)) → HasMore u v (filter (λ x. not (is_among own x)) (rows_at s.dims (t ∷ []) place))
     → HasMore s v (filter (λ x. not (is_among own x)) (rows_at s.dims (before ++ t ∷ []) place))
 constants_more own place before t s u v a b =
     subst (λ (rs : List (List ℤ)). HasMore s v (filter (λ x. not (is_among own x)) rs)) (sym (rows_at_behind s.dims before t place))
     (added_both own s u v (rows_at s.dims before place) (rows_at s.dims (t ∷ []) place) a b)
 
-pub constant_added : (own : List (List ℤ)) (place : ℕ) (before : List ℤ) (t : ℤ) (n : ℕ) (v : Form) (s u w : Listed ConKind) → n ≡ s.dims → v ≡ variable_form n place
+pub constant_added : (own : List (List ℤ)) (place : ℕ) (before : List ℤ) (t : ℤ) (n : ℕ) (v : Form) (s u w : LinearSystem ConKind) → n ≡ s.dims → v ≡ variable_form n place
     → HasMore s u (filter (λ x. not (is_among own x)) (rows_at s.dims before place))
     → HasMore u w (filter (λ x. not (is_among own x)) (row_of v (neg_ℤ t) ∷ row_against v t ∷ []))
     → HasMore s w (filter (λ x. not (is_among own x)) (rows_at s.dims (before ++ t ∷ []) place))
@@ -189,35 +189,36 @@ constant_added own place before t n v s u w same is a b =
 
 -- ---- the whole
 -- from an empty list
-pub once_is : (live : ℕ) (s t : Listed ConKind) (rows : List (List ℤ)) → s.dims ≡ live → s.rows ≡ [] → s.kinds ≡ [] → HasTaken s t rows → t ≡ inequalities live (rows_once rows)
+pub once_is : (live : ℕ) (s t : LinearSystem ConKind) (rows : List (List ℤ)) → s.dims ≡ live → s.rows ≡ [] → s.kinds ≡ [] → HasTaken s t rows → t ≡ inequalities live (rows_once rows)
 once_is live s t rows dims none kinds h =
     let are : t.rows ≡ rows_once rows = h.are ∙ ap (λ (so : List (List ℤ)). fold with_row so rows) none in
     let all : t.kinds ≡ map (λ (r : List ℤ). Ge) t.rows = h.kinds (kinds ∙ ap (map (λ (r : List ℤ). Ge)) (sym none)) in
     same t live (rows_once rows) (h.dims ∙ dims) are all
   where
-    same : (t : Listed ConKind) (n : ℕ) (rs : List (List ℤ)) → t.dims ≡ n → t.rows ≡ rs → t.kinds ≡ map (λ (r : List ℤ). Ge) t.rows → t ≡ inequalities n rs
+    same : (t : LinearSystem ConKind) (n : ℕ) (rs : List (List ℤ)) → t.dims ≡ n → t.rows ≡ rs → t.kinds ≡ map (λ (r : List ℤ). Ge) t.rows →
+        t ≡ inequalities n rs
     same t n rs a b c =
-        ap (λ (ks : List ConKind). let l : Listed ConKind = record { dims = t.dims; rows = t.rows; kinds = ks } in l) c ∙ ap (λ (k : ℕ). inequalities k t.rows) a ∙ ap (inequalities n) b
+        ap (λ (ks : List ConKind). let l : LinearSystem ConKind = record { dims = t.dims; rows = t.rows; kinds = ks } in l) c ∙ ap (λ (k : ℕ). inequalities k t.rows) a ∙ ap (inequalities n) b
 
 -- of a condition and of a round
-pub own_is : (live base : ℕ) (c : Cond) (a : graph.Node) (s t u : Listed ConKind) → s.dims ≡ live → s.rows ≡ [] → s.kinds ≡ [] → HasTaken s t (condition_rows s.dims base c)
+pub own_is : (live base : ℕ) (c : Cond) (a : graph.Node) (s t u : LinearSystem ConKind) → s.dims ≡ live → s.rows ≡ [] → s.kinds ≡ [] → HasTaken s t (condition_rows s.dims base c)
     → HasTaken t u (round_rows t.dims a) → u ≡ inequalities live (rows_once (condition_rows live base c ++ round_rows live a))
 own_is live base c a s t u dims none kinds first behind =
     once_is live s u (condition_rows live base c ++ round_rows live a) dims none kinds
     (subst (λ (n : ℕ). HasTaken s u (condition_rows n base c ++ round_rows n a)) dims (then_taken s t u (condition_rows s.dims base c) (λ n. round_rows n a) first behind))
 
 -- the loop's own, and then those of constants
-pub whole_is : (live n : ℕ) (constants : List ℤ) (own : List (List ℤ)) (s t : Listed ConKind) → n ≡ live → s ≡ inequalities live own
+pub whole_is : (live n : ℕ) (constants : List ℤ) (own : List (List ℤ)) (s t : LinearSystem ConKind) → n ≡ live → s ≡ inequalities live own
     → HasMore s t (filter (λ x. not (is_among s.rows x)) (rows_from s.dims constants 0 n)) → t ≡ inequalities live (all_rows own (constant_rows live constants))
 whole_is live n constants own s t all is more =
     let rest = filter (λ x. not (is_among own x)) (constant_rows live constants) in
     let so_many : HasMore s t (filter (λ x. not (is_among s.rows x)) (rows_from s.dims constants 0 live)) =
     subst (λ (k : ℕ). HasMore s t (filter (λ x. not (is_among s.rows x)) (rows_from s.dims constants 0 k))) all more in
-    let told : HasMore (inequalities live own) t rest = subst (λ (l : Listed ConKind). HasMore l t (filter (λ x. not (is_among l.rows x)) (rows_from l.dims constants 0 live))) is so_many in
+    let told : HasMore (inequalities live own) t rest = subst (λ (l : LinearSystem ConKind). HasMore l t (filter (λ x. not (is_among l.rows x)) (rows_from l.dims constants 0 live))) is so_many in
     same t live (own ++ rest) told.dims told.are (told.kinds ∙ sym (map-append (λ (r : List ℤ). Ge) own rest))
   where
-    same : (t : Listed ConKind) (n : ℕ) (rs : List (List ℤ)) → t.dims ≡ n → t.rows ≡ rs → t.kinds ≡ map (λ (r : List ℤ). Ge) rs → t ≡ inequalities n rs
+    same : (t : LinearSystem ConKind) (n : ℕ) (rs : List (List ℤ)) → t.dims ≡ n → t.rows ≡ rs → t.kinds ≡ map (λ (r : List ℤ). Ge) rs → t ≡ inequalities n rs
     same t n rs a b c =
-        ap (λ (ks : List ConKind). let l : Listed ConKind = record { dims = t.dims; rows = t.rows; kinds = ks } in l) c ∙
-        ap (λ (k : ℕ). let l : Listed ConKind = record { dims = k; rows = t.rows; kinds = map (λ (r : List ℤ). Ge) rs } in l) a ∙
-        ap (λ (xs : List (List ℤ)). let l : Listed ConKind = record { dims = n; rows = xs; kinds = map (λ (r : List ℤ). Ge) rs } in l) b
+        ap (λ (ks : List ConKind). let l : LinearSystem ConKind = record { dims = t.dims; rows = t.rows; kinds = ks } in l) c ∙
+        ap (λ (k : ℕ). let l : LinearSystem ConKind = record { dims = k; rows = t.rows; kinds = map (λ (r : List ℤ). Ge) rs } in l) a ∙
+        ap (λ (xs : List (List ℤ)). let l : LinearSystem ConKind = record { dims = n; rows = xs; kinds = map (λ (r : List ℤ). Ge) rs } in l) b

@@ -4,7 +4,7 @@ use Rattle.std.specs.Prelude as outcome_or
 use Rattle.std.specs.Prelude.{OnOk}
 use Rattle.std.specs.List.{flat_map}
 use Rattle.std.proofs.lemmas.List.{drop_all, drop_more}
-use Rattle.lra_sys.specs.Listed.{Listed}
+use Rattle.lra_systems.specs.LinearSystems.{LinearSystem}
 use Rattle.lra_linear_spec.specs.declared.ConKind.{ConKind}
 use Rattle.lra_operations.specs.declared.asides.Aside as aside
 use Rattle.lra_operations.specs.declared.graph.Exit.{Exit}
@@ -58,28 +58,29 @@ pub select_view : (q base : ℕ) (e : Expr) (arms : Vec Arm Global)
 select_view q base e arms = search (rules, the_lemmas)
 
 -- rows of a tree as it is seen
-pub taken_seen : {T E : Type 0} (r : outcome_or.Result T E) (s t : Listed ConKind) (n : ℕ) (g h : graph.Node) → g ≡ h → OnOk r (HasTaken s t (rows_in n h))
+pub taken_seen : {T E : Type 0} (r : outcome_or.Result T E) (s t : LinearSystem ConKind) (n : ℕ) (g h : graph.Node) → g ≡ h →
+    OnOk r (HasTaken s t (rows_in n h))
     → OnOk r (HasTaken s t (rows_in n g))
 taken_seen r s t n g h is taken = subst (λ (x : graph.Node). OnOk r (HasTaken s t (rows_in n x))) (sym is) taken
 
 -- the rows of what stands before are there, those of what is taken in last come behind them
-pub last_taken : {T E : Type 0} (r : outcome_or.Result T E) (s t u : Listed ConKind) (xs : List (List ℤ)) (ys : ℕ → List (List ℤ)) → HasTaken s t xs
+pub last_taken : {T E : Type 0} (r : outcome_or.Result T E) (s t u : LinearSystem ConKind) (xs : List (List ℤ)) (ys : ℕ → List (List ℤ)) → HasTaken s t xs
     → OnOk r (HasTaken t u (ys t.dims)) → OnOk r (HasTaken s u (xs ++ ys s.dims))
 last_taken (outcome_or.Ok v) s t u xs ys a b = then_taken s t u xs ys a b
 last_taken (outcome_or.Err e) s t u xs ys a b = tt
 
 -- the rows are these, told otherwise
-pub taken_as : {T E : Type 0} (r : outcome_or.Result T E) (s t : Listed ConKind) (xs ys : List (List ℤ)) → xs ≡ ys → OnOk r (HasTaken s t ys) → OnOk r (HasTaken s t xs)
+pub taken_as : {T E : Type 0} (r : outcome_or.Result T E) (s t : LinearSystem ConKind) (xs ys : List (List ℤ)) → xs ≡ ys → OnOk r (HasTaken s t ys) → OnOk r (HasTaken s t xs)
 taken_as r s t xs ys is taken = subst (λ (x : List (List ℤ)). OnOk r (HasTaken s t x)) (sym is) taken
 
 -- the trees of a row are there, and the last behind them
-pub row_ends : {T E : Type 0} (r : outcome_or.Result T E) (gs : List Node) (h : graph.Node) (i : ℕ) (s t u : Listed ConKind) → length gs ≤ i
+pub row_ends : {T E : Type 0} (r : outcome_or.Result T E) (gs : List Node) (h : graph.Node) (i : ℕ) (s t u : LinearSystem ConKind) → length gs ≤ i
     → HasTaken s t (flat_map (rows_in s.dims) (map node_view (take i gs))) → OnOk r (HasTaken t u (rows_in t.dims h)) → OnOk r (HasTaken s u (rows_in s.dims (row (map node_view gs) h)))
 row_ends (outcome_or.Ok v) gs h i s t u past before one = row_taken gs h i s t u past before one
 row_ends (outcome_or.Err e) gs h i s t u past before one = tt
 
 -- a round of two: the step's rows are there, the body's come behind them
-pub two_rounds : {T E : Type 0} (r : outcome_or.Result T E) (s t u : Listed ConKind) (n : Node) (gs : Vec Node Global) (last : Box Node Global) (inner : Node) (step : List Node)
+pub two_rounds : {T E : Type 0} (r : outcome_or.Result T E) (s t u : LinearSystem ConKind) (n : Node) (gs : Vec Node Global) (last : Box Node Global) (inner : Node) (step : List Node)
     → n ≡ Seq gs last → gs.items ≡ inner ∷ step → HasTaken s t (rows_in s.dims (row (map node_view step) (node_view last.value)))
     → OnOk r (HasTaken t u (rows_in t.dims (node_view inner))) → OnOk r (HasTaken s u (round_rows s.dims (node_view n)))
 two_rounds r s t u n gs last inner step is two first behind =
@@ -94,34 +95,36 @@ entry_rows n a l h is = ap (λ (x : Arm). rows_in_arms n (arm_view x h)) is ∙ 
 tree_rows : (n : ℕ) (a : Arm) (g : Node) (h : graph.Arms) → a ≡ Tree g → rows_in_arms n (arm_view a h) ≡ rows_in n (node_view g) ++ rows_in_arms n h
 tree_rows n a g h is = ap (λ (x : Arm). rows_in_arms n (arm_view x h)) is ∙ ap (λ (f : ArmPart). rows_in_arms n (f h)) (tree_view g)
 
-pub entry_taken : (s all : Listed ConKind) (a : Arm) (l : CaseLabel) (h : graph.Arms) → a ≡ Entry l → HasTaken s all (rows_in_arms s.dims h)
+pub entry_taken : (s all : LinearSystem ConKind) (a : Arm) (l : CaseLabel) (h : graph.Arms) → a ≡ Entry l → HasTaken s all (rows_in_arms s.dims h)
     → HasTaken s all (rows_in_arms s.dims (arm_view a h))
 entry_taken s all a l h is taken = subst (HasTaken s all) (sym (entry_rows s.dims a l h is)) taken
 
-pub tree_taken : {T E : Type 0} (r : outcome_or.Result T E) (s t all : Listed ConKind) (a : Arm) (g : Node) (h : graph.Arms) → a ≡ Tree g
+pub tree_taken : {T E : Type 0} (r : outcome_or.Result T E) (s t all : LinearSystem ConKind) (a : Arm) (g : Node) (h : graph.Arms) → a ≡ Tree g
     → OnOk r (HasTaken s t (rows_in s.dims (node_view g)))
     → OnOk r (HasTaken t all (rows_in_arms t.dims h) → HasTaken s all (rows_in_arms s.dims (arm_view a h)))
 tree_taken (outcome_or.Ok v) s t all a g h is one =
     λ taken. subst (HasTaken s all) (sym (tree_rows s.dims a g h is)) (then_taken s t all (rows_in s.dims (node_view g)) (λ n. rows_in_arms n h) one taken)
 tree_taken (outcome_or.Err e) s t all a g h is one = tt
 
-pub taken_dims : {T E : Type 0} (r : outcome_or.Result T E) (s t : Listed ConKind) (rows : List (List ℤ)) → OnOk r (HasTaken s t rows)
+pub taken_dims : {T E : Type 0} (r : outcome_or.Result T E) (s t : LinearSystem ConKind) (rows : List (List ℤ)) → OnOk r (HasTaken s t rows)
     → OnOk r (t.dims ≡ s.dims)
 taken_dims (outcome_or.Ok v) s t rows taken = taken.dims
 taken_dims (outcome_or.Err e) s t rows taken = tt
 
 -- what the arms from here on take in comes behind what those before took in
-pub record IsTakenFrom (s t : Listed ConKind) (arms behind : List Arm) : Type 0 where
+pub record IsTakenFrom (s t : LinearSystem ConKind) (arms behind : List Arm) : Type 0 where
   pub dims : t.dims ≡ s.dims
-  pub rest : (all : Listed ConKind) → HasTaken t all (rows_in_arms t.dims (arms_of (map arm_view behind)))
+  pub rest : (all : LinearSystem ConKind) → HasTaken t all (rows_in_arms t.dims (arms_of (map arm_view behind)))
       → HasTaken s all (rows_in_arms s.dims (arms_of (map arm_view arms)))
 
-pub none_taken : (s : Listed ConKind) (arms : List Arm) → IsTakenFrom s s arms (drop 0 arms)
+pub none_taken : (s : LinearSystem ConKind) (arms : List Arm) → IsTakenFrom s s arms (drop 0 arms)
 none_taken s arms = record { dims = refl; rest = λ all taken. taken }
 
-pub one_arm_taken : (s t u : Listed ConKind) (arms : List Arm) (i : ℕ) (x : Arm) → i < length arms → x ≡ get_or arms i x → IsTakenFrom s t arms (drop i arms)
+pub one_arm_taken : (s t u : LinearSystem ConKind) (arms : List Arm) (i : ℕ) (x : Arm) → i < length arms → x ≡ get_or arms i x →
+    IsTakenFrom s t arms (drop i arms)
     → u.dims ≡ t.dims
-    → ((behind : graph.Arms) (all : Listed ConKind) → HasTaken u all (rows_in_arms u.dims behind) → HasTaken t all (rows_in_arms t.dims (arm_view x behind)))
+    → ((behind : graph.Arms) (all : LinearSystem ConKind) → HasTaken u all (rows_in_arms u.dims behind) →
+    HasTaken t all (rows_in_arms t.dims (arm_view x behind)))
     → IsTakenFrom s u arms (drop (i + 1) arms)
 one_arm_taken s t u arms i x h is before same one = record {
   dims = same ∙ before.dims;
@@ -132,7 +135,7 @@ one_arm_taken s t u arms i x h is before same one = record {
     next : drop i arms ≡ x ∷ drop (i + 1) arms
     next = drop_more arms i x h ∙ ap (λ (y : Arm). y ∷ drop (i + 1) arms) (sym is)
 
-pub arms_taken : (s t : Listed ConKind) (arms : List Arm) (i : ℕ) → length arms ≤ i → IsTakenFrom s t arms (drop i arms)
+pub arms_taken : (s t : LinearSystem ConKind) (arms : List Arm) (i : ℕ) → length arms ≤ i → IsTakenFrom s t arms (drop i arms)
     → HasTaken s t (rows_in_arms s.dims (arms_of (map arm_view arms)))
 arms_taken s t arms i past so = so.rest t (subst (λ (xs : List Arm). HasTaken t t (rows_in_arms t.dims (arms_of (map arm_view xs))))
     (sym (drop_all i arms past))

@@ -1,6 +1,6 @@
 -- Sums and chains, of which a linear form is made, and a division's parts.
 use Rattle.std.specs.Prelude.{ℕ, List, [], ◌∷◌, ℤ, ◌+ℤ◌, ◌-ℤ◌, Bool, true, false, Option, Some}
-use Rattle.lra_lin.specs.Form.{Form}
+use Rattle.lra_linear_forms.specs.Form.{Form}
 use Rattle.lra_base.specs.Operators.{Operator}
 use Rattle.lra_program.specs.Program.{Expr}
 use Rattle.lra_program.specs.Value.{◌>>=◌}

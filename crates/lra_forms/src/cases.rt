@@ -10,7 +10,7 @@ ghost use Rattle.lra_flow.specs.MovesOf as moves;
 use crate::seen::{extend_form, form_behind};
 use lra_domain::Change;
 use lra_flow::Division;
-use lra_lin::{LinExpr, Test};
+use lra_linear_forms::{LinExpr, Test};
 use lra_linear_spec::ConKind;
 use std::alloc::{AllocError, Global};
 

@@ -8,7 +8,7 @@ ghost use Rattle.lra_flow.specs.MovesOf.{comparison_as, opposite_comparison};
 
 use crate::forms::{constant_of, form_of_expression, multiple_of, sum_of_forms};
 use lra_base::Comparison;
-use lra_lin::{LinExpr, Test};
+use lra_linear_forms::{LinExpr, Test};
 use lra_linear_spec::ConKind;
 use lra_program::Expr;
 use std::alloc::{AllocError, Global};

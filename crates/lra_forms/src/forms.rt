@@ -12,7 +12,7 @@ ghost use Rattle.lra_flow.specs.Linear.{constant_form, form_of, live_form, varia
 ghost use Rattle.lra_forms.specs.Forms.{sum_of, rest_form};
 
 use lra_base::Operator;
-use lra_lin::LinExpr;
+use lra_linear_forms::LinExpr;
 use lra_program::{Expr, Operation, Slot};
 use std::alloc::{AllocError, Global};
 

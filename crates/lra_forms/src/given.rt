@@ -12,10 +12,10 @@ ghost use Rattle.lra_forms.specs.Given.{HasMore};
 
 use crate::comparisons::{comparison_where, difference_of, test_of};
 use lra_base::{Comparison, NumberType};
-use lra_lin::LinExpr;
+use lra_linear_forms::LinExpr;
 use lra_program::{Cond, Expr};
 use lra_row::Row;
-use lra_sys::{ConKind, ConSys};
+use lra_systems::{ConKind, ConSys};
 use std::alloc::{AllocError, Global};
 
 /// The number times -1 comes last.

@@ -3,7 +3,7 @@
 ghost use Rattle.std.specs.Prelude.{◌≡◌, ◌<◌, ◌^◌, ◌&&◌, pos, None, int_le, length, map, IfOk};
 ghost use Rattle.lra_base.specs.OperatorViews.{operator_view};
 ghost use Rattle.lra_program.specs.ProgramViews.{chained, expr_view, operation_view};
-ghost use Rattle.lra_lin.specs.Form.{opposite_form};
+ghost use Rattle.lra_linear_forms.specs.Form.{opposite_form};
 ghost use Rattle.lra_flow.specs.Linear.{fitting, is_constant, constant_form, form_of};
 ghost use Rattle.lra_forms.specs.Forms as forms;
 ghost use Rattle.lra_flow.specs.Seen.{extended, behind_form, one_more, division, share_form, share_of};
@@ -14,7 +14,7 @@ ghost use Rattle.lra_flow.specs.Seen.{linear_if, divided_if, subtracted, differe
 use crate::forms::{constant_of, form_of_chain, form_of_expression, has_no_variable, sum_of_forms};
 use lra_base::Operator;
 use lra_flow::{Division, Seen};
-use lra_lin::LinExpr;
+use lra_linear_forms::LinExpr;
 use lra_program::{Expr, Operation};
 use std::alloc::{AllocError, Global};
 

@@ -5,7 +5,7 @@ ghost use Rattle.std.specs.Cmp.Lexicographic.{pointwise};
 ghost use Rattle.std.specs.List.{filter};
 ghost use Rattle.std.specs.Ordering.{int_eq};
 ghost use Rattle.lra_linear_spec.specs.Range.{InRange};
-ghost use Rattle.lra_sys.specs.Listed.{Listed};
+ghost use Rattle.lra_systems.specs.LinearSystems.{LinearSystem};
 ghost use Rattle.lra_linear_spec.specs.declared.ConKind.{ConKind};
 ghost use Rattle.lra_operations.specs.Graph.{Arms};
 ghost use Rattle.lra_operations.specs.GraphViews.{node_view, op_view, row, arm_view, arms_of};
@@ -21,12 +21,12 @@ use crate::comparisons::difference_of;
 use crate::forms::unit_form;
 use crate::given::push_negated;
 use lra_base::NumberType;
-use lra_lin::LinExpr;
+use lra_linear_forms::LinExpr;
 use lra_linear_spec::ConKind;
 use lra_operations::{Arm, Node, Op};
 use lra_program::{Cond, Expr};
 use lra_row::Row;
-use lra_sys::ConSys;
+use lra_systems::ConSys;
 use std::alloc::{AllocError, Global};
 
 /// No row with a number of a greater magnitude is given.
@@ -294,7 +294,8 @@ fn take_arms(alloc: Global, arms: &[Arm], rows: &mut ConSys) -> Result<(), Alloc
 fn take_arm(alloc: Global, arm: &Arm, rows: &mut ConSys) -> Result<(), AllocError>
     requires { rows.old.dims < 2 ^ 62 }
     ensures dims { OnOk result (rows.new.dims ≡ rows.old.dims) }
-    ensures taken { (behind : Arms) (all : Listed ConKind) → OnOk result (HasTaken rows.new all
+    ensures taken { (behind : Arms) (all : LinearSystem ConKind) →
+        OnOk result (HasTaken rows.new all
         (rows_in_arms rows.new.dims behind) → HasTaken rows.old all
         (rows_in_arms rows.old.dims (arm_view arm.now behind))) }
 {

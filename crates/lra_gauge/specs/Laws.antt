@@ -3,7 +3,7 @@ use Rattle.std.proofs.Common.{◌≡◌, ℕ, zero, suc, max, ◌<◌, ◌≤◌
 use Rattle.std.proofs.Common.{Option, None, pos, replicate}
 use Rattle.std.proofs.lemmas.List.{length-replicate}
 use Rattle.lra_domain.specs.Bounds.{IsBetween}
-use Rattle.lra_lin.specs.Form.{form_value}
+use Rattle.lra_linear_forms.specs.Form.{form_value}
 use Rattle.std.proofs.Math.Nat.{max-le}
 use Rattle.lra_domain.specs.Actions.{Within}
 use Rattle.lra_domain.specs.Laws.{Laws, PlainLaws}

@@ -1,7 +1,7 @@
 -- The meaning of gauges: a value has all stores of its dimensions or none, and bounds a number beside them that no
 -- change touches.
 use Rattle.std.specs.Prelude.{◌≡◌, ℕ, zero, suc, ◌-◌, ◌<◌, ◌≤◌, max, ℤ, List, [], ◌∷◌, length, None, ⊤}
-use Rattle.lra_sys.specs.Listed.{Listed}
+use Rattle.lra_systems.specs.LinearSystems.{LinearSystem}
 use Rattle.lra_linear_spec.specs.declared.ConKind.{ConKind}
 use Rattle.lra_domain.specs.Actions.{dims_after, HoldsStores, KeepsStores}
 use Rattle.lra_domain.specs.declared.Included.{Included}
@@ -28,7 +28,7 @@ GaugeAnswers h a No = ¬ Under a h
 GaugeAnswers h a Wide = Passes 100 h.bound a.bound
 
 -- no part, or one without rows
-abbrev pub gauge_parts : ℕ → ℕ → List (Listed ConKind)
+abbrev pub gauge_parts : ℕ → ℕ → List (LinearSystem ConKind)
 gauge_parts n zero = []
 gauge_parts n (suc bound) = record { dims = n; rows = []; kinds = [] } ∷ []
 

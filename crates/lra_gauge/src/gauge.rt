@@ -5,8 +5,8 @@ ghost use Rattle.lra_gauge.specs.Meaning.{gauge_meaning};
 
 use crate::bounds::{UNBOUNDED, compare, grow_bounds, join_bounds};
 use lra_domain::{Domain, Exactness, Grown, Included, Mode, Plain, Rank, Told};
-use lra_lin::{LinExpr, Test};
-use lra_sys::ConSys;
+use lra_linear_forms::{LinExpr, Test};
+use lra_systems::ConSys;
 use std::alloc::{AllocError, Global};
 
 /// All stores of some dimensions, or none where the bound is 0; the bound is of a number beside the stores.

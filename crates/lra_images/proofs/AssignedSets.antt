@@ -11,7 +11,7 @@ use Rattle.lra_linear_spec.specs.Vectors.{entry, product}
 use Rattle.lra_linear_spec.specs.declared.GenKind.{GenKind}
 use Rattle.lra_linear_spec.proofs.Polyhedra.{con_gen}
 use Rattle.lra_linear_spec.proofs.Products.{entry_set_other}
-use Rattle.lra_sys.specs.Listed.{Listed, generators}
+use Rattle.lra_systems.specs.LinearSystems.{LinearSystem, generators}
 use Rattle.lra_lists.proofs.Assigning.{assigned_map, assigning}
 use Rattle.lra_lists.proofs.MappedSets.{mapped_from, mapped_in, widths_of}
 use Rattle.lra_poly.proofs.TakenGenerators.{Takes}
@@ -44,7 +44,7 @@ image_forgets n k form P above x i f = record {
       ap (λ (z : ℤ). z *ℤ entry x 0) (entry_set_other f.from k j (product form f.from) other);
 }
 
-pub image_takes : (p : Polyhedron) (list all : Listed GenKind) (x : ℕ) (form : List ℤ) → IsPolyhedron p → x < p.dims →
+pub image_takes : (p : Polyhedron) (list all : LinearSystem GenKind) (x : ℕ) (form : List ℤ) → IsPolyhedron p → x < p.dims →
     list.dims ≡ p.dims → generators list ≡ p.generators → all.dims ≡ list.dims →
     generators all ≡ mapped (suc x) form (generators list) →
     Takes p.dims (Image p.dims (suc x) form (Con p.rows)) (mapped (suc x) form p.generators) all
@@ -55,13 +55,13 @@ image_takes p list all x form h low ed eg ad ag = record {
 }
 
 -- as the code tells it
-pub image_taken : (p : Polyhedron) (given list : Listed GenKind) (x : ℕ) (form : List ℤ)
-    (r : Result (Listed GenKind) Loss) →
+pub image_taken : (p : Polyhedron) (given list : LinearSystem GenKind) (x : ℕ) (form : List ℤ)
+    (r : Result (LinearSystem GenKind) Loss) →
     IsPolyhedron p → x < p.dims → given.dims ≡ p.dims → generators given ≡ p.generators → r ≡ Ok list →
     IfOk r (λ all. all.dims ≡ given.dims) → IfOk r (λ all. generators all ≡ mapped (suc x) form (generators given)) →
     Takes p.dims (Image p.dims (suc x) form (Con p.rows)) (mapped (suc x) form p.generators) list
 image_taken p given list x form r h low ed eg is dims all =
     image_takes p given list x form h low ed eg
-    (subst (λ (q : Result (Listed GenKind) Loss). IfOk q (λ l. l.dims ≡ given.dims)) is dims)
-    (subst (λ (q : Result (Listed GenKind) Loss). IfOk q (λ l. generators l ≡ mapped (suc x) form (generators given)))
+    (subst (λ (q : Result (LinearSystem GenKind) Loss). IfOk q (λ l. l.dims ≡ given.dims)) is dims)
+    (subst (λ (q : Result (LinearSystem GenKind) Loss). IfOk q (λ l. generators l ≡ mapped (suc x) form (generators given)))
     is all)

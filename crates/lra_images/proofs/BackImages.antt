@@ -10,7 +10,7 @@ use Rattle.lra_linear_spec.specs.Vectors.{entry, product}
 use Rattle.lra_linear_spec.proofs.Descriptions.{gen_generated, generated_gen}
 use Rattle.lra_linear_spec.proofs.Polyhedra.{con_gen}
 use Rattle.lra_linear_spec.proofs.Ring.{ring, v, ◌⊗◌}
-use Rattle.lra_lin.specs.Form.{Form, form_row}
+use Rattle.lra_linear_forms.specs.Form.{Form, form_row}
 use Rattle.lra_poly.proofs.PolyLemmas.{same_polyhedron}
 use Rattle.lra_lists.specs.Moving.{TakesBack}
 use Rattle.lra_lists.proofs.Assigning.{assigning, assigning_linear, set_entry}

@@ -21,7 +21,7 @@ use Rattle.lra_linear_spec.proofs.Ring.{ring, v, ⊖, ◌⊕◌, ◌⊗◌}
 use Rattle.lra_linear_spec.proofs.Signs.{as_nat, positive_is_nonnegative, positive_nat, times_positive}
 use Rattle.lra_linear_spec.proofs.UnitRows.{unit_here, unit_length, unit_other}
 use Rattle.lra_descriptions.proofs.SeveralKinds.{system_append}
-use Rattle.lra_sys.specs.Listed.{Listed, generators}
+use Rattle.lra_systems.specs.LinearSystems.{LinearSystem, generators}
 use Rattle.lra_linear_spec.specs.declared.GenKind.{GenKind}
 use Rattle.lra_lists.proofs.ListLemmas.{line_seen}
 use Rattle.lra_poly.proofs.PolyLemmas.{same_polyhedron}
@@ -127,7 +127,7 @@ forget_generators p k h above low = (
       },
 )
 
-pub forget_takes : (p : Polyhedron) (list all : Listed GenKind) (x : ℕ) → IsPolyhedron p → x < p.dims →
+pub forget_takes : (p : Polyhedron) (list all : LinearSystem GenKind) (x : ℕ) → IsPolyhedron p → x < p.dims →
     list.dims ≡ p.dims → generators list ≡ p.generators → all.dims ≡ list.dims →
     generators all ≡ generators list ++ line (unit_row list.dims (suc x)) ∷ [] →
     Takes p.dims (Forget p.dims (suc x) (Con p.rows)) (p.generators ++ line (unit_row p.dims (suc x)) ∷ []) all

@@ -7,7 +7,7 @@ use Rattle.lra_linear_spec.specs.Polyhedra.{Polyhedron}
 use Rattle.lra_linear_spec.specs.SetOperations.{Forget, Image}
 use Rattle.lra_linear_spec.specs.Strain.{Loss}
 use Rattle.lra_linear_spec.specs.declared.GenKind.{GenKind}
-use Rattle.lra_sys.specs.Listed.{Listed, generators}
+use Rattle.lra_systems.specs.LinearSystems.{LinearSystem, generators}
 use Rattle.lra_poly.specs.Outcomes.{Becomes, IfFlagged, IsOfGenerators}
 use Rattle.lra_poly.specs.declared.outcome.Outcome.{Outcome}
 use Rattle.lra_poly.specs.declared.outcome.Outcome.TheVariants.{Exact, Flagged}
@@ -22,7 +22,7 @@ is_forgotten k p q (Flagged loss) b =
     record { dims = b.dims; canonical = b.canonical; within = b.within; exact = inr (loss, b.flagged) }
 
 -- in place of generators that strain, and give no more
-pub forgotten_instead : (k : ℕ) (p made new : Polyhedron) (list : Listed GenKind) (o : Outcome) → (o ≡ Exact → ⊥) →
+pub forgotten_instead : (k : ℕ) (p made new : Polyhedron) (list : LinearSystem GenKind) (o : Outcome) → (o ≡ Exact → ⊥) →
     list.dims ≡ p.dims → IsWithin p.dims (Gen (generators list)) (Forget p.dims k (Con p.rows)) → IsForgotten k p new →
     IsOfGenerators list.dims (generators list) made o → IsOfGenerators list.dims (generators list) new o
 forgotten_instead k p made new list Exact strains dims within f b = absurd (strains refl)

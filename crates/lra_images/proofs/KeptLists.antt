@@ -4,7 +4,7 @@ use Rattle.std.specs.List.{Contains}
 use Rattle.lra_linear_spec.specs.declared.ConKind.{ConKind}
 use Rattle.lra_linear_spec.specs.Descriptions.{LinearRow}
 use Rattle.lra_linear_spec.specs.OperationStrain.{substituted_rows, with_positivity}
-use Rattle.lra_sys.specs.Listed.{Listed, constraints}
+use Rattle.lra_systems.specs.LinearSystems.{LinearSystem, constraints}
 use Rattle.lra_lists.specs.Forming.{AllFormed}
 use Rattle.lra_poly.specs.Narrowed.{IsTried}
 use Rattle.lra_images.specs.FormedPreimages.{IsOfFormed}
@@ -45,7 +45,7 @@ pub stays_back_for : (p : Polyhedron) (x : ℕ) (form row : List ℤ) → row �
 stays_back_for p x form row er h = subst (λ (f : List ℤ). StaysBackFor (suc x) f p) er (subst (λ (k : ℕ). StaysBackFor k row p) (add-one x) h)
 
 -- ---- preimages of what can be formed
-pub of_formed : (k : ℕ) (form : List ℤ) (p made : Polyhedron) (list : Listed ConKind) (rows : List LinearRow) (o : Outcome) → list.dims ≡ p.dims →
+pub of_formed : (k : ℕ) (form : List ℤ) (p made : Polyhedron) (list : LinearSystem ConKind) (rows : List LinearRow) (o : Outcome) → list.dims ≡ p.dims →
     rows ≡ p.rows →
     ((g : LinearRow) → Contains (constraints list) g → Contains (substituted_rows k form rows) g) → AllFormed k form rows (constraints list) →
     IsTried list.dims (with_positivity list.dims []) (constraints list) made o → IsOfFormed k form p made

@@ -14,8 +14,8 @@ use Rattle.lra_linear_spec.proofs.Ring.{ring, v, ◌⊕◌, ◌⊗◌}
 use Rattle.lra_linear_spec.proofs.Signs.{between_opposites, not_both, times_positive}
 use Rattle.lra_linear_spec.proofs.Spans.{spanned_row, spanned_zero}
 use Rattle.lra_linear_spec.proofs.Lines.{entry_zeros, zeros_length}
-use Rattle.lra_canon.specs.Reduced.{IsReducedBy}
-use Rattle.lra_canon.proofs.Extension.{member_leads}
+use Rattle.lra_canonical.specs.Reduced.{IsReducedBy}
+use Rattle.lra_canonical.proofs.Extension.{member_leads}
 use Rattle.lra_lists.proofs.TakenBack.{put_at, put_other, substituted_entry, substituted_width}
 use Rattle.lra_lists.proofs.Assigning.{put}
 

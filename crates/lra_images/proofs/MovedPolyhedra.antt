@@ -31,11 +31,11 @@ use Rattle.lra_linear_spec.proofs.Products.{negated_length}
 use Rattle.lra_linear_spec.proofs.RowOrder.{row_cmp_total}
 use Rattle.lra_linear_spec.proofs.Signs.{positive_is_nonnegative, zero_at_least}
 use Rattle.lra_linear_spec.specs.declared.ConKind.{ConKind}
-use Rattle.lra_sys.specs.Listed.{FitKinds, Listed, constraints, generators}
+use Rattle.lra_systems.specs.LinearSystems.{FitKinds, LinearSystem, constraints, generators}
 use Rattle.lra_linear_spec.specs.declared.GenKind.{GenKind}
-use Rattle.lra_canon.specs.Echelons.{HaveWidth}
-use Rattle.lra_canon.specs.Reduced.{IsReducedBy}
-use Rattle.lra_canon.proofs.Orders.{tied_itself}
+use Rattle.lra_canonical.specs.Echelons.{HaveWidth}
+use Rattle.lra_canonical.specs.Reduced.{IsReducedBy}
+use Rattle.lra_canonical.proofs.Orders.{tied_itself}
 use Rattle.lra_descriptions.specs.ShownLists.{ListsGenerators, ShowsConstraints, ShowsGenerators, without}
 use Rattle.lra_pair.proofs.ConstraintLists.{listed_facets, listed_hold}
 use Rattle.lra_pair.proofs.GeneratorLists.{flat_rows, listed_counted, listed_have, nothing_generated, system_of_generators}
@@ -136,7 +136,7 @@ moved p h k f g eqs ineqs lines rays m = record {
 record FacetsMoved (p : Polyhedron) (h : HasPoint p) (eqs ineqs lines rays facets : List (List ℤ)) : Type 0 where
   canonical : IsCanonical eqs facets
   dual : AreDual (suc p.dims) (all_rows eqs facets) (all_rows lines rays)
-  shows : (rows : Listed ConKind) → ShowsConstraints p.dims eqs ineqs rows → ShowsConstraints p.dims eqs facets rows
+  shows : (rows : LinearSystem ConKind) → ShowsConstraints p.dims eqs ineqs rows → ShowsConstraints p.dims eqs facets rows
   few : length facets ≤ length h.facets
 
 -- as many rows as before
@@ -145,7 +145,8 @@ moved_length form m rows ts are = reduced_length form (map m rows) ts are ∙ le
 
 facets_moved_by : (p : Polyhedron) (h : HasPoint p) (k : ℕ) (f g : List ℤ) (eqs ineqs lines rays listed facets : List (List ℤ)) → Moved p h k f g eqs ineqs lines rays → Facets p h listed →
     AreReducedBy eqs (map (substituted k g) listed) facets → ((t : List ℤ) → Contains (all_rows eqs facets) t → length t ≡ suc p.dims) →
-    ((rows : Listed ConKind) → ShowsConstraints p.dims eqs ineqs rows → ShowsConstraints p.dims eqs facets rows) → FacetsMoved p h eqs ineqs lines rays facets
+    ((rows : LinearSystem ConKind) → ShowsConstraints p.dims eqs ineqs rows → ShowsConstraints p.dims eqs facets rows) →
+    FacetsMoved p h eqs ineqs lines rays facets
 facets_moved_by p h k f g eqs ineqs lines rays listed facets m x are widths shows =
     let w = suc p.dims in
     record {
@@ -194,7 +195,7 @@ facets_moved p h k f g eqs ineqs lines rays m = elim (facets_listed p h) [
     left_out : (r : List ℤ) (rows : List (List ℤ)) → without r (r ∷ rows) ≡ without r rows
     left_out r rows = ap (λ (b : Ordering). cond (is_eq b) (without r rows) (r ∷ without r rows)) (tied_itself row_cmp row_cmp_total r)
 
-    with_positive : (rows : Listed ConKind) → ShowsConstraints p.dims eqs ineqs rows → ShowsConstraints p.dims eqs (positivity p.dims ∷ ineqs) rows
+    with_positive : (rows : LinearSystem ConKind) → ShowsConstraints p.dims eqs ineqs rows → ShowsConstraints p.dims eqs (positivity p.dims ∷ ineqs) rows
     with_positive rows s = record {
       inequalities = s.inequalities;
       rows_are = s.rows_are;
@@ -266,7 +267,7 @@ mapped_back p h k f g eqs ineqs lines rays m u x =
     (generated_through cone (all_rows lines rays) u (from_form (map (assigned k f) h.lines) (map (assigned k f) (h.points ++ h.rays)) lines rays m.lines_form m.rays_reduced) x))
 
 -- ---- the polyhedron
-some_listed : (p : Polyhedron) (h : HasPoint p) (k : ℕ) (f g : List ℤ) (eqs ineqs lines rays : List (List ℤ)) (list : Listed GenKind) → Moved p h k f g eqs ineqs lines rays →
+some_listed : (p : Polyhedron) (h : HasPoint p) (k : ℕ) (f g : List ℤ) (eqs ineqs lines rays : List (List ℤ)) (list : LinearSystem GenKind) → Moved p h k f g eqs ineqs lines rays →
     ShowsGenerators lines rays list → ListsGenerators lines rays list
 some_listed p h k f g eqs ineqs lines rays list m (inr l) = l
 some_listed p h k f g eqs ineqs lines rays list m (inl none) =
@@ -281,7 +282,7 @@ some_listed p h k f g eqs ineqs lines rays list m (inl none) =
     (to_form (map (assigned k f) h.lines) (map (assigned k f) (h.points ++ h.rays)) lines rays m.lines_form m.rays_reduced t
     (Contains-append_left (map (assigned k f) (h.points ++ h.rays)) (both_ways (map (assigned k f) h.lines)) t (map_has (assigned k f) (h.points ++ h.rays) v.0 here))))
 
-pub moved_polyhedron : (p : Polyhedron) (h : HasPoint p) (k : ℕ) (f g : List ℤ) (eqs ineqs lines rays : List (List ℤ)) (rows : Listed ConKind) (list : Listed GenKind) →
+pub moved_polyhedron : (p : Polyhedron) (h : HasPoint p) (k : ℕ) (f g : List ℤ) (eqs ineqs lines rays : List (List ℤ)) (rows : LinearSystem ConKind) (list : LinearSystem GenKind) →
     AreMoved p k f g eqs ineqs lines rays → ShowsConstraints p.dims eqs ineqs rows → ShowsGenerators lines rays list →
     IsPolyhedronOf p.dims (Image p.dims k f (Con p.rows)) (record { dims = p.dims; rows = constraints rows; generators = generators list }) × FitKinds list.rows list.kinds
 moved_polyhedron p h k f g eqs ineqs lines rays rows list am sc sg =
@@ -319,7 +320,8 @@ moved_polyhedron p h k f g eqs ineqs lines rays rows list am sc sg =
     )
 
 -- the lists keep the limit that those of P keep
-moved_limit : (p : Polyhedron) (h : HasPoint p) (k : ℕ) (f g : List ℤ) (eqs ineqs lines rays : List (List ℤ)) (rows : Listed ConKind) (list : Listed GenKind) →
+moved_limit : (p : Polyhedron) (h : HasPoint p) (k : ℕ) (f g : List ℤ) (eqs ineqs lines rays : List (List ℤ)) (rows : LinearSystem ConKind)
+    (list : LinearSystem GenKind) →
     AreMoved p k f g eqs ineqs lines rays → ShowsConstraints p.dims eqs ineqs rows → ShowsGenerators lines rays list → length h.facets ≤ row_limit → length (h.points ++ h.rays) ≤ row_limit →
     KeepsLimit (record { dims = p.dims; rows = constraints rows; generators = generators list })
 moved_limit p h k f g eqs ineqs lines rays rows list am sc sg few less =
@@ -342,7 +344,7 @@ moved_limit p h k f g eqs ineqs lines rays rows list am sc sg few less =
 
 -- ---- as the code tells it
 -- the lists that are made of a polyhedron's
-pub record IsMoving (p : Polyhedron) (k : ℕ) (f g : List ℤ) (rows : Listed ConKind) (list : Listed GenKind) : Type 0 where
+pub record IsMoving (p : Polyhedron) (k : ℕ) (f g : List ℤ) (rows : LinearSystem ConKind) (list : LinearSystem GenKind) : Type 0 where
   pub canonical : IsPolyhedron p
   pub some : ¬ (IsEmptySet p.dims (Con p.rows))
   pub above : 0 < k
@@ -351,7 +353,8 @@ pub record IsMoving (p : Polyhedron) (k : ℕ) (f g : List ℤ) (rows : Listed C
   pub generators_moved : IsAssignedList p.dims k f p.generators list
   pub dims : rows.dims ≡ p.dims
 
-pub is_moving : (p : Polyhedron) (given : Listed ConKind) (by : Listed GenKind) (k : ℕ) (f g : List ℤ) (rows : Listed ConKind) (list : Listed GenKind) →
+pub is_moving : (p : Polyhedron) (given : LinearSystem ConKind) (by : LinearSystem GenKind) (k : ℕ) (f g : List ℤ) (rows : LinearSystem ConKind)
+    (list : LinearSystem GenKind) →
     IsPolyhedron p → ¬ (IsEmptySet p.dims (Con p.rows)) → 0 < k → TakesBack k (suc p.dims) f g → given.dims ≡ p.dims → constraints given ≡ p.rows → by.dims ≡ p.dims → generators by ≡ p.generators →
     IsSubstitutedList given.dims k g (constraints given) rows → IsAssignedList by.dims k f (generators by) list → rows.dims ≡ given.dims → IsMoving p k f g rows list
 is_moving p given by k f g rows list h some above back ed er eb eg cs gs d = record {
@@ -374,7 +377,7 @@ both_wide w lines rays hl hr t k = elim (Contains-append_cases rays (both_ways l
       elim l.sign [ inl e ↦ ap length e ∙ wide | inr e ↦ ap length e ∙ negated_length l.line ∙ wide ]
 ]
 
-are_moved : (p : Polyhedron) (k : ℕ) (f g : List ℤ) (rows : Listed ConKind) (list : Listed GenKind) (m : IsMoving p k f g rows list) →
+are_moved : (p : Polyhedron) (k : ℕ) (f g : List ℤ) (rows : LinearSystem ConKind) (list : LinearSystem GenKind) (m : IsMoving p k f g rows list) →
     AreMoved p k f g m.constraints_moved.lines m.constraints_moved.rays m.generators_moved.lines m.generators_moved.rays
 are_moved p k f g rows list m = let c = m.constraints_moved in let r = m.generators_moved in record {
   column = m.above;
@@ -387,7 +390,7 @@ are_moved p k f g rows list m = let c = m.constraints_moved in let r = m.generat
   generator_widths = both_wide (suc p.dims) r.lines r.rays r.line_widths r.ray_widths;
 }
 
-pub moved_image : (p : Polyhedron) (k : ℕ) (f g : List ℤ) (rows : Listed ConKind) (list : Listed GenKind) → IsMoving p k f g rows list →
+pub moved_image : (p : Polyhedron) (k : ℕ) (f g : List ℤ) (rows : LinearSystem ConKind) (list : LinearSystem GenKind) → IsMoving p k f g rows list →
     IsPolyhedronOf p.dims (Image p.dims k f (Con p.rows)) (record { dims = rows.dims; rows = constraints rows; generators = generators list }) × FitKinds list.rows list.kinds
 moved_image p k f g rows list m =
     let c = m.constraints_moved in
@@ -396,7 +399,8 @@ moved_image p k f g rows list m =
     (moved_polyhedron p (with_point p m.canonical m.some) k f g c.lines c.rays r.lines r.rays rows list
     (are_moved p k f g rows list m) c.shown r.shown)
 
-pub image_limit : (p : Polyhedron) (k : ℕ) (f g : List ℤ) (rows : Listed ConKind) (list : Listed GenKind) → IsMoving p k f g rows list → KeepsLimit p →
+pub image_limit : (p : Polyhedron) (k : ℕ) (f g : List ℤ) (rows : LinearSystem ConKind) (list : LinearSystem GenKind) → IsMoving p k f g rows list →
+    KeepsLimit p →
     KeepsLimit (record { dims = rows.dims; rows = constraints rows; generators = generators list })
 image_limit p k f g rows list m (inl none) = absurd (m.some (falsity_is_empty p.dims p.rows none.0))
 image_limit p k f g rows list m (inr (h, few, less)) =

@@ -16,16 +16,16 @@ ghost use Rattle.lra_lists.specs.Moving.{StaysBackFor, StaysFor};
 ghost use Rattle.lra_poly.specs.Outcomes.{Becomes, IfFlagged, IsOfGenerators};
 ghost use Rattle.lra_poly.specs.United.{AreTriedPoints};
 ghost use Rattle.lra_duality.specs.Rows.{test_row};
-ghost use Rattle.lra_lin.specs.Form.{form_row};
-ghost use Rattle.lra_sys.specs.Listed.{generators, FitKinds};
+ghost use Rattle.lra_linear_forms.specs.Form.{form_row};
+ghost use Rattle.lra_systems.specs.LinearSystems.{generators, FitKinds};
 
 use crate::moved::{move_back, move_forward};
 use lra_cone::Loss;
-use lra_lin::{LinExpr, Test};
+use lra_linear_forms::{LinExpr, Test};
 use lra_lists::{assign_list, line_along, substitute_list, with_line};
 use lra_poly::{Outcome, Poly};
 use lra_row::Row;
-use lra_sys::{ConKind, GenSys};
+use lra_systems::{ConKind, GenSys};
 use std::alloc::{AllocError, Global};
 
 // Lets the coordinate x be anything, where the generators are converted from nothing.

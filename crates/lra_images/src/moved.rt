@@ -11,7 +11,7 @@ ghost use Rattle.lra_lists.specs.Moving.{SubstitutionPasses, TakesBack};
 use lra_lists::{assign_canonically, substitute_canonically, take_back};
 use lra_poly::Poly;
 use lra_row::{Row, RowError};
-use lra_sys::TOO_MANY_DIMENSIONS;
+use lra_systems::TOO_MANY_DIMENSIONS;
 use std::alloc::AllocError;
 
 // The image under the assignment of the form to the column, which the other form takes back. Or names a number that

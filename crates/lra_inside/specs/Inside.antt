@@ -1,7 +1,7 @@
 -- What is told of accesses behind others, as the definitions have it.
 use Rattle.std.specs.Prelude.{◌≡◌, ℕ, List, Bool, Option, None, Some, Vec, length, ⊤}
 use Rattle.std.specs.declared.alloc.Global.{Global}
-use Rattle.lra_lin.specs.declared.test.Test.{Test}
+use Rattle.lra_linear_forms.specs.declared.test.Test.{Test}
 use Rattle.lra_domain.specs.Meaning.{Meaning}
 use Rattle.lra_domain.specs.declared.Exactness.{Exactness}
 use Rattle.lra_base.specs.declared.refusals.Place.{Place}

@@ -21,7 +21,7 @@ use lra_doings::Doing;
 use lra_domain::{Domain, Exactness, worse};
 use lra_fits::{Leaf, Question, Surroundings, Verdict, judge_condition};
 use lra_forms::form_of_expression;
-use lra_lin::{LinExpr, Test};
+use lra_linear_forms::{LinExpr, Test};
 use lra_operations::Op;
 use lra_program::Expr;
 use std::alloc::{AllocError, Global};

@@ -3,13 +3,13 @@
 ghost use Rattle.std.specs.Prelude.{◌≡◌, IfOk, length, map};
 ghost use Rattle.serde_json.specs.Data.{string};
 ghost use Rattle.serde_json.specs.View.{view};
-ghost use Rattle.lra_sys.specs.Listed.{FitKinds};
+ghost use Rattle.lra_systems.specs.LinearSystems.{FitKinds};
 ghost use Rattle.lra_show.specs.Texts as written;
 ghost use Rattle.lra_show.specs.Lists.{shown_rows, shown_generators};
 
 use lra_row::Row;
 use lra_show::{Names, generator_text, row_text};
-use lra_sys::{ConKind, GenKind};
+use lra_systems::{ConKind, GenKind};
 use serde_json::Value;
 use std::alloc::{AllocError, Global};
 

@@ -9,7 +9,7 @@ use Rattle.lra_linear_spec.specs.Cones.{with_row}
 use Rattle.lra_linear_spec.specs.Descriptions.{LinearRow, system_of}
 use Rattle.lra_linear_spec.specs.Kinds.{is_equality}
 use Rattle.lra_linear_spec.specs.Vectors.{negated}
-use Rattle.lra_sys.specs.Listed.{Listed, constraints, given_by}
+use Rattle.lra_systems.specs.LinearSystems.{LinearSystem, constraints, rows_by_kind}
 use Rattle.lra_multipliers.specs.Symbols.{Walked, walk_of, width_of}
 use Rattle.lra_multipliers.specs.Multipliers.{Multipliers, Answer}
 use Rattle.lra_certificate.specs.Certificates.{Along, premises_of}
@@ -53,15 +53,15 @@ turn_same f g h (x ∷ xs) l =
 
 -- ---- row by row
 given_from : {K : Type 0} (equal : K → Bool) (rows : List (List ℤ)) (kinds : List K) (i : ℕ) (r : List ℤ) (k : K) → slice_get rows i ≡ Some r →
-    slice_get kinds i ≡ Some k → drop i (given_by equal rows kinds) ≡ record { row = r; equal = equal k } ∷ drop (suc i) (given_by equal rows kinds)
+    slice_get kinds i ≡ Some k → drop i (rows_by_kind equal rows kinds) ≡ record { row = r; equal = equal k } ∷ drop (suc i) (rows_by_kind equal rows kinds)
 given_from equal [] kinds i r k er ek = absurd (none-some r er)
 given_from equal (x ∷ rows) [] i r k er ek = absurd (none-some k ek)
 given_from {K = K} equal (x ∷ rows) (y ∷ kinds) zero r k er ek =
-    ap (λ (z : List ℤ). (let g : LinearRow = record { row = z; equal = equal y } in g) ∷ given_by equal rows kinds) (same_Some x r er) ∙
-    ap (λ (z : K). (let g : LinearRow = record { row = r; equal = equal z } in g) ∷ given_by equal rows kinds) (same_Some y k ek)
+    ap (λ (z : List ℤ). (let g : LinearRow = record { row = z; equal = equal y } in g) ∷ rows_by_kind equal rows kinds) (same_Some x r er) ∙
+    ap (λ (z : K). (let g : LinearRow = record { row = r; equal = equal z } in g) ∷ rows_by_kind equal rows kinds) (same_Some y k ek)
 given_from equal (x ∷ rows) (y ∷ kinds) (suc i) r k er ek = given_from equal rows kinds i r k er ek
 
-pub constraint_from : (rows : Listed ConKind) (i : ℕ) (r : List ℤ) (k : ConKind) → slice_get rows.rows i ≡ Some r → slice_get rows.kinds i ≡ Some k →
+pub constraint_from : (rows : LinearSystem ConKind) (i : ℕ) (r : List ℤ) (k : ConKind) → slice_get rows.rows i ≡ Some r → slice_get rows.kinds i ≡ Some k →
     drop i (constraints rows) ≡ record { row = r; equal = is_equality k } ∷ drop (i + 1) (constraints rows)
 constraint_from rows i r k er ek =
     given_from is_equality rows.rows rows.kinds i r k er ek ∙

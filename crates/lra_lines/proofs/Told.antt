@@ -4,8 +4,8 @@ use Rattle.std.proofs.Common.{append-nil, ℤ, Option, Some, None, Ok, Err}
 use Rattle.lra_linear_spec.specs.Descriptions.{LinearRow}
 use Rattle.lra_linear_spec.specs.Kinds.{is_equality}
 use Rattle.lra_linear_spec.specs.declared.ConKind.{ConKind}
-use Rattle.lra_sys.specs.Listed.{Listed, constraints}
-use Rattle.lra_sys.proofs.GivenRows.{constraints_pushed}
+use Rattle.lra_systems.specs.LinearSystems.{LinearSystem, constraints}
+use Rattle.lra_systems.proofs.LinearRows.{constraints_pushed}
 use Rattle.lra_program.specs.Sites.{Site}
 use Rattle.lra_lines.specs.declared.refusals.LineFault.{LineFault}
 use Rattle.lra_lines.specs.declared.refusals.VerifyError.{VerifyError}
@@ -88,7 +88,8 @@ module _ (live : ℕ) (bytes : List ℕ) (at : ℕ) (gs : List LinearRow) (whole
       ap (λ (x : List LinearRow). Ok (x, left_at bytes at)) (append-nil gs)
 
 -- the same of lists with kinds
-pub rows_more_by : (live : ℕ) (bytes : List ℕ) (at : ℕ) (old new : Listed ConKind) (row : List ℤ) (kind : ConKind) (whole : Judged (List LinearRow × Left)) →
+pub rows_more_by : (live : ℕ) (bytes : List ℕ) (at : ℕ) (old new : LinearSystem ConKind) (row : List ℤ) (kind : ConKind)
+    (whole : Judged (List LinearRow × Left)) →
     rows_after (constraints old) (judged_rows live (number_at bytes at) (pieces_at bytes at)) ≡ whole → length old.kinds ≡ length old.rows →
     new.rows ≡ old.rows ++ row ∷ [] → new.kinds ≡ old.kinds ++ kind ∷ [] →
     (line : List ℕ) → IsLineAt bytes at line → is_row_line (Some line) ≡ true → row_in live line ≡ Some (record { row = row; equal = is_equality kind }) →

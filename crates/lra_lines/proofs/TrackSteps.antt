@@ -9,8 +9,8 @@ use Rattle.lra_linear_spec.specs.Descriptions.{LinearRow}
 use Rattle.lra_linear_spec.specs.Kinds.{is_equality}
 use Rattle.lra_linear_spec.specs.Vectors.{zeros}
 use Rattle.lra_linear_spec.proofs.UnitRows.{zeros_are, zeros_more}
-use Rattle.lra_sys.specs.Listed.{Listed, constraints, given_by}
-use Rattle.lra_sys.proofs.GivenRows.{constraints_pushed}
+use Rattle.lra_systems.specs.LinearSystems.{LinearSystem, constraints, rows_by_kind}
+use Rattle.lra_systems.proofs.LinearRows.{constraints_pushed}
 use Rattle.lra_domain.specs.Actions.{Action}
 use Rattle.lra_certificate.specs.Certificates.{padded}
 use Rattle.lra_multipliers.specs.Symbols.{Walked, walk_of, width_of, new_symbols, tests_in, symbols}
@@ -41,7 +41,7 @@ padded_length row made width h is =
 -- ---- constraint by constraint
 given_at : {K : Type 0} (equal : K → Bool) (rows : List (List ℤ)) (kinds : List K) (i : ℕ) (r : List ℤ) (k : K) → slice_get rows i ≡ Some r →
     slice_get kinds i ≡ Some k →
-    take (suc i) (given_by equal rows kinds) ≡ take i (given_by equal rows kinds) ++ record { row = r; equal = equal k } ∷ []
+    take (suc i) (rows_by_kind equal rows kinds) ≡ take i (rows_by_kind equal rows kinds) ++ record { row = r; equal = equal k } ∷ []
 given_at equal [] kinds i r k er ek = absurd (none-some r er)
 given_at equal (x ∷ rows) [] i r k er ek = absurd (none-some k ek)
 given_at {K = K} equal (x ∷ rows) (y ∷ kinds) zero r k er ek =
@@ -50,18 +50,18 @@ given_at {K = K} equal (x ∷ rows) (y ∷ kinds) zero r k er ek =
 given_at equal (x ∷ rows) (y ∷ kinds) (suc i) r k er ek =
     ap (λ (gs : List LinearRow). (let g : LinearRow = record { row = x; equal = equal y } in g) ∷ gs) (given_at equal rows kinds i r k er ek)
 
-given_few : {K : Type 0} (equal : K → Bool) (rows : List (List ℤ)) (kinds : List K) → length (given_by equal rows kinds) ≤ length rows
+given_few : {K : Type 0} (equal : K → Bool) (rows : List (List ℤ)) (kinds : List K) → length (rows_by_kind equal rows kinds) ≤ length rows
 given_few equal [] kinds = omega arith
 given_few equal (x ∷ rows) [] = omega arith
 given_few equal (x ∷ rows) (y ∷ kinds) = let k = given_few equal rows kinds in omega (arith, k)
 
-pub constraints_few : (rows : Listed ConKind) → length (constraints rows) ≤ length rows.rows
+pub constraints_few : (rows : LinearSystem ConKind) → length (constraints rows) ≤ length rows.rows
 constraints_few rows = given_few is_equality rows.rows rows.kinds
 
-pub all_constraints : (rows : Listed ConKind) (i : ℕ) → length rows.rows ≤ i → take i (constraints rows) ≡ constraints rows
+pub all_constraints : (rows : LinearSystem ConKind) (i : ℕ) → length rows.rows ≤ i → take i (constraints rows) ≡ constraints rows
 all_constraints rows i h = let k = given_few is_equality rows.rows rows.kinds in take_all i (constraints rows) (omega (arith, h, k))
 
-module _ (rows old new : Listed ConKind) (i : ℕ) (r made : List ℤ) (kind : ConKind) (at_row : slice_get rows.rows i ≡ Some r)
+module _ (rows old new : LinearSystem ConKind) (i : ℕ) (r made : List ℤ) (kind : ConKind) (at_row : slice_get rows.rows i ≡ Some r)
     (at_kind : slice_get rows.kinds i ≡ Some kind) (kinds : length old.kinds ≡ length old.rows) (pushed : new.rows ≡ old.rows ++ made ∷ [])
     (pushed_kind : new.kinds ≡ old.kinds ++ kind ∷ []) where
   next : take (i + 1) (constraints rows) ≡ take i (constraints rows) ++ record { row = r; equal = is_equality kind } ∷ []
@@ -88,7 +88,7 @@ module _ (rows old new : Listed ConKind) (i : ℕ) (r made : List ℤ) (kind : C
       ap (λ (gs : List LinearRow). start ++ gs) (sym next)
 
 -- ---- as many rows as tests
-pub given_many : (rows : List (List ℤ)) (kinds : List ConKind) → length kinds ≡ length rows → length (given_by is_equality rows kinds) ≡ length rows
+pub given_many : (rows : List (List ℤ)) (kinds : List ConKind) → length kinds ≡ length rows → length (rows_by_kind is_equality rows kinds) ≡ length rows
 given_many [] kinds e = refl
 given_many (x ∷ rows) [] e = absurd (omega (arith, e))
 given_many (x ∷ rows) (y ∷ kinds) e = ap suc (given_many rows kinds (omega (arith, e)))
@@ -101,7 +101,7 @@ walk_many live steps w e =
     omega (arith, many)
 
 -- the premises are as many as the lines have factors
-pub premises_counted : (live : ℕ) (steps : List Action) (w : Walked) (rows : List LinearRow) (width : ℕ) (premises : Listed ConKind) (count : ℕ) →
+pub premises_counted : (live : ℕ) (steps : List Action) (w : Walked) (rows : List LinearRow) (width : ℕ) (premises : LinearSystem ConKind) (count : ℕ) →
     walk_of live steps ≡ Ok w → constraints premises ≡ map (padded width) rows ++ w.tests → length premises.kinds ≡ length premises.rows →
     count ≡ length rows + tests_in steps → length premises.rows ≡ count
 premises_counted live steps w rows width premises count walks is kinds n =

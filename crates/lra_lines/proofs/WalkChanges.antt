@@ -7,13 +7,13 @@ use Rattle.std.proofs.lemmas.List.Elements.{All-cons}
 use Rattle.lra_linear_spec.specs.declared.Excess.{Excess}
 use Rattle.lra_linear_spec.specs.CheckedArithmetic.{and_then}
 use Rattle.lra_linear_spec.specs.Kinds.{is_equality}
-use Rattle.lra_lin.specs.Form.{form_row}
+use Rattle.lra_linear_forms.specs.Form.{form_row}
 use Rattle.lra_domain.specs.Actions.{Action, assign, forget, test, embed, remove_last}
 use Rattle.lra_row.specs.Rows.{IsExcessOf}
 use Rattle.lra_row.specs.declared.error.RowError.{RowError}
 use Rattle.lra_row.specs.declared.error.RowError.TheVariants as of_row
-use Rattle.lra_sys.specs.Listed.{Listed, constraints}
-use Rattle.lra_sys.proofs.GivenRows.{constraints_pushed}
+use Rattle.lra_systems.specs.LinearSystems.{LinearSystem, constraints}
+use Rattle.lra_systems.proofs.LinearRows.{constraints_pushed}
 use Rattle.lra_linear_spec.specs.declared.ConKind.{ConKind}
 use Rattle.lra_linear_spec.specs.Descriptions.{LinearRow}
 use Rattle.lra_domain.specs.Changes.{action_of}
@@ -65,7 +65,7 @@ module _ (width : ℕ) (a : Action) (steps : List Action) (w : Walked) (whole : 
       (passes_further (walked_by width a w) (λ (next : Walked). walked width steps next) e h)
 
 -- ---- a test more
-pub test_made : (width : ℕ) (a : Action) (w : Walked) (old new : Listed ConKind) (row : List ℤ) (kind : ConKind) →
+pub test_made : (width : ℕ) (a : Action) (w : Walked) (old new : LinearSystem ConKind) (row : List ℤ) (kind : ConKind) →
     walked_by width a w ≡ Ok (tests_too w (record { row = row; equal = is_equality kind })) → w.tests ≡ constraints old →
     length old.kinds ≡ length old.rows → new.rows ≡ old.rows ++ row ∷ [] → new.kinds ≡ old.kinds ++ kind ∷ [] →
     walked_by width a w ≡ Ok (record w { tests = constraints new })

@@ -8,7 +8,7 @@ use Rattle.lra_linear_spec.specs.declared.ConKind.{ConKind}
 use Rattle.lra_linear_spec.specs.Cones.{with_row}
 use Rattle.lra_linear_spec.specs.Descriptions.{LinearRow}
 use Rattle.lra_linear_spec.specs.Polyhedra.{falsity}
-use Rattle.lra_sys.specs.Listed.{Listed, constraints}
+use Rattle.lra_systems.specs.LinearSystems.{LinearSystem, constraints}
 use Rattle.lra_domain.specs.Actions.{Action}
 use Rattle.lra_multipliers.specs.Symbols.{Walked, composed, walk_of, width_of, tests_in}
 use Rattle.lra_multipliers.specs.Multipliers.{Multipliers, Answer, wide, checked}
@@ -28,7 +28,7 @@ pub record AreGrounds (g : Grounds) : Type 0 where
 abbrev pub row_of : Option (Bor Row) → Option (List ℤ)
 row_of claim = option_map (λ r. r.now) claim
 
-abbrev pub rows_of : Option (Bor (Listed ConKind)) → State
+abbrev pub rows_of : Option (Bor (LinearSystem ConKind)) → State
 rows_of target = option_map (λ r. constraints r.now) target
 
 -- the claim over the symbols: a row over the variables, or that nothing is left

@@ -1,7 +1,7 @@
 -- Paths as the code walks them.
 use Rattle.std.specs.Prelude.{◌≡◌, ℕ, suc, length}
 use Rattle.std.specs.List.{All}
-use Rattle.lra_sys.specs.Listed.{constraints}
+use Rattle.lra_systems.specs.LinearSystems.{constraints}
 use Rattle.lra_lines.specs.declared.walks.Walk.{Walk}
 use Rattle.lra_multipliers.specs.Symbols.{Walked}
 

@@ -5,7 +5,7 @@ ghost use Rattle.std.specs.Prelude.{IfOk, IfErr, IfSome, OnOk, codes, None};
 ghost use Rattle.lra_linear_spec.specs.Kinds.{is_equality};
 ghost use Rattle.lra_linear_spec.specs.Vectors.{zeros};
 ghost use Rattle.lra_row.specs.Rows.{IsExcessOf};
-ghost use Rattle.lra_sys.specs.Listed.{constraints};
+ghost use Rattle.lra_systems.specs.LinearSystems.{constraints};
 ghost use Rattle.lra_domain.specs.Changes.{action_of};
 ghost use Rattle.lra_sides.specs.TableSides.{all_done};
 ghost use Rattle.lra_multipliers.specs.Symbols.{tests_in};
@@ -26,7 +26,7 @@ use lra_domain::Change;
 use lra_linear_spec::ConKind;
 use lra_multipliers::{Answer, Multipliers, check};
 use lra_row::{Row, RowError};
-use lra_sys::ConSys;
+use lra_systems::ConSys;
 use std::alloc::{AllocError, Global};
 
 /// The premises of a path's lines, and the rows of the variables behind it.

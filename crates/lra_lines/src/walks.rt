@@ -8,15 +8,15 @@ ghost use Rattle.lra_linear_spec.specs.Range.{InRange};
 ghost use Rattle.lra_row.specs.Rows.{IsExcessOf};
 ghost use Rattle.lra_domain.specs.Actions.{embed, forget};
 ghost use Rattle.lra_domain.specs.Changes.{action_of};
-ghost use Rattle.lra_lin.specs.Form.{form_row};
+ghost use Rattle.lra_linear_forms.specs.Form.{form_row};
 ghost use Rattle.lra_sides.specs.TableSides.{all_done};
 ghost use Rattle.lra_multipliers.specs.Symbols.{composed, new_symbols, symbols, walk_of, walked_by, width_of};
 ghost use Rattle.lra_lines.specs.WalkViews.{walk_view, HasWidth};
 
 use lra_domain::Change;
-use lra_lin::LinExpr;
+use lra_linear_forms::LinExpr;
 use lra_row::{Row, RowError};
-use lra_sys::ConSys;
+use lra_systems::ConSys;
 use std::alloc::{AllocError, Global};
 
 /// The sum with so many times the row, or the first product or sum that passes; a factor 0 leaves it.

@@ -16,8 +16,8 @@ use Rattle.lra_linear_spec.specs.Strain.{Loss}
 use Rattle.lra_linear_spec.specs.Vectors.{cleared, entry, substituted}
 use Rattle.lra_linear_spec.proofs.Membership.{contains_cases, contains_head, contains_none, map_has}
 use Rattle.lra_linear_spec.proofs.Products.{blend_length}
-use Rattle.lra_sys.specs.Listed.{Listed, constraints, given_by}
-use Rattle.lra_sys.proofs.FirstMembers.{front, given_more, given_split, member}
+use Rattle.lra_systems.specs.LinearSystems.{LinearSystem, constraints, rows_by_kind}
+use Rattle.lra_systems.proofs.FirstMembers.{front, given_more, given_split, member}
 use Rattle.lra_descriptions.proofs.SeveralKinds.{given_append}
 use Rattle.lra_lists.specs.Forming.{AllFormed, AreFormed, substituted_given}
 use Rattle.lra_lists.proofs.PushedLists.{many_more}
@@ -27,16 +27,16 @@ if_none P Q None f h = f h
 if_none P Q (Some l) f h = tt
 
 -- ---- substituted rows
-one_pushed : (all more : Listed ConKind) (t u : List ℤ) (k : ConKind) → length all.rows ≡ length all.kinds →
+one_pushed : (all more : LinearSystem ConKind) (t u : List ℤ) (k : ConKind) → length all.rows ≡ length all.kinds →
     more.rows ≡ all.rows ++ t ∷ [] → more.kinds ≡ all.kinds ++ k ∷ [] → t ≡ u →
     constraints more ≡ constraints all ++ record { row = u; equal = is_equality k } ∷ []
 one_pushed all more t u k n er ek et =
-    ap (λ (l : List (List ℤ)). given_by is_equality l more.kinds) er
-    ∙ ap (given_by is_equality (all.rows ++ t ∷ [])) ek
+    ap (λ (l : List (List ℤ)). rows_by_kind is_equality l more.kinds) er
+    ∙ ap (rows_by_kind is_equality (all.rows ++ t ∷ [])) ek
     ∙ given_append is_equality all.rows (t ∷ []) all.kinds (k ∷ []) n
     ∙ ap (λ (y : List ℤ). constraints all ++ (let g : LinearRow = record { row = y; equal = is_equality k } in g) ∷ []) et
 
-pub substituted_whole : (k : ℕ) (form : List ℤ) (all more : Listed ConKind) (rows : List (List ℤ))
+pub substituted_whole : (k : ℕ) (form : List ℤ) (all more : LinearSystem ConKind) (rows : List (List ℤ))
     (kinds : List ConKind)
     (i : ℕ) (r t : List ℤ) (o : Option Loss) → length all.rows ≡ length all.kinds → more.rows ≡ all.rows ++ t ∷ [] →
     more.kinds ≡ all.kinds ++ get_or kinds i Ge ∷ [] → t ≡ substituted k form r → length kinds ≡ length rows →
@@ -53,14 +53,14 @@ substituted_whole k form all more rows kinds i r t o m er ek et n h is =
     ∙ ap (substituted_rows k form) (sym (given_more is_equality rows kinds i r Ge n h is))
     ∙ ap (λ (j : ℕ). substituted_rows k form (front is_equality rows kinds j)) (sym (add-one i)))
 
-pub substituted_among : (k : ℕ) (form : List ℤ) (all more : Listed ConKind) (rows : List (List ℤ))
+pub substituted_among : (k : ℕ) (form : List ℤ) (all more : LinearSystem ConKind) (rows : List (List ℤ))
     (kinds : List ConKind)
     (i : ℕ) (r t : List ℤ) → length all.rows ≡ length all.kinds → more.rows ≡ all.rows ++ t ∷ [] →
     more.kinds ≡ all.kinds ++ get_or kinds i Ge ∷ [] → t ≡ substituted k form r → length kinds ≡ length rows →
     i < length rows → r ≡ get_or rows i r →
     ((g : LinearRow) → Contains (constraints all) g → Contains
-    (substituted_rows k form (given_by is_equality rows kinds)) g) →
-    (g : LinearRow) → Contains (constraints more) g → Contains (substituted_rows k form (given_by is_equality rows kinds)) g
+    (substituted_rows k form (rows_by_kind is_equality rows kinds)) g) →
+    (g : LinearRow) → Contains (constraints more) g → Contains (substituted_rows k form (rows_by_kind is_equality rows kinds)) g
 substituted_among k form all more rows kinds i r t m er ek et n h is among g has =
     let new : LinearRow = substituted_given k form (member is_equality kinds i r Ge) in
     elim (Contains-append_cases (constraints all) (new ∷ []) g
@@ -68,8 +68,8 @@ substituted_among k form all more rows kinds i r t m er ek et n h is among g has
     (one_pushed all more t (substituted k form r) (get_or kinds i Ge) m er ek et) has)) [
       | inl a ↦ among g a
       | inr b ↦ elim (contains_cases new g [] b) [
-        | inl e ↦ subst (Contains (substituted_rows k form (given_by is_equality rows kinds))) e
-            (map_has (substituted_given k form) (given_by is_equality rows kinds)
+        | inl e ↦ subst (Contains (substituted_rows k form (rows_by_kind is_equality rows kinds))) e
+            (map_has (substituted_given k form) (rows_by_kind is_equality rows kinds)
             (member is_equality kinds i r Ge) (at_place rows kinds i r n h is))
         | inr none ↦ absurd (contains_none g none)
       ]
@@ -77,9 +77,9 @@ substituted_among k form all more rows kinds i r t m er ek et n h is among g has
   where
     at_place : (rows : List (List ℤ)) (kinds : List ConKind) (i : ℕ) (r : List ℤ) → length kinds ≡ length rows →
         i < length rows → r ≡ get_or rows i r →
-        Contains (given_by is_equality rows kinds) (member is_equality kinds i r Ge)
+        Contains (rows_by_kind is_equality rows kinds) (member is_equality kinds i r Ge)
     at_place rows kinds i r n h is =
-        let later = given_by is_equality (drop (suc i) rows) (drop (suc i) kinds) in
+        let later = rows_by_kind is_equality (drop (suc i) rows) (drop (suc i) kinds) in
         subst (λ (l : List LinearRow). Contains l (member is_equality kinds i r Ge))
         (sym (given_split is_equality rows kinds i r Ge n h is))
         (Contains-append_right (front is_equality rows kinds i) (member is_equality kinds i r Ge ∷ later)
@@ -108,7 +108,7 @@ formed_more k form rows kinds i r all more n low is h grows here g has =
 
 -- ---- the rows so far
 pub formed_pushed : (k : ℕ) (form : List ℤ) (n : ℕ) (rows : List (List ℤ)) (kinds : List ConKind) (i : ℕ)
-    (all more : Listed ConKind) (o : Option Loss) (r t : List ℤ) → AreFormed k form n rows kinds i all o →
+    (all more : LinearSystem ConKind) (o : Option Loss) (r t : List ℤ) → AreFormed k form n rows kinds i all o →
     more.dims ≡ all.dims → more.rows ≡ all.rows ++ t ∷ [] → more.kinds ≡ all.kinds ++ get_or kinds i Ge ∷ [] →
     t ≡ substituted k form r → length kinds ≡ length rows → i < length rows → r ≡ get_or rows i r →
     AreFormed k form n rows kinds (i + 1) more o
@@ -128,7 +128,7 @@ formed_pushed k form n rows kinds i all more o r t h ed er ek et m low is = reco
 }
 
 pub formed_if_pushed : {T E : Type 0} (result : Result T E) (k : ℕ) (form : List ℤ) (n : ℕ) (rows : List (List ℤ))
-    (kinds seen : List ConKind) (i : ℕ) (all more : Listed ConKind) (o : Option Loss) (r t : List ℤ) →
+    (kinds seen : List ConKind) (i : ℕ) (all more : LinearSystem ConKind) (o : Option Loss) (r t : List ℤ) →
     AreFormed k form n rows kinds i all o → more.dims ≡ all.dims → OnOk result (more.rows ≡ all.rows ++ t ∷ []) →
     OnOk result (more.kinds ≡ all.kinds ++ get_or seen i Ge ∷ []) → seen ≡ kinds → t ≡ substituted k form r →
     length kinds ≡ length rows → i < length rows → r ≡ get_or rows i r →
@@ -140,9 +140,9 @@ formed_if_pushed (Err e) k form n rows kinds seen i all more o r t h ed er ek es
 
 -- one that is left out: the first, or a later one
 pub formed_lost : (k : ℕ) (form : List ℤ) (n : ℕ) (rows : List (List ℤ)) (kinds : List ConKind) (i : ℕ)
-    (all : Listed ConKind) (o told : Option Loss) (loss : Loss) (r : List ℤ) (x : E.Excess) →
+    (all : LinearSystem ConKind) (o told : Option Loss) (loss : Loss) (r : List ℤ) (x : E.Excess) →
     AreFormed k form n rows kinds i all o →
-    told ≡ Some loss → FormingPasses (λ g. checked_substitution k form g.row) (given_by is_equality rows kinds) loss →
+    told ≡ Some loss → FormingPasses (λ g. checked_substitution k form g.row) (rows_by_kind is_equality rows kinds) loss →
     length kinds ≡ length rows → i < length rows → r ≡ get_or rows i r → checked_substitution k form r ≡ Err x →
     AreFormed k form n rows kinds (i + 1) all told
 formed_lost k form n rows kinds i all o told loss r x h e passes m low is failed =
@@ -157,7 +157,7 @@ formed_lost k form n rows kinds i all o told loss r x h e passes m low is failed
     })
 
 pub formed_left : (k : ℕ) (form : List ℤ) (n : ℕ) (rows : List (List ℤ)) (kinds : List ConKind) (i : ℕ)
-    (all : Listed ConKind) (o : Option Loss) (r : List ℤ) (x : E.Excess) → AreFormed k form n rows kinds i all o →
+    (all : LinearSystem ConKind) (o : Option Loss) (r : List ℤ) (x : E.Excess) → AreFormed k form n rows kinds i all o →
     is_none o ≡ false → length kinds ≡ length rows → i < length rows → r ≡ get_or rows i r →
     checked_substitution k form r ≡ Err x → AreFormed k form n rows kinds (i + 1) all o
 formed_left k form n rows kinds i all None r x h e m low is failed = absurd (cc)
@@ -181,30 +181,30 @@ pub substituted_fits : (k : ℕ) (form r t : List ℤ) (n d : ℕ) → t ≡ sub
 substituted_fits k form r t n d et f l e = ap length et ∙ substituted_length k form r (f ∙ sym l) ∙ l ∙ ap suc (sym e)
 
 -- ---- as the code tells it
-pub listed_same : (list : Listed ConKind) (rows : List (List ℤ)) (kinds : List ConKind) → rows ≡ list.rows →
-    kinds ≡ list.kinds → given_by is_equality rows kinds ≡ constraints list
-listed_same list rows kinds er ek = ap (λ (l : List (List ℤ)). given_by is_equality l kinds) er ∙
-    ap (given_by is_equality list.rows) ek
+pub listed_same : (list : LinearSystem ConKind) (rows : List (List ℤ)) (kinds : List ConKind) → rows ≡ list.rows →
+    kinds ≡ list.kinds → rows_by_kind is_equality rows kinds ≡ constraints list
+listed_same list rows kinds er ek = ap (λ (l : List (List ℤ)). rows_by_kind is_equality l kinds) er ∙
+    ap (rows_by_kind is_equality list.rows) ek
 
-pub all_substituted : (k : ℕ) (form : List ℤ) (list all : Listed ConKind) (rows : List (List ℤ)) (kinds : List ConKind)
+pub all_substituted : (k : ℕ) (form : List ℤ) (list all : LinearSystem ConKind) (rows : List (List ℤ)) (kinds : List ConKind)
     (i : ℕ) (o : Option Loss) → rows ≡ list.rows → kinds ≡ list.kinds → length kinds ≡ length rows → length rows ≤ i →
     IfNone o (constraints all ≡ substituted_rows k form (front is_equality rows kinds i)) →
     IfNone o (constraints all ≡ substituted_rows k form (constraints list))
 all_substituted k form list all rows kinds i o er ek n h =
     if_none (constraints all ≡ substituted_rows k form (front is_equality rows kinds i))
     (constraints all ≡ substituted_rows k form (constraints list)) o (λ e. e ∙
-    ap (λ (l : List (List ℤ)). substituted_rows k form (given_by is_equality l (take i kinds))) (take_all i rows h) ∙
-    ap (λ (l : List ConKind). substituted_rows k form (given_by is_equality rows l))
+    ap (λ (l : List (List ℤ)). substituted_rows k form (rows_by_kind is_equality l (take i kinds))) (take_all i rows h) ∙
+    ap (λ (l : List ConKind). substituted_rows k form (rows_by_kind is_equality rows l))
     (take_all i kinds (omega (arith, n, h))) ∙
     ap (substituted_rows k form) (listed_same list rows kinds er ek))
 
 pub none_formed : (k : ℕ) (form : List ℤ) (formed : List LinearRow) → AllFormed k form [] formed
 none_formed k form formed g has = absurd (contains_none g has)
 
-pub all_formed : (k : ℕ) (form : List ℤ) (list all : Listed ConKind) (rows : List (List ℤ)) (kinds : List ConKind)
+pub all_formed : (k : ℕ) (form : List ℤ) (list all : LinearSystem ConKind) (rows : List (List ℤ)) (kinds : List ConKind)
     (i : ℕ) → rows ≡ list.rows → kinds ≡ list.kinds → length kinds ≡ length rows → length rows ≤ i →
     AllFormed k form (front is_equality rows kinds i) (constraints all) → AllFormed k form (constraints list) (constraints all)
 all_formed k form list all rows kinds i er ek n h formed =
-    let same = ap (λ (l : List (List ℤ)). given_by is_equality l (take i kinds)) (take_all i rows h) ∙
-    ap (given_by is_equality rows) (take_all i kinds (omega (arith, n, h))) ∙ listed_same list rows kinds er ek in
+    let same = ap (λ (l : List (List ℤ)). rows_by_kind is_equality l (take i kinds)) (take_all i rows h) ∙
+    ap (rows_by_kind is_equality rows) (take_all i kinds (omega (arith, n, h))) ∙ listed_same list rows kinds er ek in
     subst (λ (l : List LinearRow). AllFormed k form l (constraints all)) same formed

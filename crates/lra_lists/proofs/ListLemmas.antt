@@ -10,7 +10,7 @@ use Rattle.lra_linear_spec.specs.Vectors.{cleared, entry, zeros}
 use Rattle.lra_linear_spec.proofs.Lines.{entry_zeros}
 use Rattle.lra_linear_spec.proofs.Membership.{contains_head, contains_tail}
 use Rattle.lra_linear_spec.specs.Kinds.{is_line}
-use Rattle.lra_sys.specs.Listed.{FitKinds, FitsKind, Listed, generators, given_by}
+use Rattle.lra_systems.specs.LinearSystems.{FitKinds, FitsKind, LinearSystem, generators, rows_by_kind}
 use Rattle.lra_linear_spec.specs.declared.GenKind.{GenKind}
 use Rattle.lra_linear_spec.specs.declared.GenKind.TheVariants.{Line, Point, Ray}
 use Rattle.lra_descriptions.proofs.SeveralKinds.{fit_append, given_append}
@@ -19,7 +19,7 @@ use Rattle.lra_lists.proofs.Sums.{mapped_by}
 
 -- ---- mapped row by row
 mapped_given : (f : List ℤ → List ℤ) (rows : List (List ℤ)) (kinds : List GenKind) →
-    given_by is_line (map f rows) kinds ≡ mapped_by f (given_by is_line rows kinds)
+    rows_by_kind is_line (map f rows) kinds ≡ mapped_by f (rows_by_kind is_line rows kinds)
 mapped_given f [] kinds = refl
 mapped_given f (r ∷ rows) [] = refl
 mapped_given f (r ∷ rows) (k ∷ kinds) = ap (λ (l : List LinearRow).
@@ -61,17 +61,17 @@ kinds_more kinds all more i ea k em =
     ap (λ (j : ℕ). take j kinds) (sym (add-one i))
 
 -- as the code tells it
-pub mapped_listed : (f : List ℤ → List ℤ) (list all : Listed GenKind) (rows : List (List ℤ)) (kinds : List GenKind)
+pub mapped_listed : (f : List ℤ → List ℤ) (list all : LinearSystem GenKind) (rows : List (List ℤ)) (kinds : List GenKind)
     (i : ℕ) → all.rows ≡ map f (take i rows) → all.kinds ≡ take i kinds →
     rows ≡ list.rows → kinds ≡ list.kinds → length rows ≤ i → length kinds ≡ length list.rows →
     generators all ≡ mapped_by f (generators list)
 mapped_listed f list all rows kinds i ar ak er ek h n =
     let x : length rows ≡ length list.rows = ap length er in
-    ap (λ (l : List (List ℤ)). given_by is_line l all.kinds) (ar ∙ ap (map f) (take_all i rows h ∙ er)) ∙
-    ap (given_by is_line (map f list.rows)) (ak ∙ take_all i kinds (omega (arith, x, n, h)) ∙ ek) ∙
+    ap (λ (l : List (List ℤ)). rows_by_kind is_line l all.kinds) (ar ∙ ap (map f) (take_all i rows h ∙ er)) ∙
+    ap (rows_by_kind is_line (map f list.rows)) (ak ∙ take_all i kinds (omega (arith, x, n, h)) ∙ ek) ∙
     mapped_given f list.rows list.kinds
 
-pub mapped_kinds : (f : List ℤ → List ℤ) (list all : Listed GenKind) (rows : List (List ℤ)) (kinds : List GenKind)
+pub mapped_kinds : (f : List ℤ → List ℤ) (list all : LinearSystem GenKind) (rows : List (List ℤ)) (kinds : List GenKind)
     (i : ℕ) → all.rows ≡ map f (take i rows) → all.kinds ≡ take i kinds →
     rows ≡ list.rows → kinds ≡ list.kinds → length rows ≤ i → length kinds ≡ length list.rows →
     ((r : List ℤ) → Contains list.rows r → entry (f r) 0 ≡ entry r 0) → FitKinds list.rows list.kinds →
@@ -83,22 +83,22 @@ mapped_kinds f list all rows kinds i ar ak er ek h n e fit =
     (mapped_fit f list.rows list.kinds e fit))
 
 -- ---- with a line
-pub line_added : (list all more : Listed GenKind) (row u : List ℤ) → all ≡ list → more.rows ≡ all.rows ++ row ∷ [] →
+pub line_added : (list all more : LinearSystem GenKind) (row u : List ℤ) → all ≡ list → more.rows ≡ all.rows ++ row ∷ [] →
     more.kinds ≡ all.kinds ++ Line ∷ [] → row ≡ u →
     length list.kinds ≡ length list.rows → generators more ≡ generators list ++ line u ∷ []
 line_added list all more row u ea mr mk er m =
-    ap (λ (l : List (List ℤ)). given_by is_line l more.kinds) (mr ∙ ap (λ (s : Listed GenKind). s.rows ++ row ∷ []) ea)
-    ∙ ap (given_by is_line (list.rows ++ row ∷ [])) (mk ∙ ap (λ (s : Listed GenKind). s.kinds ++ Line ∷ []) ea)
+    ap (λ (l : List (List ℤ)). rows_by_kind is_line l more.kinds) (mr ∙ ap (λ (s : LinearSystem GenKind). s.rows ++ row ∷ []) ea)
+    ∙ ap (rows_by_kind is_line (list.rows ++ row ∷ [])) (mk ∙ ap (λ (s : LinearSystem GenKind). s.kinds ++ Line ∷ []) ea)
     ∙ given_append is_line list.rows (row ∷ []) list.kinds (Line ∷ []) (sym m)
     ∙ ap (λ (y : List ℤ). generators list ++ line y ∷ []) er
 
-pub line_fits : (list all more : Listed GenKind) (row u : List ℤ) → all ≡ list → more.rows ≡ all.rows ++ row ∷ [] →
+pub line_fits : (list all more : LinearSystem GenKind) (row u : List ℤ) → all ≡ list → more.rows ≡ all.rows ++ row ∷ [] →
     more.kinds ≡ all.kinds ++ Line ∷ [] → row ≡ u →
     length list.kinds ≡ length list.rows → FitKinds list.rows list.kinds → entry u 0 ≡ pos 0 →
     FitKinds more.rows more.kinds
 line_fits list all more row u ea mr mk er m fit level =
-    subst (λ (l : List (List ℤ)). FitKinds l more.kinds) (sym (mr ∙ ap (λ (s : Listed GenKind). s.rows ++ row ∷ []) ea))
-    (subst (FitKinds (list.rows ++ row ∷ [])) (sym (mk ∙ ap (λ (s : Listed GenKind). s.kinds ++ Line ∷ []) ea))
+    subst (λ (l : List (List ℤ)). FitKinds l more.kinds) (sym (mr ∙ ap (λ (s : LinearSystem GenKind). s.rows ++ row ∷ []) ea))
+    (subst (FitKinds (list.rows ++ row ∷ [])) (sym (mk ∙ ap (λ (s : LinearSystem GenKind). s.kinds ++ Line ∷ []) ea))
     (fit_append list.rows (row ∷ []) list.kinds (Line ∷ []) (sym m) fit
     (ap (λ (y : List ℤ). entry y 0) er ∙ level, tt)))
 

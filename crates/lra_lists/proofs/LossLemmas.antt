@@ -13,8 +13,8 @@ use Rattle.lra_linear_spec.specs.Strain.{Loss}
 use Rattle.lra_row.specs.Rows.{IsExcessOf}
 use Rattle.lra_row.specs.declared.error.RowError.{RowError}
 use Rattle.lra_row.specs.declared.error.RowError.TheVariants as of_row
-use Rattle.lra_sys.specs.Listed.{Listed, constraints, generators, given_by}
-use Rattle.lra_sys.proofs.FirstMembers.{front, given_split, member}
+use Rattle.lra_systems.specs.LinearSystems.{LinearSystem, constraints, generators, rows_by_kind}
+use Rattle.lra_systems.proofs.FirstMembers.{front, given_split, member}
 use Rattle.lra_descriptions.specs.ShownLists.{dual_kind}
 use Rattle.lra_descriptions.proofs.SeveralKinds.{dual_given}
 use Rattle.lra_lists.specs.Forming.{IsLossAt}
@@ -24,7 +24,7 @@ default_other [] i d e h = absurd (omega (arith, h))
 default_other (x ∷ xs) zero d e h = refl
 default_other (x ∷ xs) (suc i) d e h = default_other xs i d e (omega (arith, h))
 
-pub loss_told : (list chosen : Listed ConKind) (rows : List (List ℤ)) (kinds : List ConKind) (place : ℕ) (row : List ℤ)
+pub loss_told : (list chosen : LinearSystem ConKind) (rows : List (List ℤ)) (kinds : List ConKind) (place : ℕ) (row : List ℤ)
     (e : E.Excess) (loss : Loss) → constraints chosen ≡ front is_equality list.rows list.kinds place →
     rows ≡ list.rows → kinds ≡ list.kinds → length kinds ≡ length list.rows →
     place < length list.rows → row ≡ get_or rows place row →
@@ -33,7 +33,7 @@ pub loss_told : (list chosen : Listed ConKind) (rows : List (List ℤ)) (kinds :
 loss_told list chosen rows kinds place row e loss ec er ek n h is el =
     let here : row ≡ get_or list.rows place row = is ∙ ap (λ (l : List (List ℤ)). get_or l place row) er in
     let many : length list.kinds ≡ length list.rows = ap length (sym ek) ∙ n in
-    let later : List LinearRow = given_by is_equality (drop (suc place) list.rows) (drop (suc place) list.kinds) in
+    let later : List LinearRow = rows_by_kind is_equality (drop (suc place) list.rows) (drop (suc place) list.kinds) in
     subst (IsLossAt (constraints list) list.rows place e) (sym el) (record {
       later = later;
       is = given_split is_equality list.rows list.kinds place row Ge many h here ∙
@@ -63,12 +63,12 @@ lost_at check given told rows seen place r e loss l eg er h is passes = record {
       passes;
 }
 
-pub dual_constraints : (rows : Listed ConKind) (list : Listed GenKind) → rows.rows ≡ list.rows →
+pub dual_constraints : (rows : LinearSystem ConKind) (list : LinearSystem GenKind) → rows.rows ≡ list.rows →
     rows.kinds ≡ map dual_kind list.kinds → constraints rows ≡ generators list
-dual_constraints rows list er ek = ap (λ (l : List (List ℤ)). given_by is_equality l rows.kinds) er ∙
-    ap (given_by is_equality list.rows) ek ∙ dual_given list.rows list.kinds
+dual_constraints rows list er ek = ap (λ (l : List (List ℤ)). rows_by_kind is_equality l rows.kinds) er ∙
+    ap (rows_by_kind is_equality list.rows) ek ∙ dual_given list.rows list.kinds
 
-pub dual_loss : (rows : Listed ConKind) (list : Listed GenKind) (place : ℕ) (e : E.Excess) (loss : Loss) →
+pub dual_loss : (rows : LinearSystem ConKind) (list : LinearSystem GenKind) (place : ℕ) (e : E.Excess) (loss : Loss) →
     rows.rows ≡ list.rows → rows.kinds ≡ map dual_kind list.kinds →
     IsLossAt (constraints rows) rows.rows place e loss → IsLossAt (generators list) list.rows place e loss
 dual_loss rows list place e loss er ek h =

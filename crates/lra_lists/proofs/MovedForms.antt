@@ -16,7 +16,7 @@ use Rattle.lra_linear_spec.proofs.Pivots.{pivot_is}
 use Rattle.lra_linear_spec.proofs.Products.{entry_negated}
 use Rattle.lra_linear_spec.proofs.Ring.{ring, v, ⊖, ◌⊕◌, ◌⊗◌}
 use Rattle.lra_linear_spec.proofs.Spans.{spanned_row, spanned_same}
-use Rattle.lra_canon.specs.Reduced.{IsAlong, IsReducedBy}
+use Rattle.lra_canonical.specs.Reduced.{IsAlong, IsReducedBy}
 use Rattle.lra_pair.specs.OwnLists.{AreReducedBy}
 use Rattle.lra_pair.proofs.TightRows.{reduced_from}
 use Rattle.lra_lists.proofs.Sums.{IsLinear, generated_linear, linear_times}

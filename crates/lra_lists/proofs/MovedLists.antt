@@ -6,10 +6,10 @@ use Rattle.std.proofs.lemmas.List.Elements.{All-contains}
 use Rattle.lra_linear_spec.specs.Descriptions.{LinearRow, lines_of, rays_of}
 use Rattle.lra_linear_spec.proofs.Membership.{contains_cases, contains_head, contains_none, contains_tail, map_from}
 use Rattle.lra_linear_spec.proofs.Polyhedra.{lines_of_append, rays_of_append}
-use Rattle.lra_sys.specs.Listed.{Listed, given_by}
-use Rattle.lra_canon.specs.Echelons.{HaveWidth}
+use Rattle.lra_systems.specs.LinearSystems.{LinearSystem, rows_by_kind}
+use Rattle.lra_canonical.specs.Echelons.{HaveWidth}
 use Rattle.lra_pair.proofs.OwnRows.{all_width}
-use Rattle.lra_sys.proofs.FirstMembers.{front, given_more, member}
+use Rattle.lra_systems.proofs.FirstMembers.{front, given_more, member}
 
 -- the parts of the rows before the place
 pub record ArePartsOf {K : Type 0} (f : List ℤ → List ℤ) (equal : K → Bool) (rows : List (List ℤ)) (kinds : List K) (i : ℕ) (lines rays : List (List ℤ)) : Type 0 where
@@ -50,52 +50,52 @@ part_seen f equal rows kinds i lines rays lines' rays' r t k b h n low is et eb 
     (el ∙ ap (λ (a : Bool). lines ++ cond a (t ∷ []) []) eb) (er ∙ ap (λ (a : Bool). rays ++ cond a [] (t ∷ [])) eb)
 
 -- ---- widths
-lines_among : {K : Type 0} (equal : K → Bool) (rows : List (List ℤ)) (kinds : List K) (t : List ℤ) → Contains (lines_of (given_by equal rows kinds)) t → Contains rows t
+lines_among : {K : Type 0} (equal : K → Bool) (rows : List (List ℤ)) (kinds : List K) (t : List ℤ) → Contains (lines_of (rows_by_kind equal rows kinds)) t → Contains rows t
 lines_among equal [] kinds t k = absurd (contains_none t k)
 lines_among equal (r ∷ rows) [] t k = absurd (contains_none t k)
 lines_among {K = K} equal (r ∷ rows) (x ∷ kinds) t k = go (equal x) (lines_among equal rows kinds t) k
   where
-    go : (b : Bool) → (Contains (lines_of (given_by equal rows kinds)) t → Contains rows t) →
-        Contains (cond b (r ∷ lines_of (given_by equal rows kinds)) (lines_of (given_by equal rows kinds))) t → Contains (r ∷ rows) t
-    go true h c = elim (contains_cases r t (lines_of (given_by equal rows kinds)) c) [
+    go : (b : Bool) → (Contains (lines_of (rows_by_kind equal rows kinds)) t → Contains rows t) →
+        Contains (cond b (r ∷ lines_of (rows_by_kind equal rows kinds)) (lines_of (rows_by_kind equal rows kinds))) t → Contains (r ∷ rows) t
+    go true h c = elim (contains_cases r t (lines_of (rows_by_kind equal rows kinds)) c) [
       | inl e ↦ subst (Contains (r ∷ rows)) e (contains_head r rows)
       | inr n ↦ contains_tail r t rows (h n)
     ]
     go false h c = contains_tail r t rows (h c)
 
-rays_among : {K : Type 0} (equal : K → Bool) (rows : List (List ℤ)) (kinds : List K) (t : List ℤ) → Contains (rays_of (given_by equal rows kinds)) t → Contains rows t
+rays_among : {K : Type 0} (equal : K → Bool) (rows : List (List ℤ)) (kinds : List K) (t : List ℤ) → Contains (rays_of (rows_by_kind equal rows kinds)) t → Contains rows t
 rays_among equal [] kinds t k = absurd (contains_none t k)
 rays_among equal (r ∷ rows) [] t k = absurd (contains_none t k)
 rays_among {K = K} equal (r ∷ rows) (x ∷ kinds) t k = go (equal x) (rays_among equal rows kinds t) k
   where
-    go : (b : Bool) → (Contains (rays_of (given_by equal rows kinds)) t → Contains rows t) →
-        Contains (cond b (rays_of (given_by equal rows kinds)) (r ∷ rays_of (given_by equal rows kinds))) t → Contains (r ∷ rows) t
+    go : (b : Bool) → (Contains (rays_of (rows_by_kind equal rows kinds)) t → Contains rows t) →
+        Contains (cond b (rays_of (rows_by_kind equal rows kinds)) (r ∷ rays_of (rows_by_kind equal rows kinds))) t → Contains (r ∷ rows) t
     go true h c = contains_tail r t rows (h c)
-    go false h c = elim (contains_cases r t (rays_of (given_by equal rows kinds)) c) [
+    go false h c = elim (contains_cases r t (rays_of (rows_by_kind equal rows kinds)) c) [
       | inl e ↦ subst (Contains (r ∷ rows)) e (contains_head r rows)
       | inr n ↦ contains_tail r t rows (h n)
     ]
 
 -- the list's rows, as they are seen, have the width, and the map keeps it
-pub record KeepsWidth {K : Type 0} (m : List ℤ → List ℤ) (w : ℕ) (list : Listed K) (seen : List (List ℤ)) : Type 0 where
+pub record KeepsWidth {K : Type 0} (m : List ℤ → List ℤ) (w : ℕ) (list : LinearSystem K) (seen : List (List ℤ)) : Type 0 where
   pub width : w ≡ suc list.dims
   pub are : seen ≡ list.rows
   pub widths : All (λ r. length r ≡ suc list.dims) seen
   pub keeps : (r : List ℤ) → length r ≡ suc list.dims → length (m r) ≡ suc list.dims
 
-mapped_width : {K : Type 0} (m : List ℤ → List ℤ) (w : ℕ) (list : Listed K) (seen some : List (List ℤ)) → KeepsWidth m w list seen →
+mapped_width : {K : Type 0} (m : List ℤ → List ℤ) (w : ℕ) (list : LinearSystem K) (seen some : List (List ℤ)) → KeepsWidth m w list seen →
     ((t : List ℤ) → Contains some t → Contains list.rows t) → HaveWidth w (map m some)
 mapped_width m w list seen some h among = all_width w (map m some) (λ t k.
     let i = map_from m some t k in
     ap length (sym i.2) ∙
     h.keeps i.0 (All-contains (λ (r : List ℤ). length r ≡ suc list.dims) seen i.0 h.widths (subst (λ (l : List (List ℤ)). Contains l i.0) (sym h.are) (among i.0 i.1))) ∙ sym h.width)
 
-pub lines_wide : {K : Type 0} (m : List ℤ → List ℤ) (equal : K → Bool) (w : ℕ) (list : Listed K) (seen lines : List (List ℤ)) → KeepsWidth m w list seen →
-    lines ≡ map m (lines_of (given_by equal list.rows list.kinds)) → HaveWidth w lines
+pub lines_wide : {K : Type 0} (m : List ℤ → List ℤ) (equal : K → Bool) (w : ℕ) (list : LinearSystem K) (seen lines : List (List ℤ)) → KeepsWidth m w list seen →
+    lines ≡ map m (lines_of (rows_by_kind equal list.rows list.kinds)) → HaveWidth w lines
 lines_wide m equal w list seen lines h e =
-    subst (HaveWidth w) (sym e) (mapped_width m w list seen (lines_of (given_by equal list.rows list.kinds)) h (lines_among equal list.rows list.kinds))
+    subst (HaveWidth w) (sym e) (mapped_width m w list seen (lines_of (rows_by_kind equal list.rows list.kinds)) h (lines_among equal list.rows list.kinds))
 
-pub rays_wide : {K : Type 0} (m : List ℤ → List ℤ) (equal : K → Bool) (w : ℕ) (list : Listed K) (seen rays : List (List ℤ)) → KeepsWidth m w list seen →
-    rays ≡ map m (rays_of (given_by equal list.rows list.kinds)) → HaveWidth w rays
+pub rays_wide : {K : Type 0} (m : List ℤ → List ℤ) (equal : K → Bool) (w : ℕ) (list : LinearSystem K) (seen rays : List (List ℤ)) → KeepsWidth m w list seen →
+    rays ≡ map m (rays_of (rows_by_kind equal list.rows list.kinds)) → HaveWidth w rays
 rays_wide m equal w list seen rays h e =
-    subst (HaveWidth w) (sym e) (mapped_width m w list seen (rays_of (given_by equal list.rows list.kinds)) h (rays_among equal list.rows list.kinds))
+    subst (HaveWidth w) (sym e) (mapped_width m w list seen (rays_of (rows_by_kind equal list.rows list.kinds)) h (rays_among equal list.rows list.kinds))

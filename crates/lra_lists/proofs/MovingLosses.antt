@@ -12,9 +12,9 @@ use Rattle.lra_linear_spec.proofs.Membership.{contains_head}
 use Rattle.lra_row.specs.Rows.{IsExcessOf}
 use Rattle.lra_row.specs.declared.error.RowError.{RowError}
 use Rattle.lra_row.specs.declared.error.RowError.TheVariants.{Excess, Memory}
-use Rattle.lra_canon.specs.Echelons.{IsEchelonExcess}
-use Rattle.lra_sys.specs.Listed.{given_by}
-use Rattle.lra_sys.proofs.FirstMembers.{front, given_split, member}
+use Rattle.lra_canonical.specs.Echelons.{IsEchelonExcess}
+use Rattle.lra_systems.specs.LinearSystems.{rows_by_kind}
+use Rattle.lra_systems.proofs.FirstMembers.{front, given_split, member}
 use Rattle.lra_pair.specs.OwnLists.{AnyReductionExcess}
 use Rattle.lra_lists.specs.Moving.{AssignmentPasses, CanonicalPasses, OnExcess, SubstitutionPasses}
 
@@ -29,15 +29,15 @@ on_excess P Q Memory f h = tt
 pub some_passes : {K : Type 0} {A : Type 0} (equal : K → Bool) (check : List ℤ →
     Result A E.Excess) (rows seen : List (List ℤ)) (kinds also : List K) (place : ℕ) (r : List ℤ) (k : K) (error : RowError) →
     seen ≡ rows → also ≡ kinds → length also ≡ length rows → place < length seen → r ≡ get_or seen place r → IsExcessOf (check r) error →
-    OnExcess (λ e. (g : LinearRow) × Contains (given_by equal rows kinds) g × (check g.row ≡ Err e)) error
+    OnExcess (λ e. (g : LinearRow) × Contains (rows_by_kind equal rows kinds) g × (check g.row ≡ Err e)) error
 some_passes equal check rows seen kinds also place r k Memory er ek n low is x = tt
 some_passes {K = K} equal check rows seen kinds also place r k (Excess e) er ek n low is x =
     let here : r ≡ get_or rows place r = is ∙ ap (λ (l : List (List ℤ)). get_or l place r) er in
     let many : length kinds ≡ length rows = ap length (sym ek) ∙ n in
     let inside : place < length rows = subst (λ (l : List (List ℤ)). place < length l) er low in
     let g : LinearRow = member equal kinds place r k in
-    let later : List LinearRow = given_by equal (drop (suc place) rows) (drop (suc place) kinds) in
-    let has : Contains (given_by equal rows kinds) g =
+    let later : List LinearRow = rows_by_kind equal (drop (suc place) rows) (drop (suc place) kinds) in
+    let has : Contains (rows_by_kind equal rows kinds) g =
     subst (λ (l : List LinearRow). Contains l g) (sym (given_split equal rows kinds place r k many inside here))
     (Contains-append_right (front equal rows kinds place) (g ∷ later) g (contains_head g later)) in
     (g, has, x)

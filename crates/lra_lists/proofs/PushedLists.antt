@@ -9,10 +9,10 @@ use Rattle.lra_linear_spec.specs.OperationStrain.{as_directions, unit_row}
 use Rattle.lra_linear_spec.specs.Vectors.{behind_zero, cleared, units, zeros}
 use Rattle.lra_linear_spec.proofs.Lines.{zeros_length}
 use Rattle.lra_linear_spec.specs.Kinds.{is_line}
-use Rattle.lra_sys.specs.Listed.{FitKinds, FitsKind, Listed, generators, given_by}
+use Rattle.lra_systems.specs.LinearSystems.{FitKinds, FitsKind, LinearSystem, generators, rows_by_kind}
 use Rattle.lra_linear_spec.specs.declared.GenKind.{GenKind}
 use Rattle.lra_linear_spec.specs.declared.GenKind.TheVariants.{Line, Point}
-use Rattle.lra_sys.proofs.FirstMembers.{front, given_more, member}
+use Rattle.lra_systems.proofs.FirstMembers.{front, given_more, member}
 use Rattle.lra_descriptions.proofs.SeveralKinds.{fit_append, given_append}
 
 -- ---- one more
@@ -28,15 +28,15 @@ fit_more rows more kinds also r k n h f em ea =
     subst (λ (l : List (List ℤ)). FitKinds l also) (sym em)
     (subst (FitKinds (rows ++ r ∷ [])) (sym ea) (fit_append rows (r ∷ []) kinds (k ∷ []) n h (f, tt)))
 
-given_pushed : (all more : Listed GenKind) (r : List ℤ) (k : GenKind) → length all.rows ≡ length all.kinds →
+given_pushed : (all more : LinearSystem GenKind) (r : List ℤ) (k : GenKind) → length all.rows ≡ length all.kinds →
     more.rows ≡ all.rows ++ r ∷ [] → more.kinds ≡ all.kinds ++ k ∷ [] →
     generators more ≡ generators all ++ record { row = r; equal = is_line k } ∷ []
 given_pushed all more r k n er ek =
-    ap (λ (l : List (List ℤ)). given_by is_line l more.kinds) er ∙ ap (given_by is_line (all.rows ++ r ∷ [])) ek ∙
+    ap (λ (l : List (List ℤ)). rows_by_kind is_line l more.kinds) er ∙ ap (rows_by_kind is_line (all.rows ++ r ∷ [])) ek ∙
     given_append is_line all.rows (r ∷ []) all.kinds (k ∷ []) n
 
 -- ---- directions
-pub direction_added : (base : List LinearRow) (all more : Listed GenKind) (rows : List (List ℤ)) (kinds : List GenKind)
+pub direction_added : (base : List LinearRow) (all more : LinearSystem GenKind) (rows : List (List ℤ)) (kinds : List GenKind)
     (i : ℕ) (r t : List ℤ) (k : GenKind) →
     generators all ≡ base ++ as_directions (front is_line rows kinds i) → length all.rows ≡ length all.kinds →
     more.rows ≡ all.rows ++ t ∷ [] → more.kinds ≡ all.kinds ++ k ∷ [] → t ≡ cleared 0 r →
@@ -111,7 +111,7 @@ given_as_joined b [] ys = refl
 given_as_joined b (x ∷ xs) ys = ap (λ (l : List LinearRow). (let g : LinearRow = record { row = x; equal = b } in g) ∷ l)
     (given_as_joined b xs ys)
 
-pub line_pushed : (base : List LinearRow) (all more : Listed GenKind) (n k i m j : ℕ) (row : List ℤ) →
+pub line_pushed : (base : List LinearRow) (all more : LinearSystem GenKind) (n k i m j : ℕ) (row : List ℤ) →
     generators all ≡ base ++ rows_as true (map (λ u. zeros (suc n) ++ u) (take i (units k))) →
     length all.rows ≡ length all.kinds → more.rows ≡ all.rows ++ row ∷ [] → more.kinds ≡ all.kinds ++ Line ∷ [] →
     row ≡ unit_row m j → m ≡ n + k → j ≡ suc n + i → i < k →
@@ -132,7 +132,7 @@ line_pushed base all more n k i m j row ea c er ek e em ej h =
     (sym (take-suc (units k) i [] (omega (arith, h, count))))
     ∙ ap (λ (s : ℕ). base ++ rows_as true (map f (take s (units k)))) (sym (add-one i))
 
-pub all_lines : (base : List LinearRow) (all : Listed GenKind) (n k i : ℕ) →
+pub all_lines : (base : List LinearRow) (all : LinearSystem GenKind) (n k i : ℕ) →
     generators all ≡ base ++ rows_as true (map (λ u. zeros (suc n) ++ u) (take i (units k))) → k ≤ i →
     generators all ≡ base ++ rows_as true (map (λ u. zeros (suc n) ++ u) (units k))
 all_lines base all n k i e h = let count = units_count k in e ∙

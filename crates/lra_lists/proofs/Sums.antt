@@ -12,7 +12,7 @@ use Rattle.lra_linear_spec.proofs.Products.{blend_length, entry_blend, entry_neg
 use Rattle.lra_linear_spec.proofs.Ring.{ring, v, ⊖, ◌⊕◌, ◌⊗◌}
 use Rattle.lra_linear_spec.proofs.Signs.{as_nat, positive_nat}
 use Rattle.lra_linear_spec.proofs.Lines.{entry_zeros, zeros_length}
-use Rattle.lra_canon.proofs.Solutions.{sum_none}
+use Rattle.lra_canonical.proofs.Solutions.{sum_none}
 use Rattle.lra_descriptions.proofs.SeveralKinds.{system_append}
 
 -- ---- joined lists

@@ -10,7 +10,7 @@ use Rattle.lra_linear_spec.specs.Kinds.{is_equality}
 use Rattle.lra_linear_spec.specs.OperationStrain.{FormingPasses, substituted_rows}
 use Rattle.lra_linear_spec.specs.Strain.{Loss}
 use Rattle.lra_linear_spec.specs.Vectors.{substituted}
-use Rattle.lra_sys.specs.Listed.{Listed, constraints, given_by}
+use Rattle.lra_systems.specs.LinearSystems.{LinearSystem, constraints, rows_by_kind}
 
 -- the loss of the row at the place of a list, with those before it taken, where this number passes
 pub record IsLossAt (given : List LinearRow) (rows : List (List ℤ)) (place : ℕ) (e : E.Excess) (loss : Loss) : Type 0
@@ -32,13 +32,13 @@ AllFormed k form rows formed = (g : LinearRow) → Contains rows g →
 -- the constraints that were formed of the rows before the place, with the form put in for column k, and what is told of
 -- the first that was left out
 pub record AreFormed (k : ℕ) (form : List ℤ) (n : ℕ) (rows : List (List ℤ)) (kinds : List ConKind) (i : ℕ)
-    (all : Listed ConKind) (lost : Option Loss) : Type 0 where
+    (all : LinearSystem ConKind) (lost : Option Loss) : Type 0 where
   pub dims : all.dims ≡ n
   pub many : length all.rows ≡ length all.kinds
   pub whole : IfNone lost
-      (constraints all ≡ substituted_rows k form (given_by is_equality (take i rows) (take i kinds)))
+      (constraints all ≡ substituted_rows k form (rows_by_kind is_equality (take i rows) (take i kinds)))
   pub among : (g : LinearRow) → Contains (constraints all) g →
-      Contains (substituted_rows k form (given_by is_equality rows kinds)) g
+      Contains (substituted_rows k form (rows_by_kind is_equality rows kinds)) g
   pub is_lost : IfSome lost
-      (FormingPasses (λ g. checked_substitution k form g.row) (given_by is_equality rows kinds))
-  pub formed : AllFormed k form (given_by is_equality (take i rows) (take i kinds)) (constraints all)
+      (FormingPasses (λ g. checked_substitution k form g.row) (rows_by_kind is_equality rows kinds))
+  pub formed : AllFormed k form (rows_by_kind is_equality (take i rows) (take i kinds)) (constraints all)

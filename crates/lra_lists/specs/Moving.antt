@@ -10,11 +10,11 @@ use Rattle.lra_linear_spec.specs.Polyhedra.{Polyhedron}
 use Rattle.lra_linear_spec.specs.SetOperations.{assigned}
 use Rattle.lra_linear_spec.specs.Vectors.{entry, substituted}
 use Rattle.lra_linear_spec.specs.declared.ConKind.{ConKind}
-use Rattle.lra_sys.specs.Listed.{Listed}
+use Rattle.lra_systems.specs.LinearSystems.{LinearSystem}
 use Rattle.lra_linear_spec.specs.declared.GenKind.{GenKind}
 use Rattle.lra_row.specs.declared.error.RowError.{RowError}
 use Rattle.lra_row.specs.declared.error.RowError.TheVariants.{Excess, Memory}
-use Rattle.lra_canon.specs.Echelons.{HaveWidth, IsEchelonExcess}
+use Rattle.lra_canonical.specs.Echelons.{HaveWidth, IsEchelonExcess}
 use Rattle.lra_descriptions.specs.ShownLists.{ShowsConstraints, ShowsGenerators}
 use Rattle.lra_pair.specs.OwnLists.{AnyReductionExcess, AreReducedBy}
 
@@ -30,25 +30,27 @@ pub record TakesBack (k w : ℕ) (f g : List ℤ) : Type 0 where
 
 -- The constraints with the form put in for column k, as a canonical list: the equalities in echelon form, the
 -- inequalities reduced by it, in order.
-pub record IsSubstitutedList (n k : ℕ) (form : List ℤ) (given : List LinearRow) (list : Listed ConKind) : Type 0 where
-  pub lines : List (List ℤ)
-  pub rays : List (List ℤ)
-  pub is_form : IsEchelonOf lines (map (substituted k form) (lines_of given))
-  pub are_reduced : AreReducedBy lines (map (substituted k form) (rays_of given)) rays
-  pub line_widths : HaveWidth (suc n) lines
-  pub ray_widths : HaveWidth (suc n) rays
-  pub shown : ShowsConstraints n lines rays list
+pub record IsSubstitutedList (n k : ℕ) (form : List ℤ) (given : List LinearRow) (list : LinearSystem ConKind) : Type 0
+  where
+    pub lines : List (List ℤ)
+    pub rays : List (List ℤ)
+    pub is_form : IsEchelonOf lines (map (substituted k form) (lines_of given))
+    pub are_reduced : AreReducedBy lines (map (substituted k form) (rays_of given)) rays
+    pub line_widths : HaveWidth (suc n) lines
+    pub ray_widths : HaveWidth (suc n) rays
+    pub shown : ShowsConstraints n lines rays list
 
 -- The generators with the form's value in column k, as a canonical list: the lines in echelon form, the points and rays
 -- reduced by it, in order.
-pub record IsAssignedList (n k : ℕ) (form : List ℤ) (given : List LinearRow) (list : Listed GenKind) : Type 0 where
-  pub lines : List (List ℤ)
-  pub rays : List (List ℤ)
-  pub is_form : IsEchelonOf lines (map (assigned k form) (lines_of given))
-  pub are_reduced : AreReducedBy lines (map (assigned k form) (rays_of given)) rays
-  pub line_widths : HaveWidth (suc n) lines
-  pub ray_widths : HaveWidth (suc n) rays
-  pub shown : ShowsGenerators lines rays list
+pub record IsAssignedList (n k : ℕ) (form : List ℤ) (given : List LinearRow) (list : LinearSystem GenKind) : Type 0
+  where
+    pub lines : List (List ℤ)
+    pub rays : List (List ℤ)
+    pub is_form : IsEchelonOf lines (map (assigned k form) (lines_of given))
+    pub are_reduced : AreReducedBy lines (map (assigned k form) (rays_of given)) rays
+    pub line_widths : HaveWidth (suc n) lines
+    pub ray_widths : HaveWidth (suc n) rays
+    pub shown : ShowsGenerators lines rays list
 
 -- ---- a number that passes
 -- nothing is said of want of memory

@@ -8,22 +8,22 @@ ghost use Rattle.lra_linear_spec.specs.Kinds.{is_equality};
 ghost use Rattle.lra_linear_spec.specs.OperationStrain.{FormingPasses, mapped, substituted_rows};
 ghost use Rattle.lra_linear_spec.specs.SetOperations.{assigned};
 ghost use Rattle.lra_row.specs.Rows.{IsExcessOf};
-ghost use Rattle.lra_sys.specs.Dimensions.{too_many_dimensions};
-ghost use Rattle.lra_sys.specs.Listed.{constraints, generators, given_by, FitKinds};
+ghost use Rattle.lra_systems.specs.Dimensions.{too_many_dimensions};
+ghost use Rattle.lra_systems.specs.LinearSystems.{constraints, generators, rows_by_kind, FitKinds};
 ghost use Rattle.lra_lists.specs.Forming.{AllFormed, AreFormed, IsLossAt};
 
 use lra_cone::Loss;
 use lra_descriptions::dual_rows;
 use lra_linear_spec::{Cause, Excess};
 use lra_row::{Row, RowError};
-use lra_sys::{ConSys, GenSys, TOO_MANY_DIMENSIONS};
+use lra_systems::{ConSys, GenSys, TOO_MANY_DIMENSIONS};
 use std::alloc::{AllocError, Global};
 
 // The first rows of the list.
 fn first_rows(alloc: Global, list: &ConSys, count: usize) -> Result<ConSys, AllocError>
     requires { count < length list.now.rows }
     ensures { IfOk result (λ chosen. constraints chosen ≡
-        given_by is_equality (take count list.now.rows) (take count list.now.kinds)) }
+        rows_by_kind is_equality (take count list.now.rows) (take count list.now.kinds)) }
 {
     let n = list.dims();
     if n >= TOO_MANY_DIMENSIONS {

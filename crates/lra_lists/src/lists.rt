@@ -5,12 +5,12 @@ ghost use Rattle.std.specs.Prelude.{IfOk};
 ghost use Rattle.lra_linear_spec.specs.Descriptions.{rows_as, line};
 ghost use Rattle.lra_linear_spec.specs.OperationStrain.{as_directions, shortened, unit_row};
 ghost use Rattle.lra_linear_spec.specs.Vectors.{cleared, entry, units, zeros};
-ghost use Rattle.lra_sys.specs.Dimensions.{too_many_dimensions};
+ghost use Rattle.lra_systems.specs.Dimensions.{too_many_dimensions};
 ghost use Rattle.lra_linear_spec.specs.Kinds.{is_line};
-ghost use Rattle.lra_sys.specs.Listed.{generators, FitKinds, FitsKind};
+ghost use Rattle.lra_systems.specs.LinearSystems.{generators, FitKinds, FitsKind};
 
 use lra_row::Row;
-use lra_sys::{GenKind, GenSys, TOO_MANY_DIMENSIONS, unit};
+use lra_systems::{GenKind, GenSys, TOO_MANY_DIMENSIONS, unit};
 use std::alloc::{AllocError, Global};
 
 /// The generators, then a line along a dimension.

@@ -2,7 +2,7 @@
 
 ghost use Rattle.std.specs.Prelude.{◌≡◌, ◌↔◌, ◌<◌, ◌++◌, ◌∷◌, [], IsTrue, cond, suc, pos, negsuc, map, length};
 ghost use Rattle.std.specs.Prelude.{slice_set, Err, IfErr, IfOk, IfSome, IfNone, OnOk};
-ghost use Rattle.lra_canon.specs.Echelons.{HaveWidth};
+ghost use Rattle.lra_canonical.specs.Echelons.{HaveWidth};
 ghost use Rattle.std.specs.List.{Contains};
 ghost use Rattle.lra_linear_spec.specs.CheckedArithmetic.{checked_product, checked_substitution};
 ghost use Rattle.lra_linear_spec.specs.Descriptions.{LinearRow, lines_of, rays_of};
@@ -12,15 +12,15 @@ ghost use Rattle.lra_linear_spec.specs.Vectors.{entry, negated, substituted};
 ghost use Rattle.lra_lists.specs.Moving.{TakesBack, IsSubstitutedList, IsAssignedList};
 ghost use Rattle.lra_lists.specs.Moving.{AssignmentPasses, CanonicalPasses, HasUnit, OnExcess, SubstitutionPasses};
 ghost use Rattle.lra_pair.specs.OwnLists.{AreReducedBy};
-ghost use Rattle.lra_sys.specs.Dimensions.{too_many_dimensions};
-ghost use Rattle.lra_sys.specs.Listed.{constraints, generators};
+ghost use Rattle.lra_systems.specs.Dimensions.{too_many_dimensions};
+ghost use Rattle.lra_systems.specs.LinearSystems.{constraints, generators};
 
 use crate::forming::assign_row;
-use lra_canon::echelon;
+use lra_canonical::echelon;
 use lra_descriptions::{constraint_list, generator_list};
 use lra_pair::{Own, all_reduced};
 use lra_row::{Row, RowError};
-use lra_sys::{ConSys, GenSys, unit};
+use lra_systems::{ConSys, GenSys, unit};
 use std::alloc::{AllocError, Global};
 
 fn is_one(row: &Row, column: usize) -> bool

@@ -18,7 +18,7 @@ use Rattle.lra_linear_spec.proofs.Lines.{generated_described, whole_described}
 use Rattle.lra_linear_spec.proofs.Membership.{map_from}
 use Rattle.lra_linear_spec.proofs.Polyhedra.{con_gen}
 use Rattle.lra_linear_spec.proofs.Ring.{ring, v, ◌⊕◌, ◌⊗◌}
-use Rattle.lra_sys.specs.Listed.{Listed, generators}
+use Rattle.lra_systems.specs.LinearSystems.{LinearSystem, generators}
 use Rattle.lra_linear_spec.specs.declared.GenKind.{GenKind}
 use Rattle.lra_descriptions.proofs.SeveralKinds.{system_append, system_lines}
 use Rattle.lra_lists.proofs.ListLemmas.{longer_entry, short_divisor}
@@ -184,7 +184,7 @@ embedded_generators p k h = (
       (embedded_from p k x h (gen_generated (embedded k p) (entry x) g))),
 )
 
-pub embed_takes : (p : Polyhedron) (list all : Listed GenKind) (k : ℕ) → IsPolyhedron p → list.dims ≡ p.dims →
+pub embed_takes : (p : Polyhedron) (list all : LinearSystem GenKind) (k : ℕ) → IsPolyhedron p → list.dims ≡ p.dims →
     generators list ≡ p.generators → all.dims ≡ list.dims + k →
     generators all ≡ mapped_by (λ r. r ++ zeros k) (generators list) ++
     rows_as true (map (λ u. zeros (suc list.dims) ++ u) (units k)) →

@@ -9,7 +9,7 @@ use Rattle.lra_linear_spec.specs.SetOperations.{RemoveLast}
 use Rattle.lra_linear_spec.specs.Vectors.{entry, negated}
 use Rattle.lra_linear_spec.proofs.Polyhedra.{con_gen}
 use Rattle.lra_linear_spec.proofs.Ring.{ring, v, ◌⊕◌, ◌⊗◌}
-use Rattle.lra_sys.specs.Listed.{Listed, generators}
+use Rattle.lra_systems.specs.LinearSystems.{LinearSystem, generators}
 use Rattle.lra_linear_spec.specs.declared.GenKind.{GenKind}
 use Rattle.lra_lists.proofs.MappedSets.{IsMapOf, mapped_from, mapped_in, widths_of}
 use Rattle.lra_lists.proofs.Sums.{IsLinear}
@@ -80,7 +80,7 @@ shortened_generators p n k h e = (
 split_dims : (d k : ℕ) → k ≤ d → d ≡ (d - k) + k
 split_dims d k h = omega (arith, h)
 
-pub remove_takes : (p : Polyhedron) (list all : Listed GenKind) (k n : ℕ) → IsPolyhedron p → k ≤ p.dims →
+pub remove_takes : (p : Polyhedron) (list all : LinearSystem GenKind) (k n : ℕ) → IsPolyhedron p → k ≤ p.dims →
     generators list ≡ p.generators → n ≡ p.dims - k → all.dims ≡ n →
     generators all ≡ shortened n (generators list) → Takes (p.dims - k) (RemoveLast (p.dims - k) k (Con p.rows))
     (shortened (p.dims - k) p.generators) all

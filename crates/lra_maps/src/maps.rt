@@ -9,12 +9,12 @@ ghost use Rattle.lra_linear_spec.specs.Points.{IsEmptySet};
 ghost use Rattle.lra_linear_spec.specs.SetOperations.{Embed, RemoveLast, TimeElapse};
 ghost use Rattle.lra_poly.specs.Outcomes.{Becomes, IfFlagged, IsOfGenerators};
 ghost use Rattle.lra_poly.specs.United.{AreTriedPoints};
-ghost use Rattle.lra_sys.specs.Dimensions.{too_many_dimensions};
-ghost use Rattle.lra_sys.specs.Listed.{generators, FitKinds};
+ghost use Rattle.lra_systems.specs.Dimensions.{too_many_dimensions};
+ghost use Rattle.lra_systems.specs.LinearSystems.{generators, FitKinds};
 
 use lra_lists::{directions_of, embed_list, shorten, with_directions};
 use lra_poly::{Outcome, Poly};
-use lra_sys::GenSys;
+use lra_systems::GenSys;
 use std::alloc::AllocError;
 
 // Becomes the polyhedron of the generators.

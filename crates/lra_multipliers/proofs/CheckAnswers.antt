@@ -7,7 +7,7 @@ use Rattle.lra_linear_spec.specs.Descriptions.{rows_of}
 use Rattle.lra_linear_spec.specs.Kinds.{is_equality}
 use Rattle.lra_linear_spec.specs.declared.ConKind.{ConKind}
 use Rattle.lra_linear_spec.proofs.Membership.{contains_head, contains_tail}
-use Rattle.lra_sys.specs.Listed.{Listed, constraints, given_by}
+use Rattle.lra_systems.specs.LinearSystems.{LinearSystem, constraints, rows_by_kind}
 use Rattle.lra_multipliers.specs.Multipliers.{Multipliers, Answer, IsAnswer, may_show, checked}
 use Rattle.lra_multipliers.specs.Columns.{column_agrees, ColumnsTell, kinds_show, answer_told}
 use Rattle.lra_multipliers.proofs.CheckSteps.{AreWide, checked_told, checked_exact}
@@ -17,43 +17,43 @@ by_recursion : {A : Type 0} (Q : A → Type 0) (xs : List A) → ((x : A) → Co
 by_recursion Q [] h = tt
 by_recursion Q (x ∷ xs) h = (h x (contains_head x xs), by_recursion Q xs (λ y k. h y (contains_tail x y xs k)))
 
-given_wide : (n : ℕ) (rows : List (List ℤ)) (kinds : List ConKind) → AllByRecursion (λ r. length r ≡ n) rows → AreWide n (given_by is_equality rows kinds)
+given_wide : (n : ℕ) (rows : List (List ℤ)) (kinds : List ConKind) → AllByRecursion (λ r. length r ≡ n) rows → AreWide n (rows_by_kind is_equality rows kinds)
 given_wide n [] kinds w = tt
 given_wide n (r ∷ rows) [] w = tt
 given_wide n (r ∷ rows) (k ∷ kinds) w = (w.0, given_wide n rows kinds w.1)
 
-rows_given : (rows : List (List ℤ)) (kinds : List ConKind) → length kinds ≡ length rows → rows_of (given_by is_equality rows kinds) ≡ rows
+rows_given : (rows : List (List ℤ)) (kinds : List ConKind) → length kinds ≡ length rows → rows_of (rows_by_kind is_equality rows kinds) ≡ rows
 rows_given [] kinds e = refl
 rows_given (r ∷ rows) [] e = absurd (omega (arith, e))
 rows_given (r ∷ rows) (k ∷ kinds) e = ap (λ (x : List (List ℤ)). r ∷ x) (rows_given rows kinds (omega (arith, e)))
 
-module _ (s : Listed ConKind) (rows : List (List ℤ)) (kinds : List ConKind) (claim : List ℤ) (m : Multipliers) (t : Option Bool) (b : Bool) (r : Answer)
+module _ (s : LinearSystem ConKind) (rows : List (List ℤ)) (kinds : List ConKind) (claim : List ℤ) (m : Multipliers) (t : Option Bool) (b : Bool) (r : Answer)
     (er : rows ≡ s.rows) (ek : kinds ≡ s.kinds)
     (n : length kinds ≡ length rows) (widths : All (λ x. length x ≡ suc s.dims) rows) (width : length claim ≡ suc s.dims)
     (tell : ColumnsTell (column_agrees rows claim m) (length claim) t) (shows : b ≡ kinds_show kinds m) (is : r ≡ answer_told b t) where
-  wide_rows : AreWide (length claim) (given_by is_equality rows kinds)
-  wide_rows = subst (λ (k : ℕ). AreWide k (given_by is_equality rows kinds)) (sym width)
+  wide_rows : AreWide (length claim) (rows_by_kind is_equality rows kinds)
+  wide_rows = subst (λ (k : ℕ). AreWide k (rows_by_kind is_equality rows kinds)) (sym width)
       (given_wide (suc s.dims) rows kinds (by_recursion (λ (x : List ℤ). length x ≡ suc s.dims) rows
       (λ x k. All-contains (λ (y : List ℤ). length y ≡ suc s.dims) rows x widths k)))
 
-  kinds_are : b ≡ may_show (given_by is_equality rows kinds) m
+  kinds_are : b ≡ may_show (rows_by_kind is_equality rows kinds) m
   kinds_are = shows ∙ sym (ap (λ (x : Bool). int_le (pos 1) m.divisor && int_le (pos 0) m.constant && x) (kinds_signed_is rows kinds m.factors n))
 
-  same : checked (given_by is_equality rows kinds) claim m ≡ checked (constraints s) claim m
-  same = ap (λ (x : List (List ℤ)). checked (given_by is_equality x kinds) claim m) er ∙ ap
-      (λ (x : List ConKind). checked (given_by is_equality s.rows x) claim m) ek
+  same : checked (rows_by_kind is_equality rows kinds) claim m ≡ checked (constraints s) claim m
+  same = ap (λ (x : List (List ℤ)). checked (rows_by_kind is_equality x kinds) claim m) er ∙ ap
+      (λ (x : List ConKind). checked (rows_by_kind is_equality s.rows x) claim m) ek
 
   pub check_made : r ≡ checked (constraints s) claim m
   check_made =
       is ∙ ap (λ (x : Bool). answer_told x t) kinds_are ∙
-      sym (checked_told (given_by is_equality rows kinds) claim m t (omega (arith, width)) wide_rows
+      sym (checked_told (rows_by_kind is_equality rows kinds) claim m t (omega (arith, width)) wide_rows
       (subst (λ (x : List (List ℤ)). ColumnsTell (column_agrees x claim m) (length claim) t) (sym (rows_given rows kinds n)) tell)) ∙ same
 
-  right : IsAnswer (given_by is_equality rows kinds) claim m (checked (given_by is_equality rows kinds) claim m)
-  right = checked_exact (given_by is_equality rows kinds) claim m (omega (arith, width)) wide_rows
+  right : IsAnswer (rows_by_kind is_equality rows kinds) claim m (checked (rows_by_kind is_equality rows kinds) claim m)
+  right = checked_exact (rows_by_kind is_equality rows kinds) claim m (omega (arith, width)) wide_rows
 
   pub check_exact : IsAnswer (constraints s) claim m r
   check_exact =
       subst (λ (x : Answer). IsAnswer (constraints s) claim m x) (same ∙ sym check_made)
-      (subst (λ (x : List ConKind). IsAnswer (given_by is_equality s.rows x) claim m (checked (given_by is_equality rows kinds) claim m)) ek
-      (subst (λ (x : List (List ℤ)). IsAnswer (given_by is_equality x kinds) claim m (checked (given_by is_equality rows kinds) claim m)) er right))
+      (subst (λ (x : List ConKind). IsAnswer (rows_by_kind is_equality s.rows x) claim m (checked (rows_by_kind is_equality rows kinds) claim m)) ek
+      (subst (λ (x : List (List ℤ)). IsAnswer (rows_by_kind is_equality x kinds) claim m (checked (rows_by_kind is_equality rows kinds) claim m)) er right))

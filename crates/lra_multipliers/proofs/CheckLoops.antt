@@ -12,7 +12,7 @@ use Rattle.lra_linear_spec.specs.Range.{InRange}
 use Rattle.lra_linear_spec.specs.declared.ConKind.{ConKind}
 use Rattle.lra_linear_spec.specs.declared.ConKind.TheVariants.{Ge}
 use Rattle.lra_linear_spec.specs.Vectors.{entry}
-use Rattle.lra_sys.specs.Listed.{given_by}
+use Rattle.lra_systems.specs.LinearSystems.{rows_by_kind}
 use Rattle.lra_multipliers.specs.Multipliers.{is_signed, are_signed}
 use Rattle.lra_multipliers.specs.Columns.{added_to, column_sum, kinds_signed, used_from}
 use Rattle.lra_multipliers.proofs.CheckSteps.{zero_leaves, added_in}
@@ -43,7 +43,8 @@ signed_end kinds ls i n h =
     ap (λ (x : List ConKind). kinds_signed x (drop i ls)) (drop_all i kinds h) ∙ ap (λ (x : List ℤ). kinds_signed [] x) (drop_all i ls (omega (arith, n, h)))
 
 -- the kinds of a list with rows of any kind
-pub kinds_signed_is : (rows : List (List ℤ)) (kinds : List ConKind) (ls : List ℤ) → length kinds ≡ length rows → are_signed (given_by is_equality rows kinds)
+pub kinds_signed_is : (rows : List (List ℤ)) (kinds : List ConKind) (ls : List ℤ) → length kinds ≡ length rows →
+    are_signed (rows_by_kind is_equality rows kinds)
     ls ≡ kinds_signed kinds ls
 kinds_signed_is [] [] [] e = refl
 kinds_signed_is [] [] (l ∷ ls) e = refl

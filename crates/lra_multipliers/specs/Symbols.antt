@@ -7,7 +7,7 @@ use Rattle.lra_linear_spec.specs.CheckedArithmetic.{checked_added, and_then}
 use Rattle.lra_linear_spec.specs.Descriptions.{LinearRow}
 use Rattle.lra_linear_spec.specs.Kinds.{is_equality}
 use Rattle.lra_linear_spec.specs.Vectors.{zeros}
-use Rattle.lra_lin.specs.Form.{form_row}
+use Rattle.lra_linear_forms.specs.Form.{form_row}
 use Rattle.lra_domain.specs.Actions.{Action, assign, forget, test, embed, remove_last}
 
 -- the row of one symbol, and those of so many, from this column on

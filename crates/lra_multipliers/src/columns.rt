@@ -4,7 +4,7 @@ ghost use Rattle.std.specs.Prelude.{◌≡◌, ◌<◌, length, suc, ◌*ℤ◌,
 ghost use Rattle.std.specs.List.{All};
 ghost use Rattle.lra_linear_spec.specs.Kinds.{is_equality};
 ghost use Rattle.lra_linear_spec.specs.Range.{InRange};
-ghost use Rattle.lra_sys.specs.Listed.{constraints};
+ghost use Rattle.lra_systems.specs.LinearSystems.{constraints};
 ghost use Rattle.lra_multipliers.specs.Multipliers.{IsAnswer, is_signed, checked};
 ghost use Rattle.lra_multipliers.specs.Columns.{added_to, column_sum, column_agrees, ColumnsTell, first_of};
 ghost use Rattle.lra_multipliers.specs.Columns.{kinds_signed, kinds_show, answer_told, used_from, within_range};
@@ -13,7 +13,7 @@ ghost use Rattle.lra_multipliers.specs.MultiplierViews.{answer_view, multipliers
 use crate::multipliers::Multipliers;
 use lra_linear_spec::ConKind;
 use lra_row::{Row, add, mul};
-use lra_sys::ConSys;
+use lra_systems::ConSys;
 
 /// The answer of a check; `Wide` where a product or a partial sum passes the range.
 #[derive(Clone, Copy, Debug, PartialEq, Eq)]

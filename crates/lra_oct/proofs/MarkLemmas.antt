@@ -2,7 +2,7 @@
 use Rattle.std.proofs.Common.{◌≡◌, ◌≢◌, ◌<◌, ℕ, ℤ, List, Bool, Option, IsTrue, inl, inr, refl, sym, subst}
 use Rattle.std.specs.Prelude.{◌⊎◌}
 use Rattle.lra_linear_spec.specs.declared.ConKind.{ConKind}
-use Rattle.lra_lin.specs.Form.{Form}
+use Rattle.lra_linear_forms.specs.Form.{Form}
 use Rattle.lra_domain.specs.declared.Exactness.{Exactness}
 use Rattle.lra_domain.specs.declared.Exactness.TheVariants.{Exact}
 use Rattle.lra_domain.specs.Actions.{assign, test}

@@ -13,7 +13,7 @@ use Rattle.lra_linear_spec.specs.declared.ConKind.{ConKind}
 use Rattle.lra_linear_spec.specs.declared.ConKind.TheVariants.{Ge, Eq}
 use Rattle.std.specs.List.{All}
 use Rattle.std.proofs.lemmas.List.Elements.{All-cons, All-nil}
-use Rattle.lra_sys.specs.Listed.{Listed}
+use Rattle.lra_systems.specs.LinearSystems.{LinearSystem}
 use Rattle.lra_domain.specs.Parts.{SomePartHolds}
 use Rattle.lra_box.proofs.PartLemmas.{AllHold, hold_append, rows_hold, product_zeros, times_one, one_times, minus_times}
 use Rattle.lra_dbm.specs.Entry.{◌⊑◌, half_of}
@@ -431,5 +431,5 @@ parts_mean n (Some cells) s fit e =
     only (inr b) = absurd b
 
 pub parts_dims : (n : ℕ) (o : Option Cells) → All (λ p. p.dims ≡ n) (octagon_parts n o)
-parts_dims n None = All-nil (λ (p : Listed ConKind). p.dims ≡ n)
-parts_dims n (Some cells) = All-cons (λ (p : Listed ConKind). p.dims ≡ n) (octagon_system n (entries n cells)) [] refl (All-nil (λ (p : Listed ConKind). p.dims ≡ n))
+parts_dims n None = All-nil (λ (p : LinearSystem ConKind). p.dims ≡ n)
+parts_dims n (Some cells) = All-cons (λ (p : LinearSystem ConKind). p.dims ≡ n) (octagon_system n (entries n cells)) [] refl (All-nil (λ (p : LinearSystem ConKind). p.dims ≡ n))

@@ -11,7 +11,7 @@ use Rattle.std.proofs.lemmas.List.Elements.{All-cons}
 use Rattle.lra_linear_spec.specs.Range.{InRange}
 use Rattle.lra_linear_spec.specs.declared.ConKind.{ConKind}
 use Rattle.lra_linear_spec.specs.declared.ConKind.TheVariants.{Ge, Eq}
-use Rattle.lra_sys.specs.Listed.{Listed}
+use Rattle.lra_systems.specs.LinearSystems.{LinearSystem}
 use Rattle.lra_linear_spec.proofs.UnitRows.{set_in_range, zeros_in_range}
 use Rattle.lra_box.proofs.PartLemmas.{kinds_append}
 use Rattle.lra_dbm.specs.Entry.{half_of, EntryInRange}
@@ -58,14 +58,14 @@ printed_fits n cells i j o is e = subst (λ (z : Option ℤ). EntryInRange z) (s
 
 -- ---- rows that are added
 
-pub pushed_none : (kind : ConKind) (added : List (List ℤ)) (s : Listed ConKind) → added ≡ [] → Pushed kind added s s
+pub pushed_none : (kind : ConKind) (added : List (List ℤ)) (s : LinearSystem ConKind) → added ≡ [] → Pushed kind added s s
 pushed_none kind added s e = rw e (record { dims = refl; rows = sym (append-nil s.rows); kinds = sym (append-nil s.kinds) })
 
-pub pushed_row : (kind : ConKind) (added : List (List ℤ)) (row : List ℤ) (old new : Listed ConKind) → added ≡ row ∷ [] → new.dims ≡ old.dims
+pub pushed_row : (kind : ConKind) (added : List (List ℤ)) (row : List ℤ) (old new : LinearSystem ConKind) → added ≡ row ∷ [] → new.dims ≡ old.dims
     → new.rows ≡ old.rows ++ (row ∷ []) → new.kinds ≡ old.kinds ++ (kind ∷ []) → Pushed kind added old new
 pushed_row kind added row old new e d r k = rw e (record { dims = d; rows = r; kinds = k })
 
-pub pushed_then : (kind : ConKind) (xs ys : List (List ℤ)) (one two three : Listed ConKind) → Pushed kind xs one two → Pushed kind ys two three → Pushed kind (xs ++ ys) one three
+pub pushed_then : (kind : ConKind) (xs ys : List (List ℤ)) (one two three : LinearSystem ConKind) → Pushed kind xs one two → Pushed kind ys two three → Pushed kind (xs ++ ys) one three
 pushed_then kind xs ys one two three p q = record {
   dims = q.dims ∙ p.dims;
   rows = q.rows ∙ ap (λ z. z ++ ys) p.rows ∙ append_assoc one.rows xs ys;
@@ -73,20 +73,20 @@ pushed_then kind xs ys one two three p q = record {
       ∙ ap (λ z. one.kinds ++ z) (sym (kinds_append kind xs ys));
 }
 
-pub pushed_three : (kind : ConKind) (xs ys zs : List (List ℤ)) (one two three four : Listed ConKind) → Pushed kind xs one two → Pushed kind ys two three → Pushed kind zs three four
+pub pushed_three : (kind : ConKind) (xs ys zs : List (List ℤ)) (one two three four : LinearSystem ConKind) → Pushed kind xs one two → Pushed kind ys two three → Pushed kind zs three four
     → Pushed kind ((xs ++ ys) ++ zs) one four
 pushed_three kind xs ys zs one two three four p q r = pushed_then kind (xs ++ ys) zs one three four (pushed_then kind xs ys one two three p q) r
 
 -- the rows before `rest` were added
-pub record Pushing (kind : ConKind) (all rest : List (List ℤ)) (old now : Listed ConKind) : Type 0 where
+pub record Pushing (kind : ConKind) (all rest : List (List ℤ)) (old now : LinearSystem ConKind) : Type 0 where
   pub added : List (List ℤ)
   pub pushed : Pushed kind added old now
   pub all_is : all ≡ added ++ rest
 
-pub pushing_start : (kind : ConKind) (all : List (List ℤ)) (s : Listed ConKind) → Pushing kind all all s s
+pub pushing_start : (kind : ConKind) (all : List (List ℤ)) (s : LinearSystem ConKind) → Pushing kind all all s s
 pushing_start kind all s = record { added = []; pushed = pushed_none kind [] s refl; all_is = refl }
 
-pub pushing_more : (kind : ConKind) (all rest more later : List (List ℤ)) (old now new : Listed ConKind) → Pushing kind all rest old now → rest ≡ more ++ later → Pushed kind more now new
+pub pushing_more : (kind : ConKind) (all rest more later : List (List ℤ)) (old now new : LinearSystem ConKind) → Pushing kind all rest old now → rest ≡ more ++ later → Pushed kind more now new
     → Pushing kind all later old new
 pushing_more kind all rest more later old now new p e q = record {
   added = p.added ++ more;
@@ -94,7 +94,8 @@ pushing_more kind all rest more later old now new p e q = record {
   all_is = p.all_is ∙ ap (λ z. p.added ++ z) e ∙ sym (append_assoc p.added more later);
 }
 
-pub pushing_end : (kind : ConKind) (all rest : List (List ℤ)) (old now : Listed ConKind) → Pushing kind all rest old now → rest ≡ [] → Pushed kind all old now
+pub pushing_end : (kind : ConKind) (all rest : List (List ℤ)) (old now : LinearSystem ConKind) → Pushing kind all rest old now → rest ≡ [] →
+    Pushed kind all old now
 pushing_end kind all rest old now p e = subst (λ (z : List (List ℤ)). Pushed kind z old now) (sym (p.all_is ∙ ap (λ z. p.added ++ z) e ∙ append-nil p.added)) p.pushed
 
 -- ---- one more row of a list
@@ -128,11 +129,11 @@ from_first n = omega arith
 
 -- ---- the whole
 
-pub pushed_system : (n : ℕ) (m : Entries) (one two three : Listed ConKind) → one.dims ≡ n → one.rows ≡ [] → one.kinds ≡ []
+pub pushed_system : (n : ℕ) (m : Entries) (one two three : LinearSystem ConKind) → one.dims ≡ n → one.rows ≡ [] → one.kinds ≡ []
     → Pushed Eq (equal_rows n m 0 n) one two → Pushed Ge (unequal_rows n m 0 n) two three → three ≡ octagon_system n m
 pushed_system n m one two three d r k p q = same_listed three (octagon_system n m) (q.dims ∙ p.dims ∙ d)
     (q.rows ∙ ap (λ z. z ++ unequal_rows n m 0 n) (p.rows ∙ ap (λ z. z ++ equal_rows n m 0 n) r))
     (q.kinds ∙ ap (λ z. z ++ replicate (length (unequal_rows n m 0 n)) Ge) (p.kinds ∙ ap (λ z. z ++ replicate (length (equal_rows n m 0 n)) Eq) k))
   where
-    same_listed : (a b : Listed ConKind) → a.dims ≡ b.dims → a.rows ≡ b.rows → a.kinds ≡ b.kinds → a ≡ b
+    same_listed : (a b : LinearSystem ConKind) → a.dims ≡ b.dims → a.rows ≡ b.rows → a.kinds ≡ b.kinds → a ≡ b
     same_listed a b d r k = rw (d, r, k) refl

@@ -6,8 +6,8 @@ use Rattle.std.proofs.lemmas.Int.{ints}
 use Rattle.std.proofs.lemmas.Bool.{false≢true}
 use Rattle.lra_linear_spec.specs.Vectors.{product}
 use Rattle.lra_linear_spec.specs.declared.ConKind.TheVariants.{Ge, Eq}
-use Rattle.lra_lin.specs.Form.{Form, form_value}
-use Rattle.lra_lin.proofs.FormLemmas.{product_negated}
+use Rattle.lra_linear_forms.specs.Form.{Form, form_value}
+use Rattle.lra_linear_forms.proofs.FormLemmas.{product_negated}
 use Rattle.lra_domain.specs.Actions.{test}
 use Rattle.lra_domain.specs.Meaning.{Meets}
 use Rattle.lra_domain.specs.declared.Exactness.{Exactness}

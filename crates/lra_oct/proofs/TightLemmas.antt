@@ -11,7 +11,7 @@ use Rattle.lra_linear_spec.specs.declared.ConKind.TheVariants.{Ge, Eq}
 use Rattle.lra_linear_spec.specs.Vectors.{entry}
 use Rattle.lra_linear_spec.proofs.CheckedArithmetic.{in_range_yes}
 use Rattle.lra_linear_spec.proofs.Products.{entry_set_same}
-use Rattle.lra_lin.specs.Form.{Form}
+use Rattle.lra_linear_forms.specs.Form.{Form}
 use Rattle.lra_domain.specs.Actions.{Action, ActionFits, assign, forget, test, embed, remove_last}
 use Rattle.lra_domain.specs.Bounds.{greater}
 use Rattle.lra_box.specs.declared.interval.Interval.{Interval}

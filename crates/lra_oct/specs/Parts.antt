@@ -5,7 +5,7 @@ use Rattle.std.specs.Prelude.{◌≡◌, ℕ, zero, suc, ◌+◌, ◌*◌, ◌-�
 use Rattle.std.specs.Prelude.{neg_ℤ}
 use Rattle.std.specs.Prelude.{◌+ℤ◌, int_le, List, [], ◌∷◌, ◌++◌, length, replicate, slice_set, Option, None, Some}
 use Rattle.std.specs.Ordering.{int_eq}
-use Rattle.lra_sys.specs.Listed.{Listed}
+use Rattle.lra_systems.specs.LinearSystems.{LinearSystem}
 use Rattle.lra_linear_spec.specs.declared.ConKind.{ConKind}
 use Rattle.lra_linear_spec.specs.declared.ConKind.TheVariants.{Ge, Eq}
 use Rattle.lra_dbm.specs.Tight.{Entries, opposite, with_sign}
@@ -81,7 +81,7 @@ unequal_rows n m a zero = []
 unequal_rows n m a (suc k) =
     (rows_with n (kind_row Ge n m) (2 * a) ++ rows_with n (kind_row Ge n m) (2 * a + 1)) ++ unequal_rows n m (suc a) k
 
-abbrev pub octagon_system : ℕ → Entries → Listed ConKind
+abbrev pub octagon_system : ℕ → Entries → LinearSystem ConKind
 octagon_system n m = record {
   dims = n;
   rows = equal_rows n m 0 n ++ unequal_rows n m 0 n;
@@ -89,12 +89,12 @@ octagon_system n m = record {
 }
 
 -- an empty octagon has no part, another has one
-abbrev pub octagon_parts : ℕ → Option Cells → List (Listed ConKind)
+abbrev pub octagon_parts : ℕ → Option Cells → List (LinearSystem ConKind)
 octagon_parts n None = []
 octagon_parts n (Some cells) = octagon_system n (entries n cells) ∷ []
 
 -- rows of one kind were added to a list of rows
-pub record Pushed (kind : ConKind) (added : List (List ℤ)) (old new : Listed ConKind) : Type 0 where
+pub record Pushed (kind : ConKind) (added : List (List ℤ)) (old new : LinearSystem ConKind) : Type 0 where
   pub dims : new.dims ≡ old.dims
   pub rows : new.rows ≡ old.rows ++ added
   pub kinds : new.kinds ≡ old.kinds ++ replicate (length added) kind

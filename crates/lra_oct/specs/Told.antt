@@ -3,7 +3,7 @@
 -- over boxes. An infinite entry tells nothing, nor does a number that passes the range.
 use Rattle.std.specs.Prelude.{◌≡◌, ℕ, zero, suc, ℤ, neg_ℤ, Option, None, Some}
 use Rattle.std.specs.Option.{option_map}
-use Rattle.lra_lin.specs.Form.{Form}
+use Rattle.lra_linear_forms.specs.Form.{Form}
 use Rattle.lra_dbm.specs.Entry.{◌⊞◌, within_range}
 use Rattle.lra_dbm.specs.Tight.{Entries, opposite}
 use Rattle.lra_dbm.specs.Cells.{Cells, entries}

@@ -1,6 +1,6 @@
 -- Tests that lower no entry: of a tight matrix they are the matrix itself.
 use Rattle.std.specs.Prelude.{ℕ, ℤ, pos, ◌+ℤ◌, ◌≤ℤ◌, Some}
-use Rattle.lra_lin.specs.Form.{Form}
+use Rattle.lra_linear_forms.specs.Form.{Form}
 use Rattle.lra_dbm.specs.Entry.{◌⊑◌}
 use Rattle.lra_dbm.specs.Tight.{opposite}
 use Rattle.lra_dbm.specs.Cells.{Cells, entries}

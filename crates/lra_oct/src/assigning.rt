@@ -20,7 +20,7 @@ use crate::unary::{close_within, intervals_of};
 use lra_box::{Interval, Side, sum_end, wide_row};
 use lra_dbm::Matrix;
 use lra_domain::{Exactness, worse};
-use lra_lin::LinExpr;
+use lra_linear_forms::LinExpr;
 use std::alloc::{AllocError, Global};
 
 /// What an assignment to `x` does: `x` becomes another variable's signed variable plus the constant, or itself plus the

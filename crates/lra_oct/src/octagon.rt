@@ -17,8 +17,8 @@ use crate::telling::bounds_of;
 use crate::testing::test_in;
 use crate::tightness::{assignment_closes, makes_tight, passes_all, test_closes};
 use lra_domain::{Domain, Exactness, Grown, Included, Mode, Plain, Rank, Told};
-use lra_lin::{LinExpr, Test};
-use lra_sys::ConSys;
+use lra_linear_forms::{LinExpr, Test};
+use lra_systems::ConSys;
 use std::alloc::{AllocError, Global};
 use std::marker::Model;
 

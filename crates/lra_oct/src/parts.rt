@@ -16,7 +16,7 @@ use crate::unary::most;
 use lra_dbm::{Matrix, opposite};
 use lra_linear_spec::ConKind;
 use lra_row::Row;
-use lra_sys::ConSys;
+use lra_systems::ConSys;
 use std::alloc::{AllocError, Global};
 
 /// The coefficient of a signed variable.

@@ -15,7 +15,7 @@ use crate::forms::{Shape, with_coefficient};
 use crate::unary::{interval_of, most};
 use lra_box::{Side, plus_end};
 use lra_dbm::{Matrix, opposite};
-use lra_lin::LinExpr;
+use lra_linear_forms::LinExpr;
 use lra_row::add;
 
 /// The shape of the form with these coefficients.

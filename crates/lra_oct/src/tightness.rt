@@ -2,7 +2,7 @@
 
 ghost use Rattle.std.specs.Prelude.{◌≡◌, ◌≢◌, ◌≤◌, ◌<◌, ◌*◌, ◌^◌, ◌⊎◌, length, unsigned_abs, Bool, Some, IsTrue};
 ghost use Rattle.lra_domain.specs.declared.Exactness.TheVariants.{Exact};
-ghost use Rattle.lra_lin.specs.Form.{Form};
+ghost use Rattle.lra_linear_forms.specs.Form.{Form};
 ghost use Rattle.lra_dbm.specs.Cells.{IsMatrix};
 ghost use Rattle.lra_oct.specs.Content.{seen, CellsFit, DimsFit};
 ghost use Rattle.lra_oct.specs.declared.assigning.Assignment.TheVariants.{Shift};
@@ -19,7 +19,7 @@ use crate::telling::shape_of_form;
 use crate::testing::quotient;
 use lra_dbm::{Matrix, opposite};
 use lra_domain::Exactness;
-use lra_lin::{LinExpr, Test};
+use lra_linear_forms::{LinExpr, Test};
 use lra_linear_spec::ConKind;
 
 /// The shape of the opposite form.

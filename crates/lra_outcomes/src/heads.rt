@@ -17,7 +17,7 @@ use crate::plan::Plan;
 use crate::shapes::Loop;
 use lra_domain::{Domain, Grown, Mode};
 use lra_forms::{given_of, thresholds_of};
-use lra_sys::ConSys;
+use lra_systems::ConSys;
 use std::alloc::{AllocError, Global};
 
 /// How a round grows the head, by how many rounds of joining are left.

@@ -22,16 +22,16 @@ use Rattle.lra_linear_spec.proofs.OneSpelling.{given_from, falsity_never, given_
 use Rattle.lra_linear_spec.proofs.Lines.{signed_zero}
 use Rattle.lra_linear_spec.proofs.Products.{negated_dot, dot_negated}
 use Rattle.lra_linear_spec.proofs.Signs.{between_opposites}
-use Rattle.lra_canon.proofs.Orders.{ascends}
-use Rattle.lra_canon.specs.declared.order.Order.TheVariants.{Inequalities}
-use Rattle.lra_sys.specs.Listed.{Listed, generators, constraints, given_by, FitsKind, FitKinds}
+use Rattle.lra_canonical.proofs.Orders.{ascends}
+use Rattle.lra_canonical.specs.declared.order.Order.TheVariants.{Inequalities}
+use Rattle.lra_systems.specs.LinearSystems.{LinearSystem, generators, constraints, rows_by_kind, FitsKind, FitKinds}
 use Rattle.lra_linear_spec.specs.Kinds.{is_equality, is_line}
 use Rattle.lra_linear_spec.specs.declared.ConKind.{ConKind}
 use Rattle.lra_linear_spec.specs.declared.ConKind.TheVariants.{Ge, Eq}
 use Rattle.lra_linear_spec.specs.declared.GenKind.{GenKind}
 use Rattle.lra_linear_spec.specs.declared.GenKind.TheVariants.{Point, Ray, Line}
 use Rattle.lra_linear_spec.specs.Strain.{Loss, Strains}
-use Rattle.lra_cone.specs.Cones.{Shape, IsCone}
+use Rattle.lra_cone.specs.Cones.{ConeContent, IsCone}
 use Rattle.lra_cone.specs.Losses.{IfLost}
 use Rattle.lra_descriptions.specs.ShownLists.{without, ShowsConstraints, HasConstraints, AreConstraintsOf, dual_kind, IsSeenValid, IsValid, ShowsValid}
 use Rattle.lra_cone.specs.Conversions.{IsConversion}
@@ -42,21 +42,23 @@ use Rattle.lra_descriptions.proofs.Parted.{without_from, without_has}
 use Rattle.lra_pair.proofs.GeneratorLists.{nothing_generated, at_points}
 
 -- ---- the list
-pub listed_constraints : (n : ℕ) (lines rays : List (List ℤ)) (list : Listed ConKind) (h : ShowsConstraints n lines rays list) → constraints list ≡ rows_as true lines ++ rows_as false h.inequalities
+pub listed_constraints : (n : ℕ) (lines rays : List (List ℤ)) (list : LinearSystem ConKind) (h : ShowsConstraints n lines rays list) →
+    constraints list ≡ rows_as true lines ++ rows_as false h.inequalities
 listed_constraints n lines rays list h =
     let es = replicate (length lines) Eq in
     let gs = replicate (length h.inequalities) Ge in
-    ap (λ (x : List (List ℤ)). given_by is_equality x list.kinds) h.rows_are ∙ ap (given_by is_equality (lines ++ h.inequalities)) h.kinds_are ∙
+    ap (λ (x : List (List ℤ)). rows_by_kind is_equality x list.kinds) h.rows_are ∙ ap (rows_by_kind is_equality (lines ++ h.inequalities)) h.kinds_are ∙
     given_append is_equality lines h.inequalities es gs (sym (length-replicate (length lines) Eq)) ∙
-    ap (λ (x : List LinearRow). x ++ given_by is_equality h.inequalities gs) (given_same is_equality lines Eq) ∙
+    ap (λ (x : List LinearRow). x ++ rows_by_kind is_equality h.inequalities gs) (given_same is_equality lines Eq) ∙
     ap (λ (x : List LinearRow). rows_as true lines ++ x) (given_same is_equality h.inequalities Ge)
 
-shown_from : (n : ℕ) (lines rays : List (List ℤ)) (list : Listed ConKind) (h : ShowsConstraints n lines rays list) (r : List ℤ) → Contains h.inequalities r → Contains rays r × (r ≢ positivity n)
+shown_from : (n : ℕ) (lines rays : List (List ℤ)) (list : LinearSystem ConKind) (h : ShowsConstraints n lines rays list) (r : List ℤ) → Contains h.inequalities r → Contains rays r × (r ≢ positivity n)
 shown_from n lines rays list h r m =
     without_from (positivity n) rays r (Contains-permutation h.inequalities (without (positivity n) rays) r (IsPermutation-sym (without (positivity n) rays) h.inequalities h.inequalities_are) m)
 
 -- of any canonical description
-pub listed_facets : (n : ℕ) (system lines rays : List (List ℤ)) (list : Listed ConKind) → AreDual (suc n) system (all_rows lines rays) → IsCanonical lines rays → ShowsConstraints n lines rays list →
+pub listed_facets : (n : ℕ) (system lines rays : List (List ℤ)) (list : LinearSystem ConKind) → AreDual (suc n) system (all_rows lines rays) → IsCanonical lines rays →
+    ShowsConstraints n lines rays list →
     (c : HasConstraints n system (constraints list)) × (c.facets ≡ rays)
 listed_facets n system lines rays list dual canonical h =
     let others = without (positivity n) rays in
@@ -81,11 +83,12 @@ listed_facets n system lines rays list dual canonical h =
     at_most_same : (a b : ℕ) → a ≡ b → a ≤ b
     at_most_same a b e = omega (arith, e)
 
-pub listed_hold : (n : ℕ) (system lines rays : List (List ℤ)) (list : Listed ConKind) → AreDual (suc n) system (all_rows lines rays) → IsCanonical lines rays → ShowsConstraints n lines rays list →
+pub listed_hold : (n : ℕ) (system lines rays : List (List ℤ)) (list : LinearSystem ConKind) → AreDual (suc n) system (all_rows lines rays) → IsCanonical lines rays →
+    ShowsConstraints n lines rays list →
     HasConstraints n system (constraints list)
 listed_hold n system lines rays list dual canonical h = (listed_facets n system lines rays list dual canonical h).0
 
-pub constraints_shown : (s : Shape) (n : ℕ) (given : List LinearRow) (list : Listed ConKind) → IsCone s → s.dims ≡ n → s.taken ≡ given → ShowsConstraints n s.lines s.rays list →
+pub constraints_shown : (s : ConeContent) (n : ℕ) (given : List LinearRow) (list : LinearSystem ConKind) → IsCone s → s.dims ≡ n → s.taken ≡ given → ShowsConstraints n s.lines s.rays list →
     HasConstraints n (system_of given) (constraints list)
 constraints_shown s n given list k d t h =
     listed_hold n (system_of given) s.lines s.rays list (subst (λ (m : ℕ). AreDual (suc m) (system_of given) (all_rows s.lines s.rays)) d
@@ -150,14 +153,15 @@ negated_zeros : (n : ℕ) → negated (zeros n) ≡ zeros n
 negated_zeros zero = refl
 negated_zeros (suc n) = ap (λ (x : List ℤ). pos 0 ∷ x) (negated_zeros n)
 
-pub nothing_is : (n : ℕ) (list : Listed ConKind) → list.rows ≡ negated (unit_row n 0) ∷ [] → list.kinds ≡ Ge ∷ [] → constraints list ≡ inequality (falsity n) ∷ []
-nothing_is n list er ek = ap (λ (x : List (List ℤ)). given_by is_equality x list.kinds) er ∙ ap (given_by is_equality (negated (unit_row n 0) ∷ [])) ek ∙
+pub nothing_is : (n : ℕ) (list : LinearSystem ConKind) → list.rows ≡ negated (unit_row n 0) ∷ [] → list.kinds ≡ Ge ∷ [] → constraints list ≡ inequality (falsity n) ∷ []
+nothing_is n list er ek =
+    ap (λ (x : List (List ℤ)). rows_by_kind is_equality x list.kinds) er ∙ ap (rows_by_kind is_equality (negated (unit_row n 0) ∷ [])) ek ∙
     ap (λ (x : List ℤ). inequality (negsuc 0 ∷ x) ∷ []) (negated_zeros n)
 
-flat_kinds : (rows : List (List ℤ)) (kinds : List GenKind) → FitKinds rows kinds → ¬ (Contains kinds Point) → (g : LinearRow) → Contains (given_by is_line rows kinds) g → entry g.row 0 ≡ pos 0
+flat_kinds : (rows : List (List ℤ)) (kinds : List GenKind) → FitKinds rows kinds → ¬ (Contains kinds Point) → (g : LinearRow) → Contains (rows_by_kind is_line rows kinds) g → entry g.row 0 ≡ pos 0
 flat_kinds [] kinds f n g m = absurd (contains_none g m)
 flat_kinds (r ∷ rows) [] f n g m = absurd (contains_none g m)
-flat_kinds (r ∷ rows) (k ∷ kinds) f n g m = elim (contains_cases (let x : LinearRow = record { row = r; equal = is_line k } in x) g (given_by is_line rows kinds) m) [
+flat_kinds (r ∷ rows) (k ∷ kinds) f n g m = elim (contains_cases (let x : LinearRow = record { row = r; equal = is_line k } in x) g (rows_by_kind is_line rows kinds) m) [
   | inl e ↦ subst (λ (y : LinearRow). entry y.row 0 ≡ pos 0) e (here k f.0 (λ e. n (subst (λ (q : GenKind). Contains (q ∷ kinds) Point) (sym e) (contains_head Point kinds))))
   | inr i ↦ flat_kinds rows kinds f.1 (λ i. n (contains_tail k Point kinds i)) g i
 ]
@@ -167,7 +171,8 @@ flat_kinds (r ∷ rows) (k ∷ kinds) f n g m = elim (contains_cases (let x : Li
     here Ray f n = f
     here Line f n = f
 
-pub no_point_given : (n : ℕ) (given : Listed GenKind) → FitKinds given.rows given.kinds → ¬ (Contains given.kinds Point) → IsEmptySet n (Gen (generators given))
+pub no_point_given : (n : ℕ) (given : LinearSystem GenKind) → FitKinds given.rows given.kinds → ¬ (Contains given.kinds Point) →
+    IsEmptySet n (Gen (generators given))
 no_point_given n given f none x point gen =
     nothing_generated n (system_of (generators given)) x point
     (λ t m. let g = system_from (generators given) t m in signed_zero g.given.row t (either g.sign) 0 (flat_kinds given.rows given.kinds f none g.given g.has))
@@ -209,7 +214,8 @@ valid_at given false r x valid gen = generated_nonneg r (system_of given) (entry
 
 -- a list of those that are seen to be valid
 module _ {E : Type 0} (n : ℕ) (cone_lines cone_rays lines rays : List (List ℤ)) (given : List LinearRow) (el : lines ≡ cone_lines) (er : rays ≡ cone_rays) where
-  pub shows_valid : (width : ℕ) (shown_lines shown_rays valid_lines valid_rays : List (List ℤ)) (result : Result (Listed ConKind) E) → width ≡ n → shown_lines ≡ valid_lines → shown_rays ≡ valid_rays →
+  pub shows_valid : (width : ℕ) (shown_lines shown_rays valid_lines valid_rays : List (List ℤ)) (result : Result (LinearSystem ConKind) E) → width ≡ n → shown_lines ≡ valid_lines →
+      shown_rays ≡ valid_rays →
       ((r : List ℤ) → (Contains valid_lines r ↔ (Contains lines r × IsSeenValid true r given))) → ((r : List ℤ) → (Contains valid_rays r ↔ (Contains rays r × IsSeenValid false r given))) →
       IfOk result (ShowsConstraints width shown_lines shown_rays) → IfOk result (ShowsValid n cone_lines cone_rays given)
   shows_valid width shown_lines shown_rays valid_lines valid_rays (Err e) ew sl sr hl hr shown = tt
@@ -226,7 +232,7 @@ module _ {E : Type 0} (n : ℕ) (cone_lines cone_rays lines rays : List (List �
 seen_valid : (b : Bool) (r : List ℤ) (given : List LinearRow) → IsSeenValid b r given → IsValid b r given
 seen_valid b r given s g m = let v = s g m in (v.1, v.2)
 
-pub valid_within : (n : ℕ) (cone : Shape) (given : List LinearRow) (list : Listed ConKind) → ShowsValid n cone.lines cone.rays given list → IsWithin n (Gen given) (Con (constraints list))
+pub valid_within : (n : ℕ) (cone : ConeContent) (given : List LinearRow) (list : LinearSystem ConKind) → ShowsValid n cone.lines cone.rays given list → IsWithin n (Gen given) (Con (constraints list))
 valid_within n cone given list h x point gen g m = elim (Contains-append_cases (rows_as true h.lines) (rows_as false h.shown.inequalities) g
     (subst (λ (l : List LinearRow). Contains l g) (listed_constraints n h.lines h.rays list h.shown) m)) [
       | inl i ↦ let f = given_from true h.lines g i in subst (λ b. HoldsWith b (product g.row x)) (sym f.0)
@@ -236,29 +242,30 @@ valid_within n cone given list h x point gen g m = elim (Contains-append_cases (
     ]
 
 -- ---- what the code gives back
-point_among : (rows : List (List ℤ)) (kinds : List GenKind) → length kinds ≡ length rows → FitKinds rows kinds → Contains kinds Point → (g : LinearRow) × Contains (given_by is_line rows kinds) g ×
+point_among : (rows : List (List ℤ)) (kinds : List GenKind) → length kinds ≡ length rows → FitKinds rows kinds → Contains kinds Point → (g : LinearRow) × Contains (rows_by_kind is_line rows kinds) g ×
     (pos 0 <ℤ entry g.row 0)
 point_among [] [] n f m = absurd (contains_none Point m)
 point_among [] (k ∷ kinds) n f m = absurd (omega (arith, n))
 point_among (r ∷ rows) [] n f m = absurd (omega (arith, n))
 point_among (r ∷ rows) (k ∷ kinds) n f m = here k f.0 (point_cases (contains_cases k Point kinds m) (λ i. point_among rows kinds (omega (arith, n)) f.1 i))
   where
-    point_cases : (k ≡ Point) ⊎ Contains kinds Point → (Contains kinds Point → (g : LinearRow) × Contains (given_by is_line rows kinds) g × (pos 0 <ℤ entry g.row 0)) → (k ≡ Point) ⊎
-        ((g : LinearRow) × Contains (given_by is_line rows kinds) g × (pos 0 <ℤ entry g.row 0))
+    point_cases : (k ≡ Point) ⊎ Contains kinds Point → (Contains kinds Point → (g : LinearRow) × Contains (rows_by_kind is_line rows kinds) g × (pos 0 <ℤ entry g.row 0)) → (k ≡ Point) ⊎
+        ((g : LinearRow) × Contains (rows_by_kind is_line rows kinds) g × (pos 0 <ℤ entry g.row 0))
     point_cases (inl e) later = inl e
     point_cases (inr i) later = inr (later i)
 
     first : (k : GenKind) → FitsKind k r → k ≡ Point → pos 0 <ℤ entry r 0
     first k f e = subst (λ (q : GenKind). FitsKind q r) e f
 
-    here : (k : GenKind) → FitsKind k r → (k ≡ Point) ⊎ ((g : LinearRow) × Contains (given_by is_line rows kinds) g × (pos 0 <ℤ entry g.row 0)) →
+    here : (k : GenKind) → FitsKind k r → (k ≡ Point) ⊎ ((g : LinearRow) × Contains (rows_by_kind is_line rows kinds) g × (pos 0 <ℤ entry g.row 0)) →
         (g : LinearRow) ×
-        Contains (record { row = r; equal = is_line k } ∷ given_by is_line rows kinds) g × (pos 0 <ℤ entry g.row 0)
-    here k f (inl e) = (record { row = r; equal = is_line k }, contains_head (let g : LinearRow = record { row = r; equal = is_line k } in g) (given_by is_line rows kinds), first k f e)
-    here k f (inr x) = (x.0, contains_tail (let g : LinearRow = record { row = r; equal = is_line k } in g) x.0 (given_by is_line rows kinds) x.1, x.2)
+        Contains (record { row = r; equal = is_line k } ∷ rows_by_kind is_line rows kinds) g × (pos 0 <ℤ entry g.row 0)
+    here k f (inl e) = (record { row = r; equal = is_line k }, contains_head (let g : LinearRow = record { row = r; equal = is_line k } in g) (rows_by_kind is_line rows kinds), first k f e)
+    here k f (inr x) = (x.0, contains_tail (let g : LinearRow = record { row = r; equal = is_line k } in g) x.0 (rows_by_kind is_line rows kinds) x.1, x.2)
 
 -- a point among the generators is one of their points
-pub some_point : (n : ℕ) (given : Listed GenKind) → length given.kinds ≡ length given.rows → FitKinds given.rows given.kinds → Contains given.kinds Point →
+pub some_point : (n : ℕ) (given : LinearSystem GenKind) → length given.kinds ≡ length given.rows → FitKinds given.rows given.kinds →
+    Contains given.kinds Point →
     ((t : List ℤ) → Contains (system_of (generators given)) t → length t ≡ suc n) → ¬ (IsEmptySet n (Gen (generators given)))
 some_point n given many f m widths none =
     let x = point_among given.rows given.kinds many f m in
@@ -271,21 +278,22 @@ pub record Constrained (n : ℕ) (given rows : List LinearRow) (losses : List Lo
   pub strain : IfLost (Strains (suc n) given) losses
   pub canonical : losses ≡ [] → AreConstraintsOf n given rows
 
-pub nothing_constrained : (n : ℕ) (given : Listed GenKind) (list : Listed ConKind) (losses : List Loss) → FitKinds given.rows given.kinds → ¬ (Contains given.kinds Point) →
+pub nothing_constrained : (n : ℕ) (given : LinearSystem GenKind) (list : LinearSystem ConKind) (losses : List Loss) → FitKinds given.rows given.kinds → ¬ (Contains given.kinds Point) →
     list.rows ≡ negated (unit_row n 0) ∷ [] → list.kinds ≡ Ge ∷ [] → losses ≡ [] → Constrained n (generators given) (constraints list) losses
 nothing_constrained n given list losses f none er ek el =
     let a : AreConstraintsOf n (generators given) (constraints list) = inl (nothing_is n list er ek, no_point_given n given f none) in
     let same = same_constraints n (generators given) (constraints list) a in
     record { exact = λ _. same; within = same.1; strain = subst (IfLost (Strains (suc n) (generators given))) (sym el) tt; canonical = λ _. a }
 
-pub constrained : (n : ℕ) (given : Listed GenKind) (rows list : Listed ConKind) (cone : Shape) (kept : List LinearRow) (losses : List Loss) → length given.kinds ≡ length given.rows →
+pub constrained : (n : ℕ) (given : LinearSystem GenKind) (rows list : LinearSystem ConKind) (cone : ConeContent) (kept : List LinearRow) (losses : List Loss) → length given.kinds ≡ length given.rows →
     FitKinds given.rows given.kinds → Contains given.kinds Point →
     rows.rows ≡ given.rows → rows.kinds ≡ map dual_kind given.kinds → rows.dims ≡ n → cone.dims ≡ n → IsConversion [] (constraints rows) kept cone losses →
     IsCone cone →
     (losses ≡ [] → ShowsConstraints rows.dims cone.lines cone.rays list) → (losses ≢ [] → ShowsValid rows.dims cone.lines cone.rays (constraints rows) list) →
     Constrained n (generators given) (constraints list) losses
 constrained n given rows list cone kept losses many f m er ek ed is_n c k shown valid =
-    let all : constraints rows ≡ generators given = ap (λ (x : List (List ℤ)). given_by is_equality x rows.kinds) er ∙ ap (given_by is_equality given.rows) ek ∙ dual_given given.rows given.kinds in
+    let all : constraints rows ≡ generators given =
+    ap (λ (x : List (List ℤ)). rows_by_kind is_equality x rows.kinds) er ∙ ap (rows_by_kind is_equality given.rows) ek ∙ dual_given given.rows given.kinds in
     let canonical : losses ≡ [] → AreConstraintsOf n (generators given) (constraints list) = λ none.
     let taken : cone.taken ≡ generators given = c.taken ∙ c.whole none ∙ all in
     let h = constraints_shown cone n (generators given) list k is_n taken (subst (λ (i : ℕ). ShowsConstraints i cone.lines cone.rays list) ed (shown none)) in

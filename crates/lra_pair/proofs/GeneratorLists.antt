@@ -18,13 +18,13 @@ use Rattle.lra_linear_spec.proofs.OneSpelling.{positivity_product, falsity_never
 use Rattle.lra_linear_spec.proofs.Polyhedra.{con_gen}
 use Rattle.lra_linear_spec.proofs.Products.{entry_negated, negated_dot}
 use Rattle.lra_linear_spec.proofs.Signs.{between_opposites}
-use Rattle.lra_canon.proofs.Orders.{ascends}
-use Rattle.lra_canon.specs.declared.order.Order.TheVariants.{Generators}
+use Rattle.lra_canonical.proofs.Orders.{ascends}
+use Rattle.lra_canonical.specs.declared.order.Order.TheVariants.{Generators}
 use Rattle.lra_linear_spec.specs.Kinds.{is_line}
-use Rattle.lra_sys.specs.Listed.{Listed, generators, given_by, FitKinds}
+use Rattle.lra_systems.specs.LinearSystems.{LinearSystem, generators, rows_by_kind, FitKinds}
 use Rattle.lra_linear_spec.specs.declared.GenKind.{GenKind}
 use Rattle.lra_linear_spec.specs.declared.GenKind.TheVariants.{Point, Ray, Line}
-use Rattle.lra_cone.specs.Cones.{Shape, IsCone}
+use Rattle.lra_cone.specs.Cones.{ConeContent, IsCone}
 use Rattle.lra_descriptions.specs.ShownLists.{points_of, ListsGenerators, ShowsGenerators, HasGenerators, AreGeneratorsOf}
 use Rattle.lra_cone.proofs.Reordered.{dual_again, canonical_again}
 use Rattle.lra_pair.proofs.PartedRays.{InParts, in_parts, parts_once, once_left, once_right}
@@ -37,21 +37,21 @@ as_many xs ys j k =
     length-append xs ys ∙ ap (λ (n : ℕ). n + length ys) (sym (length-replicate (length xs) j)) ∙ ap (λ (n : ℕ). length (replicate (length xs) j) + n) (sym (length-replicate (length ys) k)) ∙
     sym (length-append (replicate (length xs) j) (replicate (length ys) k))
 
-pub listed_generators : (lines rays : List (List ℤ)) (list : Listed GenKind) (h : ListsGenerators lines rays list) →
+pub listed_generators : (lines rays : List (List ℤ)) (list : LinearSystem GenKind) (h : ListsGenerators lines rays list) →
     generators list ≡ rows_as false h.points ++ rows_as false h.directions ++ rows_as true lines
 listed_generators lines rays list h =
     let ps = replicate (length h.points) Point in
     let rs = replicate (length h.directions) Ray in
     let ls = replicate (length lines) Line in
-    ap (λ (x : List (List ℤ)). given_by is_line x list.kinds) h.rows_are ∙ ap (given_by is_line ((h.points ++ h.directions) ++ lines)) h.kinds_are ∙
+    ap (λ (x : List (List ℤ)). rows_by_kind is_line x list.kinds) h.rows_are ∙ ap (rows_by_kind is_line ((h.points ++ h.directions) ++ lines)) h.kinds_are ∙
     given_append is_line (h.points ++ h.directions) lines (ps ++ rs) ls (as_many h.points h.directions Point Ray) ∙
-    ap (λ (x : List LinearRow). x ++ given_by is_line lines ls)
+    ap (λ (x : List LinearRow). x ++ rows_by_kind is_line lines ls)
     (given_append is_line h.points h.directions ps rs (sym (length-replicate (length h.points) Point)) ∙
-    ap (λ (x : List LinearRow). x ++ given_by is_line h.directions rs) (given_same is_line h.points Point)
+    ap (λ (x : List LinearRow). x ++ rows_by_kind is_line h.directions rs) (given_same is_line h.points Point)
     ∙ ap (λ (x : List LinearRow). rows_as false h.points ++ x) (given_same is_line h.directions Ray)) ∙
     ap (λ (x : List LinearRow). (rows_as false h.points ++ rows_as false h.directions) ++ x) (given_same is_line lines Line)
 
-listed_fit : (lines rays : List (List ℤ)) (list : Listed GenKind) (h : ListsGenerators lines rays list) → ((r : List ℤ) → Contains h.points r → pos 0 <ℤ entry r 0) →
+listed_fit : (lines rays : List (List ℤ)) (list : LinearSystem GenKind) (h : ListsGenerators lines rays list) → ((r : List ℤ) → Contains h.points r → pos 0 <ℤ entry r 0) →
     ((r : List ℤ) → Contains h.directions r ⊎ Contains lines r → entry r 0 ≡ pos 0) → FitKinds list.rows list.kinds
 listed_fit lines rays list h above flat =
     let ps = replicate (length h.points) Point in
@@ -63,7 +63,7 @@ listed_fit lines rays list h above flat =
     (fit_same lines Line (λ r m. flat r (inr m)))))
 
 -- ---- column 0 of a cone with the positivity row
-pub at_least_zero : (s : Shape) (kept : List LinearRow) → IsCone s → s.taken ≡ inequality (positivity s.dims) ∷ kept → (t : List ℤ) → Contains (all_rows s.lines s.rays) t → pos 0 ≤ℤ entry t 0
+pub at_least_zero : (s : ConeContent) (kept : List LinearRow) → IsCone s → s.taken ≡ inequality (positivity s.dims) ∷ kept → (t : List ℤ) → Contains (all_rows s.lines s.rays) t → pos 0 ≤ℤ entry t 0
 at_least_zero s kept k e t m =
     subst (λ z. pos 0 ≤ℤ z) (positivity_product s.dims t)
     (k.dual.meets t m (positivity s.dims) (subst (λ (l : List LinearRow). Contains (system_of l) (positivity s.dims)) (sym e) (contains_head (positivity s.dims) (system_of kept))))
@@ -108,7 +108,7 @@ flat_rows lines rays nonneg none t m = elim (Contains-append_cases rays (both_wa
 ]
 
 -- then there is no point
-no_points : (s : Shape) (kept : List LinearRow) → IsCone s → s.taken ≡ inequality (positivity s.dims) ∷ kept → points_of s.rays ≡ [] →
+no_points : (s : ConeContent) (kept : List LinearRow) → IsCone s → s.taken ≡ inequality (positivity s.dims) ∷ kept → points_of s.rays ≡ [] →
     IsEmptySet s.dims (Con kept)
 no_points s kept k e none x point con =
     let n = s.dims in
@@ -118,7 +118,7 @@ no_points s kept k e none x point con =
 
 -- ---- the list that is shown
 -- of any canonical description of which no row is below 0 in column 0
-pub listed_counted : (n : ℕ) (system lines rays : List (List ℤ)) (list : Listed GenKind) → AreDual (suc n) system (all_rows lines rays) → IsCanonical lines rays →
+pub listed_counted : (n : ℕ) (system lines rays : List (List ℤ)) (list : LinearSystem GenKind) → AreDual (suc n) system (all_rows lines rays) → IsCanonical lines rays →
     ((t : List ℤ) → Contains (all_rows lines rays) t → pos 0 ≤ℤ entry t 0) → ListsGenerators lines rays list →
     (g : HasGenerators n system (generators list)) × FitKinds list.rows list.kinds × (length (g.points ++ g.rays) ≡ length rays)
 listed_counted n system lines rays list dual canonical nonneg h =
@@ -145,19 +145,21 @@ listed_counted n system lines rays list dual canonical nonneg h =
       parts.many,
     )
 
-pub listed_have : (n : ℕ) (system lines rays : List (List ℤ)) (list : Listed GenKind) → AreDual (suc n) system (all_rows lines rays) → IsCanonical lines rays →
+pub listed_have : (n : ℕ) (system lines rays : List (List ℤ)) (list : LinearSystem GenKind) → AreDual (suc n) system (all_rows lines rays) →
+    IsCanonical lines rays →
     ((t : List ℤ) → Contains (all_rows lines rays) t → pos 0 ≤ℤ entry t 0) → ListsGenerators lines rays list →
     HasGenerators n system (generators list) × FitKinds list.rows list.kinds
 listed_have n system lines rays list dual canonical nonneg h = let x = listed_counted n system lines rays list dual canonical nonneg h in (x.0, x.1)
 
-pub generators_shown : (s : Shape) (n : ℕ) (kept : List LinearRow) (list : Listed GenKind) → IsCone s → s.dims ≡ n → s.taken ≡ inequality (positivity n) ∷ kept → ShowsGenerators s.lines s.rays list →
+pub generators_shown : (s : ConeContent) (n : ℕ) (kept : List LinearRow) (list : LinearSystem GenKind) → IsCone s → s.dims ≡ n → s.taken ≡ inequality (positivity n) ∷ kept →
+    ShowsGenerators s.lines s.rays list →
     AreGeneratorsOf n kept (generators list) × FitKinds list.rows list.kinds
 generators_shown s n kept list k d t shown = subst (λ (m : ℕ). AreGeneratorsOf m kept (generators list) × FitKinds list.rows list.kinds) d
     (here (t ∙ ap (λ (m : ℕ). inequality (positivity m) ∷ kept) (sym d)) shown)
   where
     here : s.taken ≡ inequality (positivity s.dims) ∷ kept → ShowsGenerators s.lines s.rays list → AreGeneratorsOf s.dims kept (generators list) × FitKinds list.rows list.kinds
     here e (inl h) = (
-      inl (ap (λ (x : List (List ℤ)). given_by is_line x list.kinds) h.0, no_points s kept k e h.2),
+      inl (ap (λ (x : List (List ℤ)). rows_by_kind is_line x list.kinds) h.0, no_points s kept k e h.2),
       subst (λ (x : List (List ℤ)). FitKinds x list.kinds) (sym h.0) tt,
     )
     here e (inr h) =
@@ -191,7 +193,8 @@ same_points n rows list (inr h) =
     )
 
 -- as the code tells it
-pub generated : (cone start : Shape) (n dims : ℕ) (kept : List LinearRow) (lines rays : List (List ℤ)) (list : Listed GenKind) → IsCone cone → dims ≡ n → cone.dims ≡ start.dims → start.dims ≡ dims →
+pub generated : (cone start : ConeContent) (n dims : ℕ) (kept : List LinearRow) (lines rays : List (List ℤ)) (list : LinearSystem GenKind) → IsCone cone → dims ≡ n → cone.dims ≡ start.dims →
+    start.dims ≡ dims →
     start.taken ≡ inequality (positivity dims) ∷ [] → cone.taken ≡ start.taken ++ kept →
     lines ≡ cone.lines → rays ≡ cone.rays → ShowsGenerators lines rays list → AreGeneratorsOf n kept (generators list) × FitKinds list.rows list.kinds
 generated cone start n dims kept lines rays list k en ec es et taken el er shown =

@@ -9,13 +9,13 @@ use Rattle.lra_linear_spec.specs.OperationStrain.{FromGeneratorsStrains, with_po
 use Rattle.lra_linear_spec.specs.Points.{IsEmptySet}
 use Rattle.lra_linear_spec.specs.Polyhedra.{Polyhedron}
 use Rattle.lra_linear_spec.specs.Strain.{Loss, Strains}
-use Rattle.lra_sys.specs.Listed.{Listed, constraints, generators, given_by, FitKinds}
+use Rattle.lra_systems.specs.LinearSystems.{LinearSystem, constraints, generators, rows_by_kind, FitKinds}
 use Rattle.lra_linear_spec.specs.Kinds.{is_equality}
 use Rattle.lra_linear_spec.specs.declared.ConKind.{ConKind}
 use Rattle.lra_linear_spec.specs.declared.GenKind.{GenKind}
 use Rattle.lra_linear_spec.specs.declared.GenKind.TheVariants.{Point}
-use Rattle.lra_sys.proofs.Generators.{fitting_are_generators}
-use Rattle.lra_cone.specs.Cones.{Shape, IsCone, whole_space}
+use Rattle.lra_systems.proofs.Generators.{fitting_are_generators}
+use Rattle.lra_cone.specs.Cones.{ConeContent, IsCone, whole_space}
 use Rattle.lra_cone.specs.Conversions.{IsConversion}
 use Rattle.lra_descriptions.specs.ShownLists.{ShowsConstraints, ShowsValid, dual_kind}
 use Rattle.lra_linear_spec.specs.Vectors.{entry}
@@ -31,16 +31,17 @@ use Rattle.lra_pair.specs.TriedRows.{IsOfTried}
 use Rattle.lra_pair.proofs.OwnRows.{given_length}
 use Rattle.lra_pair.proofs.PairLosses.{own_strain, from_generators_strain}
 
-pub taken : (n : ℕ) (given : Listed GenKind) (rows list : Listed ConKind) (start cone : Shape) (kept : List LinearRow) (losses : List Loss) → length given.kinds ≡ length given.rows →
+pub taken : (n : ℕ) (given : LinearSystem GenKind) (rows list : LinearSystem ConKind) (start cone : ConeContent) (kept : List LinearRow) (losses : List Loss) → length given.kinds ≡ length given.rows →
     FitKinds given.rows given.kinds → Contains given.kinds Point →
     rows.rows ≡ given.rows → rows.kinds ≡ map dual_kind given.kinds → rows.dims ≡ n → start ≡ whole_space n → cone.dims ≡ start.dims → IsConversion start.taken (constraints rows) kept cone losses →
     IsCone cone → list.dims ≡ rows.dims →
     (losses ≡ [] → ShowsConstraints rows.dims cone.lines cone.rays list) → (losses ≢ [] → ShowsValid rows.dims cone.lines cone.rays (constraints rows) list) →
     AreTaken n (generators given) list cone losses
 taken n given rows list start cone kept losses many f m er ek ed es dims c k el shown valid =
-    let all : constraints rows ≡ generators given = ap (λ (y : List (List ℤ)). given_by is_equality y rows.kinds) er ∙ ap (given_by is_equality given.rows) ek ∙ dual_given given.rows given.kinds in
-    let first : start.taken ≡ [] = ap (λ (s : Shape). s.taken) es in
-    let is_n : cone.dims ≡ n = dims ∙ ap (λ (s : Shape). s.dims) es in
+    let all : constraints rows ≡ generators given =
+    ap (λ (y : List (List ℤ)). rows_by_kind is_equality y rows.kinds) er ∙ ap (rows_by_kind is_equality given.rows) ek ∙ dual_given given.rows given.kinds in
+    let first : start.taken ≡ [] = ap (λ (s : ConeContent). s.taken) es in
+    let is_n : cone.dims ≡ n = dims ∙ ap (λ (s : ConeContent). s.dims) es in
     let of_none = subst (λ (l : List LinearRow). IsConversion l (constraints rows) kept cone losses) first c in
     let x = constrained n given rows list cone kept losses many f m er ek ed is_n of_none k shown valid in
     let whole : losses ≡ [] → cone.taken ≡ generators given = λ none. of_none.taken ∙ of_none.whole none ∙ all in
@@ -70,17 +71,17 @@ some_taken n [] h = absurd (h (gen_none n))
 some_taken n (x ∷ taken) h = omega arith
 
 -- ---- what comes of it
-pub taken_strain : (n d : ℕ) (given : List LinearRow) (list : Listed ConKind) (cone : Shape) (losses after : List Loss) → AreTaken n given list cone losses → losses ≡ [] → d ≡ n →
+pub taken_strain : (n d : ℕ) (given : List LinearRow) (list : LinearSystem ConKind) (cone : ConeContent) (losses after : List Loss) → AreTaken n given list cone losses → losses ≡ [] → d ≡ n →
     IfLost (FromGeneratorsStrains d cone.taken) after → IfLost (FromGeneratorsStrains n given) after
 taken_strain n d given list cone losses after t none e h =
     subst (λ (l : List LinearRow). IfLost (FromGeneratorsStrains n l) after) (t.whole none) (subst (λ (m : ℕ). IfLost (FromGeneratorsStrains m cone.taken) after) e h)
 
-pub lost_strain : (n : ℕ) (given : List LinearRow) (list : Listed ConKind) (cone : Shape) (losses after : List Loss) → AreTaken n given list cone losses → after ≡ losses →
+pub lost_strain : (n : ℕ) (given : List LinearRow) (list : LinearSystem ConKind) (cone : ConeContent) (losses after : List Loss) → AreTaken n given list cone losses → after ≡ losses →
     IfLost (FromGeneratorsStrains n given) after
 lost_strain n given list cone losses after t e = from_generators_strain n given after (subst (IfLost (Strains (suc n) given)) (sym e) t.strain)
 
 -- the own list strains
-pub own_lost_strain : (n : ℕ) (s : Shape) (cause : Cause) (losses after told : List Loss) → s.dims ≡ n → IsCone s → losses ≡ [] → TellsOwnLoss s cause losses after → told ≡ after →
+pub own_lost_strain : (n : ℕ) (s : ConeContent) (cause : Cause) (losses after told : List Loss) → s.dims ≡ n → IsCone s → losses ≡ [] → TellsOwnLoss s cause losses after → told ≡ after →
     IsOwnCause s cause → IfLost (FromGeneratorsStrains n s.taken) told
 own_lost_strain n s cause losses after told d k none t et x =
     let one : t.loss ∷ [] ≡ told = sym (et ∙ t.told ∙ ap (λ (y : List Loss). y ++ t.loss ∷ []) none) in
@@ -88,21 +89,22 @@ own_lost_strain n s cause losses after told d k none t et x =
     (subst (λ (m : ℕ). Strains (suc m) s.taken t.loss) d (own_strain s s.taken cause t.loss k refl t.own x)))
 
 -- ---- further generators
-pub further_rows : (more : Listed GenKind) (rows : Listed ConKind) → rows.rows ≡ more.rows → rows.kinds ≡ map dual_kind more.kinds → constraints rows ≡ generators more
-further_rows more rows er ek = ap (λ (y : List (List ℤ)). given_by is_equality y rows.kinds) er ∙ ap (given_by is_equality more.rows) ek ∙ dual_given more.rows more.kinds
+pub further_rows : (more : LinearSystem GenKind) (rows : LinearSystem ConKind) → rows.rows ≡ more.rows → rows.kinds ≡ map dual_kind more.kinds → constraints rows ≡ generators more
+further_rows more rows er ek = ap (λ (y : List (List ℤ)). rows_by_kind is_equality y rows.kinds) er ∙ ap (rows_by_kind is_equality more.rows) ek ∙ dual_given more.rows more.kinds
 
 -- where nothing was lost, all are taken in
-pub further_taken : (more : Listed GenKind) (rows : Listed ConKind) (start cone : Shape) (kept : List LinearRow) (losses : List Loss) → rows.rows ≡ more.rows → rows.kinds ≡ map dual_kind more.kinds →
+pub further_taken : (more : LinearSystem GenKind) (rows : LinearSystem ConKind) (start cone : ConeContent) (kept : List LinearRow) (losses : List Loss) → rows.rows ≡ more.rows →
+    rows.kinds ≡ map dual_kind more.kinds →
     IsConversion start.taken (constraints rows) kept cone losses → losses ≡ [] → cone.taken ≡ start.taken ++ generators more
 further_taken more rows start cone kept losses er ek c none =
     c.taken ∙ ap (λ (l : List LinearRow). start.taken ++ l) (c.whole none ∙ further_rows more rows er ek)
 
-pub further_columns : (more : Listed GenKind) (first taken : List LinearRow) → FitKinds more.rows more.kinds → AreGenerators first → taken ≡ first ++ generators more → AreGenerators taken
+pub further_columns : (more : LinearSystem GenKind) (first taken : List LinearRow) → FitKinds more.rows more.kinds → AreGenerators first → taken ≡ first ++ generators more → AreGenerators taken
 further_columns more first taken f columns e = subst AreGenerators (sym e)
     (λ g k. elim (Contains-append_cases first (generators more) g k) [ inl a ↦ columns g a | inr b ↦ fitting_are_generators more f g b ])
 
 -- ---- the first constraints
-given_take : {K : Type 0} (equal : K → Bool) (at : ℕ) (rows : List (List ℤ)) (kinds : List K) → given_by equal (take at rows) (take at kinds) ≡ take at (given_by equal rows kinds)
+given_take : {K : Type 0} (equal : K → Bool) (at : ℕ) (rows : List (List ℤ)) (kinds : List K) → rows_by_kind equal (take at rows) (take at kinds) ≡ take at (rows_by_kind equal rows kinds)
 given_take equal zero rows kinds = refl
 given_take equal (suc at) [] kinds = refl
 given_take equal (suc at) (r ∷ rows) [] = refl
@@ -112,7 +114,7 @@ pub take_short : (n most : ℕ) (xs : List LinearRow) → length xs ≤ n → n 
 take_short n most xs h m = take_all n xs h ∙ sym (take_all most xs (omega (arith, h, m)))
 
 -- all of them, where they are fewer
-pub all_first : (at count : ℕ) (list : Listed ConKind) (rows : List (List ℤ)) (kinds : List ConKind) → rows ≡ list.rows → kinds ≡ list.kinds → length kinds ≡ length list.rows → count ≤ at →
+pub all_first : (at count : ℕ) (list : LinearSystem ConKind) (rows : List (List ℤ)) (kinds : List ConKind) → rows ≡ list.rows → kinds ≡ list.kinds → length kinds ≡ length list.rows → count ≤ at →
     at ≤ count →
     count ≡ length rows → length rows ≤ most_kept → take at (constraints list) ≡ take most_kept (constraints list)
 all_first at count list rows kinds er ek n low high is few =
@@ -123,12 +125,13 @@ all_first at count list rows kinds er ek n low high is few =
     at_most : {n m k : ℕ} → n ≤ m → m ≤ k → n ≤ k
     at_most h g = omega (arith, h, g)
 
-pub so_many : (at count : ℕ) (list : Listed ConKind) → count ≤ at → at ≤ count → count ≡ most_kept → take at (constraints list) ≡ take most_kept (constraints list)
+pub so_many : (at count : ℕ) (list : LinearSystem ConKind) → count ≤ at → at ≤ count → count ≡ most_kept → take at (constraints list) ≡ take most_kept (constraints list)
 so_many at count list low high is = ap (λ (n : ℕ). take n (constraints list)) (let same : at ≡ count = omega (arith, low, high) in same ∙ is)
 
-pub first_listed : (at : ℕ) (list kept : Listed ConKind) → kept.rows ≡ take at list.rows → kept.kinds ≡ take at list.kinds →
+pub first_listed : (at : ℕ) (list kept : LinearSystem ConKind) → kept.rows ≡ take at list.rows → kept.kinds ≡ take at list.kinds →
     take at (constraints list) ≡ take most_kept (constraints list) → constraints kept ≡ take most_kept (constraints list)
-first_listed at list kept er ek same = ap (λ (y : List (List ℤ)). given_by is_equality y kept.kinds) er ∙ ap (given_by is_equality (take at list.rows)) ek ∙
+first_listed at list kept er ek same =
+    ap (λ (y : List (List ℤ)). rows_by_kind is_equality y kept.kinds) er ∙ ap (rows_by_kind is_equality (take at list.rows)) ek ∙
     given_take is_equality at list.rows list.kinds ∙ same
 
 pub of_first : (n d : ℕ) (list kept : List LinearRow) (p : Polyhedron) (losses : List Loss) → d ≡ n → kept ≡ take most_kept list →
@@ -144,7 +147,7 @@ pub if_both : {X Y : Type 0} (r : Result X Y) (P Q R : X → Type 0) → ((x : X
 if_both (Ok x) P Q R f p q = f x p q
 if_both (Err y) P Q R f p q = tt
 
-pub list_lost : (n d : ℕ) (s : Shape) (list : List LinearRow) (cause : Cause) (losses after told : List Loss) (p : Polyhedron) → d ≡ n → IsCone s → losses ≡ [] → IsOwnCause s cause →
+pub list_lost : (n d : ℕ) (s : ConeContent) (list : List LinearRow) (cause : Cause) (losses after told : List Loss) (p : Polyhedron) → d ≡ n → IsCone s → losses ≡ [] → IsOwnCause s cause →
     TellsOwnLoss s cause losses after → told ≡ after → IsOfFirst d list p → IsMadeOfPoints n s list p told
 list_lost n d s list cause losses after told p e k none x t et h = inr (
   record {
@@ -156,7 +159,7 @@ list_lost n d s list cause losses after told p e k none x t et h = inr (
   subst (λ (m : ℕ). IsOfFirst m list p) e h,
 )
 
-pub all_taken : (n d : ℕ) (given : List LinearRow) (list : Listed ConKind) (cone : Shape) (left losses : List Loss) (p : Polyhedron) → AreTaken n given list cone left → left ≡ [] → d ≡ n →
+pub all_taken : (n d : ℕ) (given : List LinearRow) (list : LinearSystem ConKind) (cone : ConeContent) (left losses : List Loss) (p : Polyhedron) → AreTaken n given list cone left → left ≡ [] → d ≡ n →
     IsMadeOfPoints d cone (constraints list) p losses → IsOfPoints n given p losses
 all_taken n d given list cone left losses p t none e h = record {
   cone = cone;
@@ -166,7 +169,8 @@ all_taken n d given list cone left losses p t none e h = record {
   made = inl (none, subst (λ (m : ℕ). IsMadeOfPoints m cone (constraints list) p losses) e h);
 }
 
-pub some_lost : (n : ℕ) (given : List LinearRow) (list : Listed ConKind) (cone : Shape) (left losses : List Loss) (p : Polyhedron) → AreTaken n given list cone left → left ≢ [] → losses ≡ left →
+pub some_lost : (n : ℕ) (given : List LinearRow) (list : LinearSystem ConKind) (cone : ConeContent) (left losses : List Loss) (p : Polyhedron) → AreTaken n given list cone left → left ≢ [] →
+    losses ≡ left →
     IsOfFirst list.dims (constraints list) p → IsOfPoints n given p losses
 some_lost n given list cone left losses p t lost e h = record {
   cone = cone;

@@ -8,8 +8,8 @@ use Rattle.lra_linear_spec.specs.Polyhedra.{IsPolyhedron, IsPolyhedronOf, Polyhe
 use Rattle.lra_linear_spec.specs.Strain.{Loss, Strains}
 use Rattle.lra_linear_spec.specs.declared.ConKind.{ConKind}
 use Rattle.lra_linear_spec.proofs.Membership.{contains_cases, contains_head, contains_none, contains_tail}
-use Rattle.lra_sys.specs.Listed.{Listed, constraints}
-use Rattle.lra_cone.specs.Cones.{Shape}
+use Rattle.lra_systems.specs.LinearSystems.{LinearSystem, constraints}
+use Rattle.lra_cone.specs.Cones.{ConeContent}
 use Rattle.lra_cone.specs.Conversions.{IsConversion}
 use Rattle.lra_cone.specs.Losses.{IfLost}
 use Rattle.lra_pair.specs.KeptRows.{IsOfSome}
@@ -21,30 +21,30 @@ use Rattle.lra_pair.proofs.GeneratorPairs.{lost_strain, own_lost_strain, taken_s
 use Rattle.lra_pair.proofs.PairLosses.{all_of, first_within, from_strain, later_strain, none_of, same_strain, some_loss, still_among, taken_behind, universe_within}
 
 -- ---- the rows that were taken into a cone
-taken_dims : (n : ℕ) (s : Shape) (before after : List Loss) (p : Polyhedron) → IsMadeOf n s before p after → p.dims ≡ n
+taken_dims : (n : ℕ) (s : ConeContent) (before after : List Loss) (p : Polyhedron) → IsMadeOf n s before p after → p.dims ≡ n
 taken_dims n s before after p (inl x) = x.made.dimensions
 taken_dims n s before after p (inr x) = x.1.dimensions
 
-taken_canonical : (n : ℕ) (s : Shape) (before after : List Loss) (p : Polyhedron) → IsMadeOf n s before p after → IsPolyhedron p
+taken_canonical : (n : ℕ) (s : ConeContent) (before after : List Loss) (p : Polyhedron) → IsMadeOf n s before p after → IsPolyhedron p
 taken_canonical n s before after p (inl x) = x.made.canonical
 taken_canonical n s before after p (inr x) = x.1.canonical
 
-taken_within : (n : ℕ) (s : Shape) (before after : List Loss) (p : Polyhedron) → IsMadeOf n s before p after →
+taken_within : (n : ℕ) (s : ConeContent) (before after : List Loss) (p : Polyhedron) → IsMadeOf n s before p after →
     IsWithin n (Con (drop 1 s.taken)) (Con p.rows)
 taken_within n s before after p (inl x) = x.made.points.0
 taken_within n s before after p (inr x) = universe_within n n (drop 1 s.taken) p refl x.1
 
 -- without a loss behind it there was none before, and it is that of all of them
-taken_exact : (n : ℕ) (s : Shape) (before after : List Loss) (p : Polyhedron) → IsMadeOf n s before p after → after ≡ [] →
+taken_exact : (n : ℕ) (s : ConeContent) (before after : List Loss) (p : Polyhedron) → IsMadeOf n s before p after → after ≡ [] →
     (before ≡ []) × IsPolyhedronOf n (Con (drop 1 s.taken)) p
 taken_exact n s before after p (inl x) none = (sym x.told ∙ none, x.made)
 taken_exact n s before after p (inr x) none = absurd (some_loss s x.0.cause before after after x.0.told refl none)
 
-taken_some : (n : ℕ) (s : Shape) (before after : List Loss) (p : Polyhedron) → IsMadeOf n s before p after → IsOfSome n (drop 1 s.taken) p
+taken_some : (n : ℕ) (s : ConeContent) (before after : List Loss) (p : Polyhedron) → IsMadeOf n s before p after → IsOfSome n (drop 1 s.taken) p
 taken_some n s before after p (inl x) = all_of n (drop 1 s.taken) p x.made
 taken_some n s before after p (inr x) = none_of n (drop 1 s.taken) p x.1
 
-taken_strains : (n : ℕ) (s : Shape) (before after : List Loss) (p : Polyhedron) → s.dims ≡ n → IsMadeOf n s before p after →
+taken_strains : (n : ℕ) (s : ConeContent) (before after : List Loss) (p : Polyhedron) → s.dims ≡ n → IsMadeOf n s before p after →
     (first all kept : List LinearRow) → IsConversion first all kept s before → IfLost (Strains (suc n) (first ++ all)) after
 taken_strains n s before after p d (inl x) first all kept c =
     subst (IfLost (Strains (suc n) (first ++ all))) (sym x.told) (same_strain n s before d first all kept c)
@@ -122,7 +122,8 @@ enclosed n S rows strains p losses within lost strained f =
       flagged = strained;
     }
 
-taken_points : (n : ℕ) (given : List LinearRow) (list : Listed ConKind) (s : Shape) (left losses : List Loss) (p : Polyhedron) → AreTaken n given list s left →
+taken_points : (n : ℕ) (given : List LinearRow) (list : LinearSystem ConKind) (s : ConeContent) (left losses : List Loss) (p : Polyhedron) →
+    AreTaken n given list s left →
     left ≡ [] → IsMadeOfPoints n s (constraints list) p losses → IsMadeOfGenerators n given p losses
 taken_points n given list s left losses p t none (inl a) =
     whole_made n (Gen given) (FromGeneratorsStrains n given) p losses a.0 (subst (λ (l : List LinearRow). IsPolyhedronOf n (Gen l) p) (t.whole none) a.1)

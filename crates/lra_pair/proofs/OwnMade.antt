@@ -5,9 +5,9 @@ use Rattle.lra_bits.specs.Matrix.{Matrix, unmarked}
 use Rattle.lra_linear_spec.specs.Descriptions.{LinearRow, rows_as, rows_of}
 use Rattle.lra_linear_spec.specs.Echelon.{IsEchelonOf}
 use Rattle.lra_linear_spec.specs.Vectors.{product}
-use Rattle.lra_canon.specs.Echelons.{HaveWidth, SameEqualities}
-use Rattle.lra_canon.specs.Irredundant.{AreKept, IsSaturation, WithoutRedundant}
-use Rattle.lra_cone.specs.Cones.{Shape, IsCone}
+use Rattle.lra_canonical.specs.Echelons.{HaveWidth, SameEqualities}
+use Rattle.lra_canonical.specs.Irredundant.{AreKept, IsSaturation, WithoutRedundant}
+use Rattle.lra_cone.specs.Cones.{ConeContent, IsCone}
 use Rattle.lra_descriptions.specs.Tightness.{tight_at, tight_matrix}
 use Rattle.lra_descriptions.proofs.TightLemmas.{tight_values_are}
 use Rattle.lra_pair.specs.OwnLists.{AllTellTight, AreParts, AreReducedBy, IsOwnList, columns_of}
@@ -15,7 +15,7 @@ use Rattle.lra_pair.proofs.OwnRows.{as_many, kept_widths}
 use Rattle.lra_pair.proofs.OwnSaturation.{Made, cone_generators, is_saturation, many_generators, own_canonical}
 
 -- the rows as `drop_redundant` asks for them
-made_of : (s : Shape) (tight loose form seen reduced : List (List ℤ)) (matrix : Matrix) → IsCone s →
+made_of : (s : ConeContent) (tight loose form seen reduced : List (List ℤ)) (matrix : Matrix) → IsCone s →
     AreParts s.rays (length s.lines) (rows_of s.taken) tight loose matrix.rows → IsEchelonOf form tight → SameEqualities tight form → HaveWidth (suc s.dims)
     form →
     seen ≡ form → AreReducedBy seen loose reduced → Made s form reduced
@@ -28,14 +28,14 @@ made_of s tight loose form seen reduced matrix k parts f same widths ef are = re
       (subst (λ (l : List (List ℤ)). AreReducedBy l loose reduced) ef are);
 }
 
-saturated_so : (s : Shape) (tight loose form reduced : List (List ℤ)) (matrix : Matrix) (n : ℕ) →
+saturated_so : (s : ConeContent) (tight loose form reduced : List (List ℤ)) (matrix : Matrix) (n : ℕ) →
     AreParts s.rays (length s.lines) (rows_of s.taken) tight loose matrix.rows → Made s form reduced → n ≡ suc s.dims → HaveWidth n reduced →
     IsSaturation (suc s.dims) form (cone_generators s) reduced matrix
 saturated_so s tight loose form reduced matrix n parts made en wide =
     is_saturation s form reduced matrix made (subst (λ (i : ℕ). HaveWidth i reduced) en wide)
     (subst (λ (l : List (List ℤ)). AllTellTight s.rays (length s.lines) l matrix.rows) parts.is_loose parts.told)
 
-pub own_made : (s : Shape) (tight loose form seen reduced kept : List (List ℤ)) (matrix left : Matrix) (n : ℕ) → IsCone s →
+pub own_made : (s : ConeContent) (tight loose form seen reduced kept : List (List ℤ)) (matrix left : Matrix) (n : ℕ) → IsCone s →
     AreParts s.rays (length s.lines) (rows_of s.taken) tight loose matrix.rows → IsEchelonOf form tight → SameEqualities tight form → HaveWidth (suc s.dims)
     form →
     seen ≡ form → AreReducedBy seen loose reduced → n ≡ suc s.dims → HaveWidth n reduced → AreKept reduced kept matrix left → WithoutRedundant reduced matrix
@@ -64,7 +64,8 @@ unmarked_map f (true ∷ marks) (r ∷ rows) = unmarked_map f marks rows
 unmarked_map {B = B} f (false ∷ marks) (r ∷ rows) = ap (λ (l : List B). f r ∷ l) (unmarked_map f marks rows)
 
 -- a row of the matrix says where the reduced row vanishes
-row_told : (s : Shape) (form reduced : List (List ℤ)) (matrix : Matrix) → IsSaturation (suc s.dims) form (cone_generators s) reduced matrix → (i : ℕ) → i <
+row_told : (s : ConeContent) (form reduced : List (List ℤ)) (matrix : Matrix) → IsSaturation (suc s.dims) form (cone_generators s) reduced matrix → (i : ℕ) →
+    i <
     length reduced →
     get_or matrix.rows i [] ≡ tight_at (columns_of s) (get_or reduced i [])
 row_told s form reduced matrix x i h =
@@ -78,7 +79,7 @@ row_told s form reduced matrix x i h =
       (λ e. told.1 (ap (product (get_or reduced i [])) is ∙ e)),
     ))
 
-pub own_matrix : (s : Shape) (tight loose form seen reduced kept : List (List ℤ)) (matrix left : Matrix) (n : ℕ) → IsCone s →
+pub own_matrix : (s : ConeContent) (tight loose form seen reduced kept : List (List ℤ)) (matrix left : Matrix) (n : ℕ) → IsCone s →
     AreParts s.rays (length s.lines) (rows_of s.taken) tight loose matrix.rows → IsEchelonOf form tight → SameEqualities tight form → HaveWidth (suc s.dims)
     form →
     seen ≡ form → AreReducedBy seen loose reduced → n ≡ suc s.dims → HaveWidth n reduced → matrix.width ≡ length s.rays + length s.lines → AreKept reduced kept

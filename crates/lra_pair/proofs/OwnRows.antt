@@ -15,33 +15,33 @@ use Rattle.lra_linear_spec.specs.Strain.{tight_rows, IsOwnForm}
 use Rattle.lra_linear_spec.proofs.Descriptions.{system_has}
 use Rattle.lra_linear_spec.proofs.Spans.{echelon_rows_at_most}
 use Rattle.lra_bits.specs.TruthValues.{value_at}
-use Rattle.lra_canon.specs.Reduced.{IsReductionExcess}
-use Rattle.lra_canon.specs.Echelons.{HaveWidth, IsEchelonExcess}
+use Rattle.lra_canonical.specs.Reduced.{IsReductionExcess}
+use Rattle.lra_canonical.specs.Echelons.{HaveWidth, IsEchelonExcess}
 use Rattle.lra_row.specs.declared.error.RowError.{RowError}
 use Rattle.lra_row.specs.declared.error.RowError.TheVariants.{Excess, Memory}
-use Rattle.lra_sys.specs.Listed.{given_by}
-use Rattle.lra_cone.specs.Cones.{Shape, IsCone, tight_values, saturation_rows, saturation_of}
-use Rattle.lra_steps.specs.Steps.{IsFilled}
+use Rattle.lra_systems.specs.LinearSystems.{rows_by_kind}
+use Rattle.lra_cone.specs.Cones.{ConeContent, IsCone, tight_values, saturation_rows, cone_saturation}
+use Rattle.lra_double_description.specs.Steps.{IsFilled}
 use Rattle.lra_cone.proofs.TightRows.{rows_length, row_at}
 use Rattle.lra_pair.specs.OwnLists.{loose_rows, TellsTight, AllTellTight, AreReducedBy, AreParts, AnyReductionExcess, IsOwnExcess, tight_value}
 use Rattle.lra_pair.proofs.TightRows.{tight_in, loose_in, rows_from, reduced_append}
 use Rattle.lra_bits.specs.Matrix.{Matrix, unmarked}
 use Rattle.lra_linear_spec.proofs.Membership.{contains_none, contains_cases, contains_head, contains_tail}
-use Rattle.lra_canon.specs.Reduced.{IsReducedBy}
+use Rattle.lra_canonical.specs.Reduced.{IsReducedBy}
 
 pub filled_end : (f : ℕ → Bool) (n k : ℕ) (bits : List Bool) → k ≡ n → IsFilled f n k bits → IsFilled f n n bits
 filled_end f n k bits e h = subst (λ (i : ℕ). IsFilled f n i bits) e h
 
 -- ---- what the values of a row tell
 value_of : {K : Type 0} (equal : K → Bool) (rows : List (List ℤ)) (kinds : List K) (place : ℕ) (t : List ℤ) → length rows ≡ length kinds → place < length rows →
-    value_at (tight_values (given_by equal rows kinds) t) place ≡ int_eq (product (get_or rows place []) t) (pos 0)
+    value_at (tight_values (rows_by_kind equal rows kinds) t) place ≡ int_eq (product (get_or rows place []) t) (pos 0)
 value_of equal [] kinds place t n h = absurd (omega (arith, h))
 value_of equal (r ∷ rows) [] place t n h = absurd (omega (arith, n))
 value_of equal (r ∷ rows) (k ∷ kinds) zero t n h = refl
 value_of equal (r ∷ rows) (k ∷ kinds) (suc place) t n h = value_of equal rows kinds place t (omega (arith, n)) (omega (arith, h))
 
 pub told_by : {K : Type 0} (equal : K → Bool) (taken : List LinearRow) (rows : List (List ℤ)) (kinds : List K) (rays : List (List ℤ)) (count n place : ℕ) (r : List ℤ) (bits : List Bool)
-    (matrix : List (List Bool)) → given_by equal rows kinds ≡ taken → length rows ≡ length kinds → place < length rows → r ≡ get_or rows place [] →
+    (matrix : List (List Bool)) → rows_by_kind equal rows kinds ≡ taken → length rows ≡ length kinds → place < length rows → r ≡ get_or rows place [] →
     matrix ≡ saturation_rows taken rays → n ≡ length rays + count → IsFilled (tight_value matrix place) n n bits → TellsTight rays count r bits
 told_by equal taken rows kinds rays count n place r bits matrix et many h er em en filled = record {
   many = filled.0 ∙ en;
@@ -69,25 +69,25 @@ told_by equal taken rows kinds rays count n place r bits matrix et many h er em 
         ap (λ (t : List LinearRow). value_at (tight_values t (get_or rays j [])) place) (sym et) ∙
         value_of equal rows kinds place (get_or rays j []) many h ∙ ap (λ (y : List ℤ). int_eq (product y (get_or rays j [])) (pos 0)) (sym er)
 
-pub rows_of_given : {K : Type 0} (equal : K → Bool) (rows : List (List ℤ)) (kinds : List K) → length rows ≡ length kinds → rows_of (given_by equal rows kinds) ≡ rows
+pub rows_of_given : {K : Type 0} (equal : K → Bool) (rows : List (List ℤ)) (kinds : List K) → length rows ≡ length kinds → rows_of (rows_by_kind equal rows kinds) ≡ rows
 rows_of_given equal [] kinds n = refl
 rows_of_given equal (r ∷ rows) [] n = absurd (omega (arith, n))
 rows_of_given equal (r ∷ rows) (k ∷ kinds) n = ap (λ (l : List (List ℤ)). r ∷ l) (rows_of_given equal rows kinds (omega (arith, n)))
 
 -- ---- the numbers that pass
-row_width : (s : Shape) → IsCone s → (r : List ℤ) → Contains (rows_of s.taken) r → length r ≡ suc s.dims
+row_width : (s : ConeContent) → IsCone s → (r : List ℤ) → Contains (rows_of s.taken) r → length r ≡ suc s.dims
 row_width s k r m = let g = rows_from s.taken r m in ap length (sym g.2) ∙ k.dual.system_widths g.0.row (system_has s.taken g.0 g.1)
 
-pub tight_width : (s : Shape) → IsCone s → (rows : List (List ℤ)) → rows ≡ tight_rows s.rays (rows_of s.taken) → (r : List ℤ) → Contains rows r → length r ≡ suc s.dims
+pub tight_width : (s : ConeContent) → IsCone s → (rows : List (List ℤ)) → rows ≡ tight_rows s.rays (rows_of s.taken) → (r : List ℤ) → Contains rows r → length r ≡ suc s.dims
 tight_width s k rows e r m = row_width s k r (tight_in s.rays (rows_of s.taken) r (subst (λ (l : List (List ℤ)). Contains l r) e m)).0
 
-pub loose_width : (s : Shape) → IsCone s → (rows : List (List ℤ)) → rows ≡ loose_rows s.rays (rows_of s.taken) → (r : List ℤ) → Contains rows r → length r ≡ suc s.dims
+pub loose_width : (s : ConeContent) → IsCone s → (rows : List (List ℤ)) → rows ≡ loose_rows s.rays (rows_of s.taken) → (r : List ℤ) → Contains rows r → length r ≡ suc s.dims
 loose_width s k rows e r m = row_width s k r (loose_in s.rays (rows_of s.taken) r (subst (λ (l : List (List ℤ)). Contains l r) e m)).0
 
 pub all_width : (w : ℕ) (rows : List (List ℤ)) → ((r : List ℤ) → Contains rows r → length r ≡ w) → HaveWidth w rows
 all_width w rows h = All-from_get_or (λ r. length r ≡ w) rows [] (λ i l. h (get_or rows i []) (Contains-get_or rows i [] l))
 
-pub echelon_excess : (s : Shape) → IsCone s → (rows : List (List ℤ)) → rows ≡ tight_rows s.rays (rows_of s.taken) → (e : RowError) → IsEchelonExcess rows e → IsOwnExcess s e
+pub echelon_excess : (s : ConeContent) → IsCone s → (rows : List (List ℤ)) → rows ≡ tight_rows s.rays (rows_of s.taken) → (e : RowError) → IsEchelonExcess rows e → IsOwnExcess s e
 echelon_excess s k rows er Memory x = tt
 echelon_excess s k rows er (Excess e) x = record {
   form = x.form;
@@ -103,7 +103,7 @@ echelon_excess s k rows er (Excess e) x = record {
     own : (form : List (List ℤ)) → (first : ℕ) × IsEchelonOf form (take first rows) → IsOwnForm (rows_of s.taken) s.rays form
     own form f = record { first = f.0; is_form = subst (λ (l : List (List ℤ)). IsEchelonOf form (take f.0 l)) er f.1 }
 
-pub reduction_excess : (s : Shape) → IsCone s → (tight loose form : List (List ℤ)) → tight ≡ tight_rows s.rays (rows_of s.taken) → loose ≡ loose_rows s.rays (rows_of s.taken) →
+pub reduction_excess : (s : ConeContent) → IsCone s → (tight loose form : List (List ℤ)) → tight ≡ tight_rows s.rays (rows_of s.taken) → loose ≡ loose_rows s.rays (rows_of s.taken) →
     IsEchelonOf form tight → HaveWidth (suc s.dims) form → (e : RowError) → AnyReductionExcess form loose e → IsOwnExcess s e
 reduction_excess s k tight loose form et el f widths Memory x = tt
 reduction_excess s k tight loose form et el f widths (Excess e) x = record {
@@ -150,13 +150,13 @@ width_more w form rows i r t all new h e f widths x a =
       ]
     ])
 
-pub given_length : {K : Type 0} (equal : K → Bool) (rows : List (List ℤ)) (kinds : List K) → length rows ≡ length kinds → length (given_by equal rows kinds) ≡ length rows
+pub given_length : {K : Type 0} (equal : K → Bool) (rows : List (List ℤ)) (kinds : List K) → length rows ≡ length kinds → length (rows_by_kind equal rows kinds) ≡ length rows
 given_length equal [] kinds n = refl
 given_length equal (r ∷ rows) [] n = absurd (omega (arith, n))
 given_length equal (r ∷ rows) (k ∷ kinds) n = ap suc (given_length equal rows kinds (omega (arith, n)))
 
-pub taken_length : {K : Type 0} (equal : K → Bool) (s : Shape) (m : Matrix) (listed rows : List (List ℤ)) (kinds : List K) (place : ℕ) → m ≡ saturation_of s.taken s.rays →
-    given_by equal rows kinds ≡ s.taken → listed ≡ rows → length kinds ≡ length rows → place < length listed → place < m.width
+pub taken_length : {K : Type 0} (equal : K → Bool) (s : ConeContent) (m : Matrix) (listed rows : List (List ℤ)) (kinds : List K) (place : ℕ) → m ≡ cone_saturation s.taken s.rays →
+    rows_by_kind equal rows kinds ≡ s.taken → listed ≡ rows → length kinds ≡ length rows → place < length listed → place < m.width
 taken_length equal s m listed rows kinds place em et el n h =
     let a = ap (λ (x : Matrix). x.width) em in
     let b = ap length (sym et) ∙ given_length equal rows kinds (sym n) in
@@ -174,15 +174,15 @@ kept_widths w marks rows kept e h = all_width w kept (λ r m. All-contains (λ z
         [ inl e ↦ subst (Contains (x ∷ rows)) e (contains_head x rows) | inr n ↦ contains_tail x r rows (unmarked_in marks rows r n) ]
 
 -- ---- the parts, row by row
-pub told_row : {K : Type 0} (equal : K → Bool) (s : Shape) (listed rows : List (List ℤ)) (kinds : List K) (place n : ℕ) (r copied : List ℤ) (bits : List Bool) (m : Matrix) →
-    m ≡ saturation_of s.taken s.rays → given_by equal rows kinds ≡ s.taken → listed ≡ rows → length kinds ≡ length rows → place < length listed → r ≡ get_or listed place r → copied ≡ r →
+pub told_row : {K : Type 0} (equal : K → Bool) (s : ConeContent) (listed rows : List (List ℤ)) (kinds : List K) (place n : ℕ) (r copied : List ℤ) (bits : List Bool) (m : Matrix) →
+    m ≡ cone_saturation s.taken s.rays → rows_by_kind equal rows kinds ≡ s.taken → listed ≡ rows → length kinds ≡ length rows → place < length listed → r ≡ get_or listed place r → copied ≡ r →
     n ≡ length s.rays + length s.lines → IsFilled (tight_value m.rows place) n n bits → TellsTight s.rays (length s.lines) copied bits
 told_row equal s listed rows kinds place n r copied bits m em et el nk h er ec en filled =
     told_by equal s.taken rows kinds s.rays (length s.lines) n place copied bits m.rows et (sym nk) (subst (λ (l : List (List ℤ)). place < length l) el h)
     (ec ∙ er ∙ get_or_default listed place r [] h ∙ ap (λ (l : List (List ℤ)). get_or l place []) el) (ap (λ (x : Matrix). x.rows) em) en filled
 
 -- the rows as the code lists them
-pub rows_listed : {K : Type 0} (equal : K → Bool) (taken : List LinearRow) (listed rows : List (List ℤ)) (kinds : List K) → given_by equal rows kinds ≡ taken → listed ≡ rows →
+pub rows_listed : {K : Type 0} (equal : K → Bool) (taken : List LinearRow) (listed rows : List (List ℤ)) (kinds : List K) → rows_by_kind equal rows kinds ≡ taken → listed ≡ rows →
     length kinds ≡ length rows →
     listed ≡ rows_of taken
 rows_listed equal taken listed rows kinds et el nk = el ∙ sym (rows_of_given equal rows kinds (sym nk)) ∙ ap rows_of et
@@ -236,7 +236,7 @@ some_of {A = A} xs n b l e f h = let z : n ≡ 0 = sym l ∙ ap length h in let 
 pub no_rows : (xs own : List (List ℤ)) (b : Bool) → b ≡ (length xs == 0) → b ≡ true → xs ≡ own → own ≡ []
 no_rows xs own b e t s = sym s ∙ none_of xs (length xs) b refl e t
 
-pub some_rows : {K : Type 0} (equal : K → Bool) (listed rows : List (List ℤ)) (kinds : List K) (taken : List LinearRow) → given_by equal rows kinds ≡ taken → listed ≡ rows →
+pub some_rows : {K : Type 0} (equal : K → Bool) (listed rows : List (List ℤ)) (kinds : List K) (taken : List LinearRow) → rows_by_kind equal rows kinds ≡ taken → listed ≡ rows →
     length kinds ≡ length rows →
     0 < length taken → 0 < length listed
 some_rows equal listed rows kinds taken et el n h = let a = ap length et in let b = given_length equal rows kinds (sym n) in let d = ap length el in omega (arith, h, a, b, d)

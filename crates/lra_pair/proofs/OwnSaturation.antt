@@ -19,39 +19,39 @@ use Rattle.lra_linear_spec.proofs.OneSpelling.{given_from}
 use Rattle.lra_linear_spec.proofs.Ring.{ring, v, ◌⊕◌, ◌⊗◌}
 use Rattle.lra_linear_spec.proofs.Signs.{between_opposites, no_product}
 use Rattle.lra_bits.specs.Matrix.{Matrix}
-use Rattle.lra_canon.specs.Echelons.{HaveWidth, SameEqualities}
-use Rattle.lra_canon.specs.Irredundant.{IsSaturation, IsIrredundant, Solutions}
-use Rattle.lra_canon.specs.Reduced.{IsForm, SolvesAll, IsReducedBy}
-use Rattle.lra_canon.proofs.Solutions.{farkas, all_widths, solves_all, spanned_solved, reduced_same}
-use Rattle.lra_cone.specs.Cones.{Shape, IsCone}
+use Rattle.lra_canonical.specs.Echelons.{HaveWidth, SameEqualities}
+use Rattle.lra_canonical.specs.Irredundant.{IsSaturation, IsIrredundant, Solutions}
+use Rattle.lra_canonical.specs.Reduced.{IsEchelonForm, SolvesAll, IsReducedBy}
+use Rattle.lra_canonical.proofs.Solutions.{farkas, all_widths, solves_all, spanned_solved, reduced_same}
+use Rattle.lra_cone.specs.Cones.{ConeContent, IsCone}
 use Rattle.lra_descriptions.proofs.SeveralKinds.{system_append, system_rays, system_lines}
 use Rattle.lra_cone.proofs.Stepped.{line_tight}
 use Rattle.lra_pair.specs.OwnLists.{loose_rows, TellsTight, AllTellTight, AreReducedBy, IsOwnList}
 use Rattle.lra_pair.proofs.TightRows.{tight_said, tight_from, tight_in, loose_in, either_row, rows_has, rows_from, reduced_from, reduced_has, reduced_at}
 
 -- the generators of the cone
-abbrev pub cone_generators : Shape → List LinearRow
+abbrev pub cone_generators : ConeContent → List LinearRow
 cone_generators s = rows_as false s.rays ++ rows_as true s.lines
 
-pub generators_system : (s : Shape) → system_of (cone_generators s) ≡ all_rows s.lines s.rays
+pub generators_system : (s : ConeContent) → system_of (cone_generators s) ≡ all_rows s.lines s.rays
 generators_system s = system_append (rows_as false s.rays) (rows_as true s.lines) ∙ ap (λ (x : List (List ℤ)). x ++ system_of (rows_as true s.lines)) (system_rays s.rays) ∙
     ap (λ (x : List (List ℤ)). s.rays ++ x) (system_lines s.lines)
 
 -- what the code has made: the form of the tight rows, and the others reduced by it
-pub record Made (s : Shape) (form reduced : List (List ℤ)) : Type 0 where
+pub record Made (s : ConeContent) (form reduced : List (List ℤ)) : Type 0 where
   pub cone : IsCone s
-  pub is_form : IsForm form
+  pub is_form : IsEchelonForm form
   pub form_widths : HaveWidth (suc s.dims) form
   pub same : SameEqualities (tight_rows s.rays (rows_of s.taken)) form
   pub are_reduced : AreReducedBy form (loose_rows s.rays (rows_of s.taken)) reduced
 
 -- ---- what a row is to the cone
 -- a row is one of the system
-row_solved : (s : Shape) (r : List ℤ) → Contains (rows_of s.taken) r → Contains (system_of s.taken) r
+row_solved : (s : ConeContent) (r : List ℤ) → Contains (rows_of s.taken) r → Contains (system_of s.taken) r
 row_solved s r m = let g = rows_from s.taken r m in subst (Contains (system_of s.taken)) g.2 (system_has s.taken g.0 g.1)
 
 -- a tight row has product 0 with all of the cone
-tight_everywhere : (s : Shape) → IsCone s → (r : List ℤ) → Contains (tight_rows s.rays (rows_of s.taken)) r → (t : List ℤ) → Contains (all_rows s.lines s.rays) t → product r t ≡ pos 0
+tight_everywhere : (s : ConeContent) → IsCone s → (r : List ℤ) → Contains (tight_rows s.rays (rows_of s.taken)) r → (t : List ℤ) → Contains (all_rows s.lines s.rays) t → product r t ≡ pos 0
 tight_everywhere s k r m t n =
     let i = tight_in s.rays (rows_of s.taken) r m in
     elim (Contains-append_cases s.rays (both_ways s.lines) t n) [
@@ -59,7 +59,8 @@ tight_everywhere s k r m t n =
       | inr a ↦ let x = signed_from s.lines t a in line_tight s k t x.line x.has x.sign r (row_solved s r i.0)
     ]
 
-form_everywhere : (s : Shape) (form reduced : List (List ℤ)) → Made s form reduced → (t : List ℤ) → Contains (all_rows s.lines s.rays) t → SolvesAll form t
+form_everywhere : (s : ConeContent) (form reduced : List (List ℤ)) → Made s form reduced → (t : List ℤ) → Contains (all_rows s.lines s.rays) t →
+    SolvesAll form t
 form_everywhere s form reduced made t n = (made.same t).0 (λ r m. tight_everywhere s made.cone r m t n)
 
 -- a row with product 0 with all that generates u has product 0 with u
@@ -76,7 +77,7 @@ zero_product rows r u h g =
     opposite z y e f = omega (arith, ints, e, f)
 
 -- ---- the same solutions
-pub to_solutions : (s : Shape) (form reduced : List (List ℤ)) → Made s form reduced → (u : List ℤ) → length u ≡ suc s.dims → Solves (system_of s.taken) (entry u) → Solutions form reduced u
+pub to_solutions : (s : ConeContent) (form reduced : List (List ℤ)) → Made s form reduced → (u : List ℤ) → length u ≡ suc s.dims → Solves (system_of s.taken) (entry u) → Solutions form reduced u
 to_solutions s form reduced made u l h =
     let g : Generated (all_rows s.lines s.rays) (entry u) = made.cone.dual.solutions u l h in
     let solves : SolvesAll form u = (made.same u).0 (λ r m. zero_product (all_rows s.lines s.rays) r u (tight_everywhere s made.cone r m) g) in (
@@ -87,13 +88,13 @@ to_solutions s form reduced made u l h =
     )
 
 -- an equality is tight
-equality_tight : (s : Shape) → IsCone s → (g : LinearRow) → Contains s.taken g → g.equal ≡ true → is_tight_at s.rays g.row ≡ true
+equality_tight : (s : ConeContent) → IsCone s → (g : LinearRow) → Contains s.taken g → g.equal ≡ true → is_tight_at s.rays g.row ≡ true
 equality_tight s k g m e = tight_from s.rays g.row (λ t n.
     let here = Contains-append_left s.rays (both_ways s.lines) t n in
     between_opposites (product g.row t) (product (negated g.row) t) (negated_dot g.row (entry t)) (k.dual.meets t here g.row (system_has s.taken g m))
     (k.dual.meets t here (negated g.row) (system_has_negated s.taken g m e)))
 
-pub from_solutions : (s : Shape) (form reduced : List (List ℤ)) → Made s form reduced → (u : List ℤ) → Solutions form reduced u → Solves (system_of s.taken) (entry u)
+pub from_solutions : (s : ConeContent) (form reduced : List (List ℤ)) → Made s form reduced → (u : List ℤ) → Solutions form reduced u → Solves (system_of s.taken) (entry u)
 from_solutions s form reduced made u h c m =
     let f = system_from s.taken c m in
     elim (either_row s.rays (rows_of s.taken) f.given.row (rows_has s.taken f.given f.has)) [
@@ -125,7 +126,7 @@ from_solutions s form reduced made u h c m =
         let i = reduced_has form (loose_rows s.rays (rows_of s.taken)) reduced made.are_reduced r t in
         (reduced_same form r i.0 i.2 u h.0).1 (h.1 i.0 i.1)
 
-described : (s : Shape) (form reduced : List (List ℤ)) → Made s form reduced → (u : List ℤ) → length u ≡ suc s.dims → (Solutions form reduced u → Gen (cone_generators s) u) ×
+described : (s : ConeContent) (form reduced : List (List ℤ)) → Made s form reduced → (u : List ℤ) → length u ≡ suc s.dims → (Solutions form reduced u → Gen (cone_generators s) u) ×
     (Gen (cone_generators s) u → Solutions form reduced u)
 described s form reduced made u l = (
   (λ h. generated_gen (cone_generators s) (entry u) (subst (λ (x : List (List ℤ)). Generated x (entry u)) (sym (generators_system s))
@@ -162,7 +163,7 @@ given_length : (b : Bool) (rows : List (List ℤ)) → length (rows_as b rows) �
 given_length b [] = refl
 given_length b (r ∷ rows) = ap suc (given_length b rows)
 
-pub many_generators : (s : Shape) → length (cone_generators s) ≡ length s.rays + length s.lines
+pub many_generators : (s : ConeContent) → length (cone_generators s) ≡ length s.rays + length s.lines
 many_generators s = length-append (rows_as false s.rays) (rows_as true s.lines) ∙ ap (λ (n : ℕ). n + length (rows_as true s.lines)) (given_length false s.rays) ∙
     ap (λ (n : ℕ). length s.rays + n) (given_length true s.lines)
 
@@ -177,14 +178,14 @@ generator_at [] (l ∷ lines) (suc j) g h = elim (generator_at [] lines j g (ome
 generator_at (r ∷ rays) lines zero g h = inl (omega arith, refl)
 generator_at (r ∷ rays) lines (suc j) g h = elim (generator_at rays lines j g (omega (arith, h))) [ inl x ↦ inl (omega (arith, x.0), x.1) | inr x ↦ inr (omega (arith, x.0), x.1) ]
 
-generator_in : (s : Shape) (g : LinearRow) → Contains (cone_generators s) g → Contains (all_rows s.lines s.rays) g.row
+generator_in : (s : ConeContent) (g : LinearRow) → Contains (cone_generators s) g → Contains (all_rows s.lines s.rays) g.row
 generator_in s g m = elim (Contains-append_cases (rows_as false s.rays) (rows_as true s.lines) g m) [
   | inl i ↦ Contains-append_left s.rays (both_ways s.lines) g.row (given_from false s.rays g i).1
   | inr i ↦ Contains-append_right s.rays (both_ways s.lines) g.row (in_lines s.lines g.row (given_from true s.lines g i).1)
 ]
 
 -- ---- the reduced rows as `drop_redundant` asks for them
-pub is_saturation : (s : Shape) (form reduced : List (List ℤ)) (matrix : Matrix) → Made s form reduced → HaveWidth (suc s.dims) reduced →
+pub is_saturation : (s : ConeContent) (form reduced : List (List ℤ)) (matrix : Matrix) → Made s form reduced → HaveWidth (suc s.dims) reduced →
     AllTellTight s.rays (length s.lines) (loose_rows s.rays (rows_of s.taken)) matrix.rows →
     IsSaturation (suc s.dims) form (cone_generators s) reduced matrix
 is_saturation s form reduced matrix made widths told = record {
@@ -257,7 +258,7 @@ is_saturation s form reduced matrix made widths told = record {
         ring (v (pos 0) ⊗ v (u 0) ⊕ v (pos 0)) (v (pos 0)) (omega arith)
 
 -- ---- what is left is the canonical list
-pub own_canonical : (s : Shape) (form reduced kept : List (List ℤ)) → Made s form reduced → HaveWidth (suc s.dims) kept → IsIrredundant (suc s.dims) form reduced kept → IsOwnList s form kept
+pub own_canonical : (s : ConeContent) (form reduced kept : List (List ℤ)) → Made s form reduced → HaveWidth (suc s.dims) kept → IsIrredundant (suc s.dims) form reduced kept → IsOwnList s form kept
 own_canonical s form reduced kept made widths x = record {
   canonical = x.canonical;
   widths = wide;

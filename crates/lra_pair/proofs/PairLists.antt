@@ -20,7 +20,7 @@ use Rattle.lra_linear_spec.proofs.Membership.{contains_head, contains_none, each
 use Rattle.lra_linear_spec.proofs.OneSpelling.{dual_same_cone, falsity_never, positivity_product}
 use Rattle.lra_linear_spec.proofs.Polyhedra.{con_gen}
 use Rattle.lra_linear_spec.proofs.Products.{dot_minus, entry_negated, negated_dot}
-use Rattle.lra_sys.specs.Listed.{Listed, constraints, generators, given_by, FitKinds}
+use Rattle.lra_systems.specs.LinearSystems.{LinearSystem, constraints, generators, rows_by_kind, FitKinds}
 use Rattle.lra_linear_spec.specs.Kinds.{is_equality, is_line}
 use Rattle.lra_linear_spec.specs.declared.ConKind.{ConKind}
 use Rattle.lra_linear_spec.specs.declared.ConKind.TheVariants.{Ge}
@@ -28,7 +28,7 @@ use Rattle.lra_linear_spec.specs.OperationStrain.{unit_row}
 use Rattle.lra_linear_spec.proofs.Lines.{in_lines, zeros_length}
 use Rattle.lra_pair.proofs.OwnRows.{all_width}
 use Rattle.lra_linear_spec.specs.declared.GenKind.{GenKind}
-use Rattle.lra_cone.specs.Cones.{Shape, IsCone}
+use Rattle.lra_cone.specs.Cones.{ConeContent, IsCone}
 use Rattle.lra_descriptions.specs.ShownLists.{HasGenerators, AreGeneratorsOf, HasConstraints, ListsGenerators, ShowsGenerators, ShowsConstraints}
 use Rattle.lra_pair.proofs.ConstraintLists.{listed_facets, listed_hold, nothing_is, same_constraints}
 use Rattle.lra_pair.proofs.GeneratorLists.{at_least_zero, generators_shown, listed_counted, listed_generators, listed_have, flat_rows, nothing_generated, same_points}
@@ -93,7 +93,7 @@ same_set n rows p d k same =
 
 -- ---- of constraints
 -- with some generator
-pub pair_of_rows : (cone : Shape) (n : ℕ) (kept : List LinearRow) (eqs facets : List (List ℤ)) (rows : Listed ConKind) (list : Listed GenKind) → IsCone cone → cone.dims ≡ n →
+pub pair_of_rows : (cone : ConeContent) (n : ℕ) (kept : List LinearRow) (eqs facets : List (List ℤ)) (rows : LinearSystem ConKind) (list : LinearSystem GenKind) → IsCone cone → cone.dims ≡ n →
     cone.taken ≡ inequality (positivity n) ∷ kept → IsOwnList cone eqs facets → ShowsConstraints n eqs facets rows →
     HasGenerators n (system_of (inequality (positivity n) ∷ kept)) (generators list) → IsPolyhedron (record { dims = n; rows = constraints rows; generators = generators list })
 pair_of_rows cone n kept eqs facets rows list k d t own shown g =
@@ -110,11 +110,11 @@ given_some [] rays lines n e = n refl
 given_some (x ∷ points) rays lines n e = cc
 
 -- where no generator is shown there is no point
-pub none_shown : (cone : Shape) (n : ℕ) (kept : List LinearRow) (list : Listed GenKind) → IsCone cone → cone.dims ≡ n → cone.taken ≡ inequality (positivity n) ∷ kept →
+pub none_shown : (cone : ConeContent) (n : ℕ) (kept : List LinearRow) (list : LinearSystem GenKind) → IsCone cone → cone.dims ≡ n → cone.taken ≡ inequality (positivity n) ∷ kept →
     ShowsGenerators cone.lines cone.rays list → list.rows ≡ [] → IsEmptySet n (Con kept)
 none_shown cone n kept list k d t shown e = elim (generators_shown cone n kept list k d t shown).0 [
   | inl x ↦ x.1
-  | inr g ↦ absurd (given_some g.points (rows_as false g.rays) (rows_as true g.lines) g.some_point (sym g.are ∙ ap (λ (x : List (List ℤ)). given_by is_line x list.kinds) e))
+  | inr g ↦ absurd (given_some g.points (rows_as false g.rays) (rows_as true g.lines) g.some_point (sym g.are ∙ ap (λ (x : List (List ℤ)). rows_by_kind is_line x list.kinds) e))
 ]
 
 -- the empty lists are those of each set without a point
@@ -131,7 +131,7 @@ empty_pair n P p d er eg none =
       );
     }
 
-pub some_shown : (cone : Shape) (n : ℕ) (kept : List LinearRow) (list : Listed GenKind) → IsCone cone → cone.dims ≡ n → cone.taken ≡ inequality (positivity n) ∷ kept →
+pub some_shown : (cone : ConeContent) (n : ℕ) (kept : List LinearRow) (list : LinearSystem GenKind) → IsCone cone → cone.dims ≡ n → cone.taken ≡ inequality (positivity n) ∷ kept →
     ShowsGenerators cone.lines cone.rays list → list.rows ≢ [] → HasGenerators n (system_of (inequality (positivity n) ∷ kept)) (generators list)
 some_shown cone n kept list k d t shown some = elim (generators_shown cone n kept list k d t shown).0 [
   | inl x ↦ elim shown [
@@ -142,7 +142,7 @@ some_shown cone n kept list k d t shown some = elim (generators_shown cone n kep
 ]
 
 -- as many points and rays as the cone has rays
-counted_lists : (cone : Shape) (n : ℕ) (kept : List LinearRow) (list : Listed GenKind) → IsCone cone → cone.dims ≡ n → cone.taken ≡ inequality (positivity n) ∷ kept →
+counted_lists : (cone : ConeContent) (n : ℕ) (kept : List LinearRow) (list : LinearSystem GenKind) → IsCone cone → cone.dims ≡ n → cone.taken ≡ inequality (positivity n) ∷ kept →
     ListsGenerators cone.lines cone.rays list →
     (g : HasGenerators n (system_of (inequality (positivity n) ∷ kept)) (generators list)) × (length (g.points ++ g.rays) ≡ length cone.rays)
 counted_lists cone n kept list k d t h =
@@ -152,7 +152,7 @@ counted_lists cone n kept list k d t h =
     (subst (λ (l : List LinearRow). (g : HasGenerators cone.dims (system_of l) (generators list)) × (length (g.points ++ g.rays) ≡ length cone.rays)) e
     (x.0, x.2))
 
-pub rows_limit : (cone : Shape) (n : ℕ) (kept : List LinearRow) (eqs facets : List (List ℤ)) (rows : Listed ConKind) (list : Listed GenKind) → IsCone cone → cone.dims ≡ n →
+pub rows_limit : (cone : ConeContent) (n : ℕ) (kept : List LinearRow) (eqs facets : List (List ℤ)) (rows : LinearSystem ConKind) (list : LinearSystem GenKind) → IsCone cone → cone.dims ≡ n →
     cone.taken ≡ inequality (positivity n) ∷ kept → IsOwnList cone eqs facets → ShowsConstraints n eqs facets rows → ShowsGenerators cone.lines cone.rays list → list.rows ≢ [] →
     length facets ≤ row_limit → KeepsLimit (record { dims = n; rows = constraints rows; generators = generators list })
 rows_limit cone n kept eqs facets rows list k d t own shown (inl y) some few = absurd (some y.0)
@@ -207,7 +207,7 @@ nothing_else p er g = (
   refl,
 )
 
-pub universe_pair : (cone : Shape) (n : ℕ) (list : Listed GenKind) (p : Polyhedron) → IsCone cone → cone.dims ≡ n → cone.taken ≡ inequality (positivity n) ∷ [] →
+pub universe_pair : (cone : ConeContent) (n : ℕ) (list : LinearSystem GenKind) (p : Polyhedron) → IsCone cone → cone.dims ≡ n → cone.taken ≡ inequality (positivity n) ∷ [] →
     ShowsGenerators cone.lines cone.rays list → p.dims ≡ n → p.rows ≡ [] → p.generators ≡ generators list → IsPolyhedronOf n (Con []) p
 universe_pair cone n list p k d t shown dp er eg =
     let a : AreGeneratorsOf n [] p.generators = subst (AreGeneratorsOf n []) (sym eg) (generators_shown cone n [] list k d t shown).0 in
@@ -216,7 +216,7 @@ universe_pair cone n list p k d t shown dp er eg =
       | inr g ↦ subst (λ (m : ℕ). (h : HasGenerators m (positivity m ∷ []) p.generators) → IsPolyhedron p) dp (λ h. inr (has_point p (positivity p.dims ∷ []) h (nothing_else p er h).0)) g
     ]) (same_points n [] p.generators a)
 
-pub universe_limit : (cone : Shape) (n : ℕ) (list : Listed GenKind) (p : Polyhedron) → IsCone cone → cone.dims ≡ n → cone.taken ≡ inequality (positivity n) ∷ [] →
+pub universe_limit : (cone : ConeContent) (n : ℕ) (list : LinearSystem GenKind) (p : Polyhedron) → IsCone cone → cone.dims ≡ n → cone.taken ≡ inequality (positivity n) ∷ [] →
     ShowsGenerators cone.lines cone.rays list → p.dims ≡ n → p.rows ≡ [] → p.generators ≡ generators list → KeepsLimit p
 universe_limit cone n list p k d t (inl y) dp er eg =
     absurd (none_shown cone n [] list k d t (inl y) y.0 (positivity n) (origin n) (con_none (positivity n)))
@@ -228,7 +228,7 @@ universe_limit cone n list p k d t (inr y) dp er eg =
     few_lists p (positivity p.dims ∷ []) g.0 c.0 1 (length cone.rays) c.1 g.1 (omega arith) k.few) g
 
 -- ---- of constraints
-pub rows_pair : (cone : Shape) (n : ℕ) (kept : List LinearRow) (eqs facets : List (List ℤ)) (rows : Listed ConKind) (list : Listed GenKind) → IsCone cone → cone.dims ≡ n →
+pub rows_pair : (cone : ConeContent) (n : ℕ) (kept : List LinearRow) (eqs facets : List (List ℤ)) (rows : LinearSystem ConKind) (list : LinearSystem GenKind) → IsCone cone → cone.dims ≡ n →
     cone.taken ≡ inequality (positivity n) ∷ kept → IsOwnList cone eqs facets → ShowsConstraints n eqs facets rows →
     ShowsGenerators cone.lines cone.rays list → list.rows ≢ [] → IsPolyhedronOf n (Con kept) (record { dims = n; rows = constraints rows; generators = generators list })
 rows_pair cone n kept eqs facets rows list k d t own shown listed some =
@@ -270,7 +270,7 @@ own_columns n taken lines rays f o t m =
     (generated_nonneg (positivity n) (system_of taken) (entry t) (λ s i. subst (λ z. pos 0 ≤ℤ z) (sym (positivity_product n s)) (given_columns n taken f s i))
     ((o.same (entry t)).1 (generated_row (all_rows lines rays) t m)))
 
-pub generators_pair : (cone : Shape) (n : ℕ) (lines rays : List (List ℤ)) (rows : Listed ConKind) (list : Listed GenKind) → IsCone cone → cone.dims ≡ n → AreGenerators cone.taken →
+pub generators_pair : (cone : ConeContent) (n : ℕ) (lines rays : List (List ℤ)) (rows : LinearSystem ConKind) (list : LinearSystem GenKind) → IsCone cone → cone.dims ≡ n → AreGenerators cone.taken →
     ¬ (IsEmptySet n (Gen cone.taken)) → IsOwnList cone lines rays → ShowsConstraints n cone.lines cone.rays rows → ShowsGenerators lines rays list →
     IsPolyhedronOf n (Gen cone.taken) (record { dims = n; rows = constraints rows; generators = generators list }) × FitKinds list.rows list.kinds
 generators_pair cone n lines rays rows list k d f some own shown (inl x) = absurd (some (λ q point gen. nothing_generated n (all_rows lines rays) q point
@@ -291,7 +291,7 @@ generators_pair cone n lines rays rows list k d f some own shown (inr h) =
       g.1,
     )
 
-pub generators_limit : (cone : Shape) (n : ℕ) (lines rays : List (List ℤ)) (rows : Listed ConKind) (list : Listed GenKind) → IsCone cone → cone.dims ≡ n → AreGenerators cone.taken →
+pub generators_limit : (cone : ConeContent) (n : ℕ) (lines rays : List (List ℤ)) (rows : LinearSystem ConKind) (list : LinearSystem GenKind) → IsCone cone → cone.dims ≡ n → AreGenerators cone.taken →
     ¬ (IsEmptySet n (Gen cone.taken)) → IsOwnList cone lines rays → ShowsConstraints n cone.lines cone.rays rows → ShowsGenerators lines rays list → length rays ≤ row_limit →
     KeepsLimit (record { dims = n; rows = constraints rows; generators = generators list })
 generators_limit cone n lines rays rows list k d f some own shown (inl x) few = absurd (some (λ q point gen. nothing_generated n (all_rows lines rays) q point
@@ -314,11 +314,11 @@ seen_lists : (P : List (List ℤ) → List (List ℤ) → Type 0) (lines rays se
 seen_lists P lines rays seen_lines seen_rays el er h = subst (λ (x : List (List ℤ)). P x rays) el (subst (λ (x : List (List ℤ)). P seen_lines x) er h)
 
 -- a list with this pair of descriptions, of n dimensions
-abbrev pub IsMade : ℕ → PointSet → Listed ConKind → Listed GenKind → Type 0
+abbrev pub IsMade : ℕ → PointSet → LinearSystem ConKind → LinearSystem GenKind → Type 0
 IsMade n P rows list = IsPolyhedronOf n P (record { dims = rows.dims; rows = constraints rows; generators = generators list }) × (list.dims ≡ rows.dims) × FitKinds list.rows list.kinds
     × KeepsLimit (record { dims = rows.dims; rows = constraints rows; generators = generators list })
 
-with_dims : (n : ℕ) (P : PointSet) (rows : Listed ConKind) (list : Listed GenKind) → rows.dims ≡ n → list.dims ≡ n →
+with_dims : (n : ℕ) (P : PointSet) (rows : LinearSystem ConKind) (list : LinearSystem GenKind) → rows.dims ≡ n → list.dims ≡ n →
     IsPolyhedronOf n P (record { dims = n; rows = constraints rows; generators = generators list }) → FitKinds list.rows list.kinds →
     KeepsLimit (record { dims = n; rows = constraints rows; generators = generators list }) → IsMade n P rows list
 with_dims n P rows list d e h f l = (
@@ -328,30 +328,32 @@ with_dims n P rows list d e h f l = (
   subst (λ (m : ℕ). KeepsLimit (record { dims = m; rows = constraints rows; generators = generators list })) (sym d) l,
 )
 
-pub empty_lists : (n : ℕ) (rows : Listed ConKind) (list : Listed GenKind) → rows.dims ≡ n → rows.rows ≡ negated (unit_row n 0) ∷ [] → rows.kinds ≡ Ge ∷ [] → list.dims ≡ n → list.rows ≡ [] →
+pub empty_lists : (n : ℕ) (rows : LinearSystem ConKind) (list : LinearSystem GenKind) → rows.dims ≡ n → rows.rows ≡ negated (unit_row n 0) ∷ [] → rows.kinds ≡ Ge ∷ [] → list.dims ≡ n →
+    list.rows ≡ [] →
     IsPolyhedron (record { dims = rows.dims; rows = constraints rows; generators = generators list }) × (list.dims ≡ rows.dims) × FitKinds list.rows list.kinds
     × KeepsLimit (record { dims = rows.dims; rows = constraints rows; generators = generators list })
 empty_lists n rows list d er ek e el =
     let none : IsWithoutPoint (record { dims = rows.dims; rows = constraints rows; generators = generators list }) =
-    (nothing_is n rows er ek ∙ ap (λ (m : ℕ). inequality (falsity m) ∷ []) (sym d), ap (λ (x : List (List ℤ)). given_by is_line x list.kinds) el) in (
+    (nothing_is n rows er ek ∙ ap (λ (m : ℕ). inequality (falsity m) ∷ []) (sym d), ap (λ (x : List (List ℤ)). rows_by_kind is_line x list.kinds) el) in (
       inl none,
       e ∙ sym d,
       subst (λ (x : List (List ℤ)). FitKinds x list.kinds) (sym el) tt,
       inl none,
     )
 
-pub universe_made : (cone : Shape) (n : ℕ) (lines rays : List (List ℤ)) (rows : Listed ConKind) (list : Listed GenKind) → IsCone cone → cone.dims ≡ n → cone.taken ≡ inequality (positivity n) ∷ [] →
+pub universe_made : (cone : ConeContent) (n : ℕ) (lines rays : List (List ℤ)) (rows : LinearSystem ConKind) (list : LinearSystem GenKind) → IsCone cone → cone.dims ≡ n →
+    cone.taken ≡ inequality (positivity n) ∷ [] →
     lines ≡ cone.lines → rays ≡ cone.rays → ShowsGenerators lines rays list → rows.dims ≡ n → rows.rows ≡ [] → list.dims ≡ n → IsMade n (Con []) rows list
 universe_made cone n lines rays rows list k d t el er shown dr rr dl =
     let s = seen_lists (λ x y. ShowsGenerators x y list) cone.lines cone.rays lines rays el er shown in
     let p : Polyhedron = record { dims = rows.dims; rows = constraints rows; generators = generators list } in (
-      universe_pair cone n list p k d t s dr (ap (λ (x : List (List ℤ)). given_by is_equality x rows.kinds) rr) refl,
+      universe_pair cone n list p k d t s dr (ap (λ (x : List (List ℤ)). rows_by_kind is_equality x rows.kinds) rr) refl,
       dl ∙ sym dr,
       (generators_shown cone n [] list k d t s).1,
-      universe_limit cone n list p k d t s dr (ap (λ (x : List (List ℤ)). given_by is_equality x rows.kinds) rr) refl,
+      universe_limit cone n list p k d t s dr (ap (λ (x : List (List ℤ)). rows_by_kind is_equality x rows.kinds) rr) refl,
     )
 
-pub rows_made : (cone : Shape) (n : ℕ) (lines rays seen_eqs seen_facets eqs facets : List (List ℤ)) (rows : Listed ConKind) (list : Listed GenKind) → IsCone cone → cone.dims ≡ n →
+pub rows_made : (cone : ConeContent) (n : ℕ) (lines rays seen_eqs seen_facets eqs facets : List (List ℤ)) (rows : LinearSystem ConKind) (list : LinearSystem GenKind) → IsCone cone → cone.dims ≡ n →
     IsPositive n cone.taken → IsOwnList cone eqs facets → lines ≡ cone.lines → rays ≡ cone.rays → ShowsGenerators lines rays list → seen_eqs ≡ eqs → seen_facets ≡ facets →
     ShowsConstraints n seen_eqs seen_facets rows →
     list.rows ≢ [] → rows.dims ≡ n → list.dims ≡ n → length facets ≤ row_limit → IsMade n (Con (drop 1 cone.taken)) rows list
@@ -362,13 +364,14 @@ rows_made cone n lines rays seen_eqs seen_facets eqs facets rows list k d t own 
     (with_dims n (Con t.0) rows list dr dl (rows_pair cone n t.0 eqs facets rows list k d t.1 own c s some) (generators_shown cone n t.0 list k d t.1 s).1
     (rows_limit cone n t.0 eqs facets rows list k d t.1 own c s some few))
 
-pub none_made : (cone : Shape) (n : ℕ) (lines rays : List (List ℤ)) (list : Listed GenKind) (p : Polyhedron) → IsCone cone → cone.dims ≡ n → IsPositive n cone.taken → lines ≡ cone.lines →
+pub none_made : (cone : ConeContent) (n : ℕ) (lines rays : List (List ℤ)) (list : LinearSystem GenKind) (p : Polyhedron) → IsCone cone → cone.dims ≡ n → IsPositive n cone.taken → lines ≡ cone.lines →
     rays ≡ cone.rays → ShowsGenerators lines rays list → list.rows ≡ [] → p.dims ≡ n → p.rows ≡ inequality (falsity n) ∷ [] → p.generators ≡ [] → IsPolyhedronOf n (Con (drop 1 cone.taken)) p
 none_made cone n lines rays list p k d t el er shown none dp rp gp =
     let s = seen_lists (λ x y. ShowsGenerators x y list) cone.lines cone.rays lines rays el er shown in
     subst (λ (l : List LinearRow). IsPolyhedronOf n (Con l) p) (sym (ap (drop 1) t.1)) (empty_pair n (Con t.0) p dp rp gp (none_shown cone n t.0 list k d t.1 s none))
 
-pub generators_made : (cone : Shape) (n : ℕ) (seen_eqs seen_facets seen_lines seen_rays lines rays : List (List ℤ)) (rows : Listed ConKind) (list : Listed GenKind) → IsCone cone → cone.dims ≡ n →
+pub generators_made : (cone : ConeContent) (n : ℕ) (seen_eqs seen_facets seen_lines seen_rays lines rays : List (List ℤ)) (rows : LinearSystem ConKind) (list : LinearSystem GenKind) → IsCone cone →
+    cone.dims ≡ n →
     AreGenerators cone.taken → ¬ (IsEmptySet n (Gen cone.taken)) → IsOwnList cone lines rays → seen_eqs ≡ cone.lines → seen_facets ≡ cone.rays → ShowsConstraints n seen_eqs seen_facets rows →
     seen_lines ≡ lines → seen_rays ≡ rays → ShowsGenerators seen_lines seen_rays list → rows.dims ≡ n → list.dims ≡ n → length rays ≤ row_limit → IsMade n (Gen cone.taken) rows list
 generators_made cone n seen_eqs seen_facets seen_lines seen_rays lines rays rows list k d f some own ee ef listed el er shown dr dl few =
@@ -377,9 +380,9 @@ generators_made cone n seen_eqs seen_facets seen_lines seen_rays lines rays rows
     let x = generators_pair cone n lines rays rows list k d f some own c s in
     with_dims n (Gen cone.taken) rows list dr dl x.0 x.1 (generators_limit cone n lines rays rows list k d f some own c s few)
 
-pub own_lines_width : (s : Shape) (n : ℕ) (lines rays seen : List (List ℤ)) → IsOwnList s lines rays → s.dims ≡ n → seen ≡ lines → All (λ r. length r ≡ suc n) seen
+pub own_lines_width : (s : ConeContent) (n : ℕ) (lines rays seen : List (List ℤ)) → IsOwnList s lines rays → s.dims ≡ n → seen ≡ lines → All (λ r. length r ≡ suc n) seen
 own_lines_width s n lines rays seen o d e = all_width (suc n) seen (λ r m. o.widths r
     (Contains-append_right rays (both_ways lines) r (in_lines lines r (subst (λ (l : List (List ℤ)). Contains l r) e m))) ∙ ap suc d)
 
-pub own_rays_width : (s : Shape) (n : ℕ) (lines rays seen : List (List ℤ)) → IsOwnList s lines rays → s.dims ≡ n → seen ≡ rays → All (λ r. length r ≡ suc n) seen
+pub own_rays_width : (s : ConeContent) (n : ℕ) (lines rays seen : List (List ℤ)) → IsOwnList s lines rays → s.dims ≡ n → seen ≡ rays → All (λ r. length r ≡ suc n) seen
 own_rays_width s n lines rays seen o d e = all_width (suc n) seen (λ r m. o.widths r (Contains-append_left rays (both_ways lines) r (subst (λ (l : List (List ℤ)). Contains l r) e m)) ∙ ap suc d)

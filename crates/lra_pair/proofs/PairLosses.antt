@@ -18,8 +18,8 @@ use Rattle.lra_linear_spec.specs.Points.{PointSet, IsWithin}
 use Rattle.lra_linear_spec.specs.Polyhedra.{Polyhedron, IsPolyhedronOf, positivity}
 use Rattle.lra_linear_spec.specs.Strain.{Loss, Strains, IsStrained, OwnReductionPasses, OwnTooMany}
 use Rattle.lra_linear_spec.proofs.Membership.{contains_head, contains_tail, contains_none, contains_cases}
-use Rattle.lra_sys.specs.Listed.{given_by}
-use Rattle.lra_cone.specs.Cones.{Shape, IsCone}
+use Rattle.lra_systems.specs.LinearSystems.{rows_by_kind}
+use Rattle.lra_cone.specs.Cones.{ConeContent, IsCone}
 use Rattle.lra_cone.specs.Conversions.{IsConversion}
 use Rattle.lra_cone.specs.Losses.{IfLost}
 use Rattle.lra_cone.proofs.TightRows.{with_later}
@@ -57,7 +57,7 @@ many_again : (w : ℕ) (list : List LinearRow) (g : LinearRow) (count : ℕ) →
 many_again w list g count m x = record { lines = x.lines; rays = x.rays; canonical = canonical_again w list g x.lines x.rays m x.canonical; are = x.are; long = x.long }
 
 -- ---- the own list
-own_strained : (s : Shape) (cause : Cause) (loss : Loss) → IsOwnLoss s cause loss → IsOwnCause s cause → IsStrained (suc s.dims) loss.chosen loss.further s.lines s.rays cause
+own_strained : (s : ConeContent) (cause : Cause) (loss : Loss) → IsOwnLoss s cause loss → IsOwnCause s cause → IsStrained (suc s.dims) loss.chosen loss.further s.lines s.rays cause
 own_strained s (Excess e) loss l x = inr (inr (inl (subst (λ (g : List LinearRow). OwnReductionPasses (suc s.dims) g s.rays e) (sym l.chosen) x)))
 own_strained s (TooMany count) loss l x =
     let w = suc s.dims in
@@ -65,7 +65,7 @@ own_strained s (TooMany count) loss l x =
     inr (subst (λ (g : List LinearRow). OwnTooMany w (with_row c.equal c.row (system_of g)) count) (sym l.chosen) (many_again w s.taken c count l.further x))
 
 -- where no row was left out before, the own list's strain is the list's
-pub own_strain : (s : Shape) (all : List LinearRow) (cause : Cause) (loss : Loss) → IsCone s → s.taken ≡ all → IsOwnLoss s cause loss → IsOwnCause s cause → Strains (suc s.dims) all loss
+pub own_strain : (s : ConeContent) (all : List LinearRow) (cause : Cause) (loss : Loss) → IsCone s → s.taken ≡ all → IsOwnLoss s cause loss → IsOwnCause s cause → Strains (suc s.dims) all loss
 own_strain s all cause loss k t l x = record {
   rest = [];
   begins = sym t ∙ sym l.chosen ∙ sym (append-nil loss.chosen);
@@ -77,7 +77,8 @@ own_strain s all cause loss k t l x = record {
   strained = subst (IsStrained (suc s.dims) loss.chosen loss.further s.lines s.rays) (sym l.cause) (own_strained s cause loss l x);
 }
 
-pub own_lost : (first all kept : List LinearRow) (s : Shape) (cause : Cause) (losses after : List Loss) (loss : Loss) → IsCone s → IsConversion first all kept s losses → after ≡ losses ++ loss ∷ [] →
+pub own_lost : (first all kept : List LinearRow) (s : ConeContent) (cause : Cause) (losses after : List Loss) (loss : Loss) → IsCone s → IsConversion first all kept s losses →
+    after ≡ losses ++ loss ∷ [] →
     IsOwnLoss s cause loss → IsOwnCause s cause → IfLost (Strains (suc s.dims) (first ++ all)) after
 own_lost first all kept s cause losses after loss k c ea l x = subst (IfLost (Strains (suc s.dims) (first ++ all))) (sym ea) (by_losses losses c)
   where
@@ -91,18 +92,19 @@ from_strain n rows (loss ∷ later) s = inl s
 
 -- ---- the row that is named
 given_at : {K : Type 0} (equal : K → Bool) (rows : List (List ℤ)) (kinds : List K) (i : ℕ) (d : K) → length kinds ≡ length rows → i < length rows →
-    Contains (given_by equal rows kinds) (record { row = get_or rows i []; equal = equal (get_or kinds i d) })
+    Contains (rows_by_kind equal rows kinds) (record { row = get_or rows i []; equal = equal (get_or kinds i d) })
 given_at equal [] kinds i d n h = absurd (omega (arith, h))
 given_at equal (r ∷ rows) [] i d n h = absurd (omega (arith, n))
-given_at equal (r ∷ rows) (k ∷ kinds) zero d n h = contains_head (let g : LinearRow = record { row = r; equal = equal k } in g) (given_by equal rows kinds)
+given_at equal (r ∷ rows) (k ∷ kinds) zero d n h = contains_head (let g : LinearRow = record { row = r; equal = equal k } in g) (rows_by_kind equal rows kinds)
 given_at equal (r ∷ rows) (k ∷ kinds) (suc i) d n h = contains_tail
     (let g : LinearRow = record { row = r; equal = equal k } in g)
     (let g : LinearRow = record { row = get_or rows i []; equal = equal (get_or kinds i d) } in g)
-    (given_by equal rows kinds) (given_at equal rows kinds i d (omega (arith, n)) (omega (arith, h)))
+    (rows_by_kind equal rows kinds) (given_at equal rows kinds i d (omega (arith, n)) (omega (arith, h)))
 
-pub own_loss_is : {K : Type 0} (equal : K → Bool) (s : Shape) (cause : Cause) (loss : Loss) (listed rows : List (List ℤ)) (seen kinds : List K) (i : ℕ) (r : List ℤ) (d : K) →
-    given_by equal rows kinds ≡ s.taken → listed ≡ rows → seen ≡ kinds → length seen ≡ length rows → i < length listed → r ≡ get_or listed i r →
-    loss ≡ record { chosen = given_by equal rows kinds; further = record { row = r; equal = equal (get_or seen i d) }; cause = cause } → IsOwnLoss s cause loss
+pub own_loss_is : {K : Type 0} (equal : K → Bool) (s : ConeContent) (cause : Cause) (loss : Loss) (listed rows : List (List ℤ)) (seen kinds : List K) (i : ℕ) (r : List ℤ) (d : K) →
+    rows_by_kind equal rows kinds ≡ s.taken → listed ≡ rows → seen ≡ kinds → length seen ≡ length rows → i < length listed → r ≡ get_or listed i r →
+    loss ≡ record { chosen = rows_by_kind equal rows kinds; further = record { row = r; equal = equal (get_or seen i d) }; cause = cause } →
+    IsOwnLoss s cause loss
 own_loss_is {K = K} equal s cause loss listed rows seen kinds i r d et el ek n h er eq =
     let here : r ≡ get_or rows i [] = er ∙ get_or_default listed i r [] h ∙ ap (λ (l : List (List ℤ)). get_or l i []) el in
     let many : length kinds ≡ length rows = ap length (sym ek) ∙ n in
@@ -111,7 +113,7 @@ own_loss_is {K = K} equal s cause loss listed rows seen kinds i r d et el ek n h
       chosen = ap (λ (l : Loss). l.chosen) eq ∙ et;
       further = subst (λ (g : LinearRow). Contains s.taken g) (sym (ap (λ (l : Loss). l.further) eq ∙ ap (λ (y : List ℤ). record { row = y; equal = equal (get_or seen i d) }) here))
           (subst (λ (l : List LinearRow). Contains l (record { row = get_or rows i []; equal = equal (get_or seen i d) })) et
-          (subst (λ (q : List K). Contains (given_by equal rows kinds) (record { row = get_or rows i []; equal = equal (get_or q i d) })) (sym ek) (given_at equal rows kinds i d many inside)));
+          (subst (λ (q : List K). Contains (rows_by_kind equal rows kinds) (record { row = get_or rows i []; equal = equal (get_or q i d) })) (sym ek) (given_at equal rows kinds i d many inside)));
       cause = ap (λ (l : Loss). l.cause) eq;
     }
 
@@ -126,7 +128,7 @@ pub first_within : (n : ℕ) (kept rows : List LinearRow) (P : PointSet) → ((g
 first_within n kept rows P among h x point con = h x point (λ g m. con g (among g m))
 
 -- ---- as the code tells it, of constraints
-pub taken_behind : (n : ℕ) (first rows kept : List LinearRow) (s : Shape) (losses : List Loss) → IsPositive n first →
+pub taken_behind : (n : ℕ) (first rows kept : List LinearRow) (s : ConeContent) (losses : List Loss) → IsPositive n first →
     IsConversion first rows kept s losses → drop 1 s.taken ≡ drop 1 first ++ kept
 taken_behind n first rows kept s losses positive c =
     ap (drop 1) (c.taken ∙ ap (λ (l : List LinearRow). l ++ kept) positive.1) ∙ ap (λ (l : List LinearRow). drop 1 l ++ kept) (sym positive.1)
@@ -150,17 +152,18 @@ pub positive_alone : (n d : ℕ) (taken : List LinearRow) → d ≡ n → taken 
 positive_alone n d taken e first = ([], first ∙ ap (λ (m : ℕ). inequality (positivity m) ∷ []) e)
 
 -- nothing more was lost
-pub same_strain : (d : ℕ) (s : Shape) (losses : List Loss) → s.dims ≡ d → (first all kept : List LinearRow) → IsConversion first all kept s losses → IfLost (Strains (suc d) (first ++ all)) losses
+pub same_strain : (d : ℕ) (s : ConeContent) (losses : List Loss) → s.dims ≡ d → (first all kept : List LinearRow) → IsConversion first all kept s losses →
+    IfLost (Strains (suc d) (first ++ all)) losses
 same_strain d s losses e first all kept c = subst (λ (m : ℕ). IfLost (Strains (suc m) (first ++ all)) losses) e c.strain
 
 -- the own list strains
-pub later_strain : (d : ℕ) (s : Shape) (cause : Cause) (losses after : List Loss) → s.dims ≡ d → IsCone s → TellsOwnLoss s cause losses after →
+pub later_strain : (d : ℕ) (s : ConeContent) (cause : Cause) (losses after : List Loss) → s.dims ≡ d → IsCone s → TellsOwnLoss s cause losses after →
     IsOwnCause s cause → (first all kept : List LinearRow) → IsConversion first all kept s losses → IfLost (Strains (suc d) (first ++ all)) after
 later_strain d s cause losses after e k t h first all kept c =
     subst (λ (m : ℕ). IfLost (Strains (suc m) (first ++ all)) after) e (own_lost first all kept s cause losses after t.loss k c t.told t.own h)
 
 -- a list that was added to isn't empty
-pub some_loss : (s : Shape) (cause : Cause) (losses after told : List Loss) → TellsOwnLoss s cause losses after → told ≡ after → told ≡ [] → ⊥
+pub some_loss : (s : ConeContent) (cause : Cause) (losses after told : List Loss) → TellsOwnLoss s cause losses after → told ≡ after → told ≡ [] → ⊥
 some_loss s cause losses after told t f g = not_none losses (sym t.told ∙ sym f ∙ g)
   where
     not_none : (losses : List Loss) → losses ++ t.loss ∷ [] ≡ [] → ⊥
@@ -175,7 +178,7 @@ pub none_of : (n : ℕ) (rows : List LinearRow) (p : Polyhedron) → IsPolyhedro
 none_of n rows p h = record { rows = []; among = λ g m. absurd (contains_none g m); made = h }
 
 -- ---- rows that were tried
-pub of_tried : (n d : ℕ) (rows kept : List LinearRow) (s start : Shape) (losses after : List Loss) (p : Polyhedron) → d ≡ n → s.dims ≡ start.dims →
+pub of_tried : (n d : ℕ) (rows kept : List LinearRow) (s start : ConeContent) (losses after : List Loss) (p : Polyhedron) → d ≡ n → s.dims ≡ start.dims →
     start.dims ≡ n →
     IsConversion start.taken rows kept s losses → IsMadeOf d s losses p after → IsOfTried n start.taken rows p after
 of_tried n d rows kept s start losses after p e same dims c h = record {
@@ -190,7 +193,7 @@ of_tried n d rows kept s start losses after p e same dims c h = record {
 pub behind_positivity : (n d : ℕ) (taken : List LinearRow) → d ≡ n → taken ≡ inequality (positivity d) ∷ [] → taken ≡ with_positivity n []
 behind_positivity n d taken e first = first ∙ ap (λ (m : ℕ). inequality (positivity m) ∷ []) e
 
-pub one_left_out : (n : ℕ) (first all kept rows : List LinearRow) (s : Shape) (losses : List Loss) → s.dims ≡ n → rows ≡ all → IsConversion first rows kept s losses → losses ≢ [] →
+pub one_left_out : (n : ℕ) (first all kept rows : List LinearRow) (s : ConeContent) (losses : List Loss) → s.dims ≡ n → rows ≡ all → IsConversion first rows kept s losses → losses ≢ [] →
     StrainsWhenTried n first all
 one_left_out n first all kept rows s losses d e c some = record {
   cone = s;
@@ -201,7 +204,7 @@ one_left_out n first all kept rows s losses d e c some = record {
   strains = inl some;
 }
 
-pub list_strains : (n : ℕ) (first all kept rows : List LinearRow) (s : Shape) (losses : List Loss) → s.dims ≡ n → rows ≡ all → IsConversion first rows kept s losses → losses ≡ [] →
+pub list_strains : (n : ℕ) (first all kept rows : List LinearRow) (s : ConeContent) (losses : List Loss) → s.dims ≡ n → rows ≡ all → IsConversion first rows kept s losses → losses ≡ [] →
     (cause : Cause) × IsOwnCause s cause → StrainsWhenTried n first all
 list_strains n first all kept rows s losses d e c none h = record {
   cone = s;

@@ -3,8 +3,8 @@ use Rattle.std.proofs.Common.{◌≡◌, ℕ, suc, ◌+◌, ◌<◌, ◌≤◌, 
 use Rattle.std.proofs.lemmas.List.{get_or_default, get_or-set_other, length-set, take_all}
 use Rattle.std.proofs.lemmas.List.Elements.{All-contains}
 use Rattle.std.proofs.Math.Seq.{take-append_seam, take-suc-set}
-use Rattle.lra_canon.specs.Echelons.{HaveWidth}
-use Rattle.lra_canon.specs.Reduced.{IsReducedBy, IsReductionExcess}
+use Rattle.lra_canonical.specs.Echelons.{HaveWidth}
+use Rattle.lra_canonical.specs.Reduced.{IsReducedBy, IsReductionExcess}
 use Rattle.lra_row.specs.declared.error.RowError.{RowError}
 use Rattle.lra_pair.specs.OwnLists.{AreReducedBy, AnyReductionExcess}
 use Rattle.lra_pair.proofs.OwnRows.{reduced_more, some_excess, width_more}

@@ -10,7 +10,7 @@ use Rattle.lra_linear_spec.specs.Vectors.{product}
 use Rattle.lra_linear_spec.specs.Descriptions.{LinearRow, rows_of}
 use Rattle.lra_linear_spec.specs.Strain.{is_tight_at, tight_rows}
 use Rattle.lra_linear_spec.proofs.Membership.{contains_none, contains_cases, contains_head, contains_tail}
-use Rattle.lra_canon.specs.Reduced.{IsReducedBy}
+use Rattle.lra_canonical.specs.Reduced.{IsReducedBy}
 use Rattle.lra_bits.specs.TruthValues.{value_at}
 use Rattle.lra_pair.specs.OwnLists.{loose_rows, TellsTight, AllTellTight, AreReducedBy, AreParts}
 

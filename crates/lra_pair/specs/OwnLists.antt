@@ -15,10 +15,10 @@ use Rattle.lra_bits.specs.Matrix.{Matrix}
 use Rattle.lra_bits.specs.TruthValues.{value_at}
 use Rattle.lra_descriptions.specs.Tightness.{tight_matrix}
 use Rattle.lra_linear_spec.specs.Reduction.{ReductionPasses}
-use Rattle.lra_canon.specs.Reduced.{IsReducedBy}
+use Rattle.lra_canonical.specs.Reduced.{IsReducedBy}
 use Rattle.lra_row.specs.declared.error.RowError.{RowError}
 use Rattle.lra_row.specs.declared.error.RowError.TheVariants.{Excess, Memory}
-use Rattle.lra_cone.specs.Cones.{Shape}
+use Rattle.lra_cone.specs.Cones.{ConeContent}
 
 -- ---- tight rows and the others
 -- the rows that are not tight at some ray, in their order
@@ -46,15 +46,15 @@ AreReducedBy form (r ∷ rows) [] = ⊥
 AreReducedBy form (r ∷ rows) (t ∷ ts) = IsReducedBy form r t × AreReducedBy form rows ts
 
 -- ---- the list, or the reduction in which a number passes
-abbrev pub IsOwnList : Shape → List (List ℤ) → List (List ℤ) → Type 0
+abbrev pub IsOwnList : ConeContent → List (List ℤ) → List (List ℤ) → Type 0
 IsOwnList s lines rays = IsCanonicalOf (suc s.dims) (system_of s.taken) lines rays
 
-abbrev pub IsOwnExcess : Shape → RowError → Type 0
+abbrev pub IsOwnExcess : ConeContent → RowError → Type 0
 IsOwnExcess s (Excess e) = OwnReductionPasses (suc s.dims) s.taken s.rays e
 IsOwnExcess s Memory = Unit {0}
 
 -- why no list is told of: a number passes in it, or it has so many rays, and that is too many
-abbrev pub IsOwnCause : Shape → Cause → Type 0
+abbrev pub IsOwnCause : ConeContent → Cause → Type 0
 IsOwnCause s (of_cause.Excess e) = OwnReductionPasses (suc s.dims) s.taken s.rays e
 IsOwnCause s (of_cause.TooMany count) = OwnTooMany (suc s.dims) (system_of s.taken) count
 
@@ -80,24 +80,24 @@ abbrev pub IsPositive : ℕ → List LinearRow → Type 0
 IsPositive n taken = (kept : List LinearRow) × (taken ≡ inequality (positivity n) ∷ kept)
 
 -- the loss of the own list of the rows taken in, one of which is named
-pub record IsOwnLoss (s : Shape) (reason : Cause) (loss : Loss) : Type 0 where
+pub record IsOwnLoss (s : ConeContent) (reason : Cause) (loss : Loss) : Type 0 where
   pub chosen : loss.chosen ≡ s.taken
   pub further : Contains s.taken loss.further
   pub cause : loss.cause ≡ reason
 
 -- behind the losses told before stands that of the own list
-pub record TellsOwnLoss (s : Shape) (reason : Cause) (before after : List Loss) : Type 0 where
+pub record TellsOwnLoss (s : ConeContent) (reason : Cause) (before after : List Loss) : Type 0 where
   pub loss : Loss
   pub told : after ≡ before ++ loss ∷ []
   pub own : IsOwnLoss s reason loss
 
 -- ---- which rows are tight at which others
 -- the rays of a cone, and behind them its lines
-abbrev pub columns_of : Shape → List (List ℤ)
+abbrev pub columns_of : ConeContent → List (List ℤ)
 columns_of s = s.rays ++ s.lines
 
 -- Where the old matrix says at which of the cone's rays and lines each row is tight, and all are at its lines, the new
 -- one says at which of the rows each of those shown is tight.
-abbrev pub TurnsTo : Shape → Matrix → List (List ℤ) → Matrix → Type 0
+abbrev pub TurnsTo : ConeContent → Matrix → List (List ℤ) → Matrix → Type 0
 TurnsTo s old shown new = (rows : List (List ℤ)) → old ≡ tight_matrix (columns_of s) rows →
     ((l r : List ℤ) → Contains s.lines l → Contains rows r → product l r ≡ pos 0) → new ≡ tight_matrix rows shown

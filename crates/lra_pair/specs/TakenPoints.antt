@@ -6,8 +6,8 @@ use Rattle.lra_linear_spec.specs.OperationStrain.{with_positivity}
 use Rattle.lra_linear_spec.specs.Points.{IsEmptySet, IsWithin}
 use Rattle.lra_linear_spec.specs.Polyhedra.{IsPolyhedronOf, Polyhedron}
 use Rattle.lra_linear_spec.specs.Strain.{Loss, Strains}
-use Rattle.lra_sys.specs.Listed.{Listed, constraints}
-use Rattle.lra_cone.specs.Cones.{Shape}
+use Rattle.lra_systems.specs.LinearSystems.{LinearSystem, constraints}
+use Rattle.lra_cone.specs.Cones.{ConeContent}
 use Rattle.lra_cone.specs.Conversions.{IsConversion}
 use Rattle.lra_cone.specs.Losses.{IfLost}
 use Rattle.lra_descriptions.specs.ShownLists.{ShowsConstraints, ShowsValid}
@@ -16,7 +16,7 @@ use Rattle.lra_pair.specs.TriedRows.{IsOfTried, OwnListStrains}
 -- The list's constraints hold at the points of the generators: they are those of the cone, after a loss each of its
 -- lines and rays that is seen to be valid on all generators. What was lost strains; without a loss all of the
 -- generators were taken in.
-pub record AreTaken (n : ℕ) (given : List LinearRow) (list : Listed ConKind) (cone : Shape)
+pub record AreTaken (n : ℕ) (given : List LinearRow) (list : LinearSystem ConKind) (cone : ConeContent)
     (losses : List Loss) : Type 0 where
   pub list_dims : list.dims ≡ n
   pub dims : cone.dims ≡ n
@@ -42,14 +42,14 @@ pub record IsOfFirst (n : ℕ) (list : List LinearRow) (p : Polyhedron) : Type 0
 
 -- the polyhedron of the generators that were taken into the cone; where their canonical list strains, that of
 -- constraints that hold at each of them
-abbrev pub IsMadeOfPoints : ℕ → Shape → List LinearRow → Polyhedron → List Loss → Type 0
+abbrev pub IsMadeOfPoints : ℕ → ConeContent → List LinearRow → Polyhedron → List Loss → Type 0
 IsMadeOfPoints n cone list p losses = ((losses ≡ []) × IsPolyhedronOf n (Gen cone.taken) p) ⊎
     (OwnListStrains cone [] losses × IsOfFirst n list p)
 
 -- the same, where each of them was taken in; else that of constraints that hold at each
 pub record IsOfPoints (n : ℕ) (given : List LinearRow) (p : Polyhedron) (losses : List Loss) : Type 0 where
-  pub cone : Shape
-  pub list : Listed ConKind
+  pub cone : ConeContent
+  pub list : LinearSystem ConKind
   pub left : List Loss
   pub taken : AreTaken n given list cone left
   pub made : ((left ≡ []) × IsMadeOfPoints n cone (constraints list) p losses)

@@ -3,18 +3,18 @@
 ghost use Rattle.std.specs.Prelude.{◌≡◌, ◌++◌, ◌∷◌, [], ℕ, List, ℤ, ◌+◌, ◌<◌, ◌≤◌, length};
 ghost use Rattle.std.specs.Prelude.{IfOk, IfErr, OnOk, slice_index_or};
 ghost use Rattle.lra_cone.specs.Cones.{IsCone};
-ghost use Rattle.lra_steps.specs.Steps.{IsFilled};
+ghost use Rattle.lra_double_description.specs.Steps.{IsFilled};
 ghost use Rattle.lra_linear_spec.specs.ConeStrain.{row_limit};
 ghost use Rattle.lra_linear_spec.specs.Descriptions.{rows_of};
-ghost use Rattle.lra_canon.specs.Reduced.{IsForm};
-ghost use Rattle.lra_canon.specs.Echelons.{HaveWidth};
+ghost use Rattle.lra_canonical.specs.Reduced.{IsEchelonForm};
+ghost use Rattle.lra_canonical.specs.Echelons.{HaveWidth};
 ghost use Rattle.lra_pair.specs.OwnLists.{TellsTight, AreParts, AreReducedBy, AnyReductionExcess};
 ghost use Rattle.lra_pair.specs.OwnLists.{IsOwnCause, IsOwnList, IsOwnExcess, columns_of, tight_value};
 ghost use Rattle.lra_descriptions.specs.Tightness.{tight_matrix};
-ghost use Rattle.lra_sys.specs.Dimensions.{too_many_dimensions};
+ghost use Rattle.lra_systems.specs.Dimensions.{too_many_dimensions};
 
 use lra_bits::{BitRow, SatMatrix};
-use lra_canon::{drop_redundant, echelon, reduce};
+use lra_canonical::{drop_redundant, echelon, reduce};
 use lra_cone::{Cone, RAY_LIMIT};
 use lra_linear_spec::Cause;
 use lra_row::{Row, RowError};
@@ -131,7 +131,7 @@ pub fn all_reduced(
     requires wide { 0 < width }
     requires rows { HaveWidth width rows.now }
     requires form_widths { HaveWidth width form.now }
-    requires form { IsForm form.now }
+    requires form { IsEchelonForm form.now }
     ensures reduced { IfOk result (λ reduced. AreReducedBy form.now rows.now reduced.items) }
     ensures widths { IfOk result (λ reduced. HaveWidth width reduced.items) }
     ensures excess { IfErr result (AnyReductionExcess form.now rows.now) }
@@ -150,7 +150,7 @@ fn reduce_all(rows: &mut Vec<Row>, form: &[Row], width: usize) -> Result<(), Row
     requires wide { 0 < width }
     requires rows { HaveWidth width rows.old.items }
     requires form_widths { HaveWidth width form.now }
-    requires form { IsForm form.now }
+    requires form { IsEchelonForm form.now }
     ensures reduced { OnOk result (AreReducedBy form.now rows.old.items rows.new.items) }
     ensures widths { OnOk result (HaveWidth width rows.new.items) }
     ensures excess { IfErr result (AnyReductionExcess form.now rows.old.items) }

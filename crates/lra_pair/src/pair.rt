@@ -9,8 +9,8 @@ ghost use Rattle.lra_linear_spec.specs.Representable.{KeepsLimit};
 ghost use Rattle.lra_linear_spec.specs.OperationStrain.{with_positivity};
 ghost use Rattle.lra_linear_spec.specs.Points.{IsEmptySet};
 ghost use Rattle.lra_linear_spec.specs.Polyhedra.{IsPolyhedron, IsPolyhedronOf, falsity};
-ghost use Rattle.lra_sys.specs.Dimensions.{too_many_dimensions};
-ghost use Rattle.lra_sys.specs.Listed.{constraints, generators, FitKinds};
+ghost use Rattle.lra_systems.specs.Dimensions.{too_many_dimensions};
+ghost use Rattle.lra_systems.specs.LinearSystems.{constraints, generators, FitKinds};
 ghost use Rattle.lra_cone.specs.Cones.{IsCone};
 ghost use Rattle.lra_linear_spec.specs.declared.Cause as told;
 ghost use Rattle.lra_linear_spec.specs.declared.GenKind.TheVariants.{Point};
@@ -32,7 +32,7 @@ use lra_descriptions::{
     known_generators, nothing,
 };
 use lra_linear_spec::Cause;
-use lra_sys::{ConSys, GenSys, TOO_MANY_DIMENSIONS, unit};
+use lra_systems::{ConSys, GenSys, TOO_MANY_DIMENSIONS, unit};
 use std::alloc::{AllocError, Global};
 use std::marker::Model;
 
@@ -58,7 +58,7 @@ impl Model for Pair {
     ghost use Rattle.std.specs.Prelude.{◌≡◌};
     ghost use Rattle.lra_linear_spec.specs.Representable.{KeepsLimit};
     ghost use Rattle.lra_linear_spec.specs.Polyhedra.{Polyhedron, IsPolyhedron};
-    ghost use Rattle.lra_sys.specs.Listed.{constraints, generators, FitKinds};
+    ghost use Rattle.lra_systems.specs.LinearSystems.{constraints, generators, FitKinds};
     ghost use Rattle.lra_descriptions.specs.Tightness.{saturation_of};
 
     ghost Value = { Polyhedron };
@@ -178,7 +178,7 @@ fn show_generators(
         TurnsTo cone.now matrix.now known.list.rows known.matrix) }
 {
     let (lines, rays) = (cone.lines(), cone.rays());
-    let columns = matrix.turned(alloc)?;
+    let columns = matrix.transposed(alloc)?;
     let _width = columns.width();
     known_generators(alloc, n, lines, rays, columns)
 }
@@ -201,7 +201,7 @@ fn show_constraints(
         TurnsTo cone.now matrix.now known.list.rows known.matrix) }
 {
     let (lines, rays) = (cone.lines(), cone.rays());
-    let columns = matrix.turned(alloc)?;
+    let columns = matrix.transposed(alloc)?;
     let _width = columns.width();
     let positivity = unit(alloc, n, 0)?;
     known_constraints(alloc, lines, rays, columns, &positivity, n)
@@ -231,7 +231,7 @@ fn of_rows(alloc: Global, n: usize, cone: &Cone, own: MarkedOwn) -> Result<Pair,
         let pair = empty(alloc, n)?;
         return Ok(pair);
     }
-    let turned = shown.matrix.turned(alloc)?;
+    let turned = shown.matrix.transposed(alloc)?;
     let _width = turned.width();
     let KnownConstraints {
         list: rows,

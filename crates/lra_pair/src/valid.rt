@@ -1,14 +1,14 @@
 //! Constraints that hold at each of the generators.
 
 ghost use Rattle.std.specs.Prelude.{◌≡◌, ◌≢◌, [], ◌<◌, IfOk};
-ghost use Rattle.lra_sys.specs.Dimensions.{too_many_dimensions};
-ghost use Rattle.lra_sys.specs.Listed.{constraints};
+ghost use Rattle.lra_systems.specs.Dimensions.{too_many_dimensions};
+ghost use Rattle.lra_systems.specs.LinearSystems.{constraints};
 ghost use Rattle.lra_cone.specs.Cones.{IsCone};
 ghost use Rattle.lra_descriptions.specs.ShownLists.{ShowsValid, ShowsConstraints};
 
 use lra_cone::Conversion;
 use lra_descriptions::{constraint_list, valid_rows};
-use lra_sys::{ConKind, ConSys, unit};
+use lra_systems::{ConKind, ConSys, unit};
 use std::alloc::{AllocError, Global};
 
 /// The constraints of the cone; after a loss those of its lines and rays that are seen to be valid on all rows, which

@@ -7,7 +7,7 @@ use Rattle.lra_linear_spec.specs.OperationStrain.{with_positivity}
 use Rattle.lra_linear_spec.specs.Polyhedra.{Polyhedron}
 use Rattle.lra_linear_spec.specs.Strain.{Loss, Strains}
 use Rattle.lra_linear_spec.proofs.Membership.{contains_cases, contains_head, contains_none, contains_tail}
-use Rattle.lra_cone.specs.Cones.{Shape}
+use Rattle.lra_cone.specs.Cones.{ConeContent}
 use Rattle.lra_cone.specs.Conversions.{AreTried, IsConversion}
 use Rattle.lra_duality.specs.Onward.{MayGoOn}
 use Rattle.lra_pair.specs.TriedRows.{IsOfTried, OwnListStrains}
@@ -51,7 +51,7 @@ first_left n taken (g ∷ all) kept left later loss (inr t) e =
           (subst (λ (f : LinearRow). Strains (suc n) (taken ++ f ∷ []) loss) (sym further) strains));
     }
 
-own_strains : (n : ℕ) (first all kept : List LinearRow) (s : Shape) (left losses later : List Loss) (loss : Loss) → IsConversion first all kept s left → s.dims ≡ n →
+own_strains : (n : ℕ) (first all kept : List LinearRow) (s : ConeContent) (left losses later : List Loss) (loss : Loss) → IsConversion first all kept s left → s.dims ≡ n →
     AreTried (suc n) first all kept left → OwnListStrains s left losses → losses ≡ loss ∷ later → StrainsBehind n first all loss
 own_strains n first all kept s [] losses later loss c d t o e =
     let told : Loss = o.told.loss in

@@ -9,29 +9,29 @@ use Rattle.lra_linear_spec.specs.Polyhedra.{IsPolyhedron, Polyhedron}
 use Rattle.lra_linear_spec.specs.Range.{InRange}
 use Rattle.lra_linear_spec.specs.declared.ConKind.{ConKind}
 use Rattle.lra_linear_spec.specs.declared.GenKind.{GenKind}
-use Rattle.lra_sys.specs.Listed.{FitKinds, Listed, constraints, generators, given_by}
+use Rattle.lra_systems.specs.LinearSystems.{FitKinds, LinearSystem, constraints, generators, rows_by_kind}
 use Rattle.lra_bits.specs.Matrix.{Matrix}
 use Rattle.lra_duality.specs.Saturations.{saturation_of}
 use Rattle.lra_linear_spec.proofs.Membership.{contains_cases, contains_head, contains_none, contains_tail}
 
 given_row : {K : Type 0} (k : K → Bool) (rows : List (List ℤ)) (kinds : List K) (g : LinearRow) →
-    Contains (given_by k rows kinds) g → Contains rows g.row
+    Contains (rows_by_kind k rows kinds) g → Contains rows g.row
 given_row k [] kinds g c = absurd (contains_none g c)
 given_row k (r ∷ rows) [] g c = absurd (contains_none g c)
 given_row k (r ∷ rows) (q ∷ kinds) g c =
-    elim (contains_cases (let x : LinearRow = record { row = r; equal = k q } in x) g (given_by k rows kinds) c) [
+    elim (contains_cases (let x : LinearRow = record { row = r; equal = k q } in x) g (rows_by_kind k rows kinds) c) [
       | inl e ↦ subst (λ y. Contains (r ∷ rows) y.row) e (contains_head r rows)
       | inr d ↦ contains_tail r g.row rows (given_row k rows kinds g d)
     ]
 
 -- the numbers of a list's rows lie in the range, whatever their kinds
-pub listed_in_range : {K : Type 0} (k : K → Bool) (list : Listed K) (rows : List (List ℤ)) → rows ≡ list.rows →
-    All (All InRange) rows → AreInRange (given_by k list.rows list.kinds)
+pub listed_in_range : {K : Type 0} (k : K → Bool) (list : LinearSystem K) (rows : List (List ℤ)) → rows ≡ list.rows →
+    All (All InRange) rows → AreInRange (rows_by_kind k list.rows list.kinds)
 listed_in_range k list rows e h g has =
     All-contains (All InRange) list.rows g.row (subst (λ r. All (All InRange) r) e h)
     (given_row k list.rows list.kinds g has)
 
-pub formed_lists : (rows : Listed ConKind) (by_generators : Listed GenKind) → IsPolyhedron (record {
+pub formed_lists : (rows : LinearSystem ConKind) (by_generators : LinearSystem GenKind) → IsPolyhedron (record {
   dims = rows.dims;
   rows = constraints rows;
   generators = generators by_generators;
@@ -53,20 +53,21 @@ formed_lists rows by_generators canonical limit one two e f in_one in_two = reco
 }
 
 -- ---- what a polyhedron's fields hold
-abbrev pub AreKept : Listed ConKind → Listed GenKind → Matrix → Type 0
+abbrev pub AreKept : LinearSystem ConKind → LinearSystem GenKind → Matrix → Type 0
 AreKept rows by_generators saturation =
     IsPolyhedron (record { dims = rows.dims; rows = constraints rows; generators = generators by_generators }) × (by_generators.dims ≡ rows.dims)
     × FitKinds by_generators.rows by_generators.kinds × (saturation ≡ saturation_of (constraints rows) (generators by_generators))
     × KeepsLimit (record { dims = rows.dims; rows = constraints rows; generators = generators by_generators })
 
-pub copied : (rows copied_rows : Listed ConKind) (by_generators copied_generators : Listed GenKind) (saturation copied_saturation : Matrix) → copied_rows ≡ rows → copied_generators ≡ by_generators →
+pub copied : (rows copied_rows : LinearSystem ConKind) (by_generators copied_generators : LinearSystem GenKind) (saturation copied_saturation : Matrix) → copied_rows ≡ rows →
+    copied_generators ≡ by_generators →
     copied_saturation ≡ saturation → AreKept rows by_generators saturation → AreKept copied_rows copied_generators copied_saturation
 copied rows copied_rows by_generators copied_generators saturation copied_saturation er eg es kept =
-    subst (λ (x : Listed ConKind). AreKept x copied_generators copied_saturation) (sym er) (subst (λ (x : Listed GenKind). AreKept rows x copied_saturation) (sym eg)
+    subst (λ (x : LinearSystem ConKind). AreKept x copied_generators copied_saturation) (sym er) (subst (λ (x : LinearSystem GenKind). AreKept rows x copied_saturation) (sym eg)
     (subst (λ (x : Matrix). AreKept rows by_generators x) (sym es) kept))
 
 -- from the lists of a polyhedron
-pub taken_over : (p : Polyhedron) (rows : Listed ConKind) (by_generators : Listed GenKind) → rows.dims ≡ p.dims → constraints rows ≡ p.rows → by_generators.dims ≡ p.dims →
+pub taken_over : (p : Polyhedron) (rows : LinearSystem ConKind) (by_generators : LinearSystem GenKind) → rows.dims ≡ p.dims → constraints rows ≡ p.rows → by_generators.dims ≡ p.dims →
     generators by_generators ≡ p.generators → FitKinds by_generators.rows by_generators.kinds → IsPolyhedron p → KeepsLimit p →
     AreKept rows by_generators (saturation_of (constraints rows) (generators by_generators))
 taken_over p rows by_generators ed er eh eg fit canonical limit =

@@ -7,7 +7,7 @@ use Rattle.lra_linear_spec.specs.OperationStrain.{FromRowsStrains, with_positivi
 use Rattle.lra_linear_spec.specs.Polyhedra.{Polyhedron, positivity}
 use Rattle.lra_linear_spec.specs.Strain.{Loss}
 use Rattle.lra_linear_spec.proofs.Membership.{contains_head}
-use Rattle.lra_sys.specs.FirstPlaces.{FirstAt}
+use Rattle.lra_systems.specs.FirstPlaces.{FirstAt}
 use Rattle.lra_duality.specs.Inclusions.{IsInclusion, Meets, MeetsAll, Passes, ViolatesFirst, Violates}
 use Rattle.lra_duality.specs.declared.inclusion.Inclusion.{Inclusion}
 use Rattle.lra_duality.specs.declared.inclusion.Inclusion.TheVariants.{Yes, No, Wide}

@@ -24,7 +24,7 @@ use Rattle.lra_pair.specs.Made.{IsMadeFor}
 use Rattle.lra_pair.specs.OwnLists.{IsPositive}
 use Rattle.lra_pair.proofs.OwnRows.{none_of}
 use Rattle.lra_linear_spec.specs.Kinds.{is_line}
-use Rattle.lra_sys.specs.Listed.{Listed, generators, given_by}
+use Rattle.lra_systems.specs.LinearSystems.{LinearSystem, generators, rows_by_kind}
 use Rattle.lra_linear_spec.specs.declared.GenKind.{GenKind}
 use Rattle.std.specs.Prelude.{◌↔◌, ◌==◌, IsTrue}
 
@@ -94,12 +94,13 @@ becomes_same n P Q s t p o same strains b = record {
 }
 
 -- ---- whether there is a generator
-given_none : {K : Type 0} (equal : K → Bool) (rows : List (List ℤ)) (kinds : List K) → kinds ≡ [] → given_by equal rows kinds ≡ []
+given_none : {K : Type 0} (equal : K → Bool) (rows : List (List ℤ)) (kinds : List K) → kinds ≡ [] → rows_by_kind equal rows kinds ≡ []
 given_none equal [] kinds e = refl
 given_none equal (r ∷ rows) [] e = refl
 given_none equal (r ∷ rows) (k ∷ kinds) e = cc
 
-none_given : {K : Type 0} (equal : K → Bool) (rows : List (List ℤ)) (kinds : List K) → length kinds ≡ length rows → given_by equal rows kinds ≡ [] → kinds ≡ []
+none_given : {K : Type 0} (equal : K → Bool) (rows : List (List ℤ)) (kinds : List K) → length kinds ≡ length rows → rows_by_kind equal rows kinds ≡ [] →
+    kinds ≡ []
 none_given equal [] [] n e = refl
 none_given equal [] (k ∷ kinds) n e = absurd (omega (arith, n))
 none_given equal (r ∷ rows) [] n e = refl
@@ -108,11 +109,11 @@ none_given equal (r ∷ rows) (k ∷ kinds) n e = cc
 none_counted : {A : Type 0} (xs : List A) (b : Bool) → b ≡ (length xs == 0) → IsTrue b ↔ (xs ≡ [])
 none_counted {A = A} xs b e = (λ t. none_of xs (length xs) b refl e t, λ h. e ∙ ap (λ (l : List A). length l == 0) h)
 
-pub emptiness : (p : Polyhedron) (list : Listed GenKind) (kinds : List GenKind) (b : Bool) → IsPolyhedron p → generators list ≡ p.generators → kinds ≡ list.kinds →
+pub emptiness : (p : Polyhedron) (list : LinearSystem GenKind) (kinds : List GenKind) (b : Bool) → IsPolyhedron p → generators list ≡ p.generators → kinds ≡ list.kinds →
     length kinds ≡ length list.rows → b ≡ (length kinds == 0) → IsTrue b ↔ IsEmptySet p.dims (Con p.rows)
 emptiness p list kinds b h e ek n is = let said = none_counted kinds b is in (
   λ t. empty_where_none p h (sym e ∙ given_none is_line list.rows list.kinds (sym ek ∙ said.0 t)),
-  λ s. said.1 (none_given is_line list.rows kinds n (ap (given_by is_line list.rows) ek ∙ e ∙ none_where_empty p h s)),
+  λ s. said.1 (none_given is_line list.rows kinds n (ap (rows_by_kind is_line list.rows) ek ∙ e ∙ none_where_empty p h s)),
 )
 
 -- ---- as the code tells it

@@ -6,7 +6,7 @@ use Rattle.lra_linear_spec.specs.Descriptions.{Con, rows_of}
 use Rattle.lra_linear_spec.specs.Points.{SameSet}
 use Rattle.lra_linear_spec.specs.Polyhedra.{IsPolyhedron, Polyhedron}
 use Rattle.lra_linear_spec.specs.declared.ConKind.{ConKind}
-use Rattle.lra_sys.specs.Listed.{Listed, constraints}
+use Rattle.lra_systems.specs.LinearSystems.{LinearSystem, constraints}
 use Rattle.lra_linear_spec.proofs.OneSpelling.{same_points_same_lists}
 use Rattle.lra_linear_spec.specs.Kinds.{is_equality}
 use Rattle.lra_pair.proofs.OwnRows.{rows_of_given}
@@ -15,7 +15,7 @@ use Rattle.lra_poly.specs.Equality.{polyhedron_Decides, polyhedron_eq}
 pub same_rows_same : (p q : Polyhedron) → IsPolyhedron p → IsPolyhedron q → q.dims ≡ p.dims → p.rows ≡ q.rows → p ≡ q
 same_rows_same p q h k d e = same_points_same_lists p q h k d (λ x i c. subst (λ l. Con l x) e c, λ x i c. subst (λ l. Con l x) (sym e) c)
 
-pub same_decides : (p q : Polyhedron) (one two : Listed ConKind) (b : Bool) → IsPolyhedron p → IsPolyhedron q → q.dims ≡ p.dims → constraints one ≡ p.rows → constraints two ≡ q.rows →
+pub same_decides : (p q : Polyhedron) (one two : LinearSystem ConKind) (b : Bool) → IsPolyhedron p → IsPolyhedron q → q.dims ≡ p.dims → constraints one ≡ p.rows → constraints two ≡ q.rows →
     IsTrue b ↔ (constraints one ≡ constraints two) → IsTrue b ↔ (p ≡ q)
 same_decides p q one two b h k d e f is = (
   λ t. same_rows_same p q h k d (sym e ∙ is.0 t ∙ f),
@@ -37,5 +37,5 @@ pub same_is_eq : (p q : Polyhedron) (b : Bool) → IsTrue b ↔ (p ≡ q) → b 
 same_is_eq p q b is = one_answer b (polyhedron_eq p q) is (polyhedron_Decides p q)
 
 -- the numbers of the list are those of the polyhedron's constraints
-pub rows_of_constraints : (p : Polyhedron) (list : Listed ConKind) → constraints list ≡ p.rows → length list.kinds ≡ length list.rows → list.rows ≡ rows_of p.rows
+pub rows_of_constraints : (p : Polyhedron) (list : LinearSystem ConKind) → constraints list ≡ p.rows → length list.kinds ≡ length list.rows → list.rows ≡ rows_of p.rows
 rows_of_constraints p list e l = sym (rows_of_given is_equality list.rows list.kinds (sym l)) ∙ ap rows_of e

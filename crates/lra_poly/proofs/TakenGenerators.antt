@@ -5,14 +5,14 @@ use Rattle.lra_linear_spec.specs.OperationStrain.{FromGeneratorsStrains, Generat
 use Rattle.lra_linear_spec.specs.Points.{IsWithin, PointSet, SameSet}
 use Rattle.lra_linear_spec.specs.Polyhedra.{Polyhedron}
 use Rattle.lra_linear_spec.specs.Strain.{Loss}
-use Rattle.lra_sys.specs.Listed.{Listed, generators}
+use Rattle.lra_systems.specs.LinearSystems.{LinearSystem, generators}
 use Rattle.lra_linear_spec.specs.declared.GenKind.{GenKind}
 use Rattle.lra_poly.specs.Outcomes.{Becomes, IsOfGenerators}
 use Rattle.lra_poly.specs.declared.outcome.Outcome.{Outcome}
 use Rattle.lra_poly.proofs.PolyLemmas.{becomes_same, result_strain}
 
 -- the list, which stands for these generators, gives the set
-pub record Takes (n : ℕ) (S : PointSet) (given : List LinearRow) (list : Listed GenKind) : Type 0 where
+pub record Takes (n : ℕ) (S : PointSet) (given : List LinearRow) (list : LinearSystem GenKind) : Type 0 where
   pub dimensions : list.dims ≡ n
   pub are : generators list ≡ given
   pub same : SameSet n S (Gen given)
@@ -23,7 +23,7 @@ taken_strain n S given loss same (inl a) = inl a
 taken_strain n S given loss same (inr b) = inr (result_strain n S (Gen given)
     (λ p. with_positivity n p.rows) loss same b)
 
-pub taken_becomes : (n : ℕ) (S : PointSet) (given : List LinearRow) (list : Listed GenKind) (strains : Loss → Type 0)
+pub taken_becomes : (n : ℕ) (S : PointSet) (given : List LinearRow) (list : LinearSystem GenKind) (strains : Loss → Type 0)
     (p : Polyhedron) (o : Outcome) → Takes n S given list →
     ((loss : Loss) → GeneratorsStrain n S given loss → strains loss) →
     IsOfGenerators list.dims (generators list) p o → Becomes n S strains p o
@@ -33,6 +33,6 @@ taken_becomes n S given list strains p o t says b =
     (subst (λ (l : List LinearRow). IsOfGenerators n l p o) t.are
     (subst (λ (d : ℕ). IsOfGenerators d (generators list) p o) t.dimensions b))
 
-pub taken_inside : (n : ℕ) (S : PointSet) (given : List LinearRow) (list : Listed GenKind) (P : PointSet) →
+pub taken_inside : (n : ℕ) (S : PointSet) (given : List LinearRow) (list : LinearSystem GenKind) (P : PointSet) →
     Takes n S given list → IsWithin n S P → IsWithin n (Gen (generators list)) P
 taken_inside n S given list P t h x i g = h x i (t.same.1 x i (subst (λ (l : List LinearRow). Gen l x) t.are g))

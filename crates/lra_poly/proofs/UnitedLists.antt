@@ -4,7 +4,7 @@ use Rattle.lra_linear_spec.specs.Descriptions.{LinearRow}
 use Rattle.lra_linear_spec.specs.Polyhedra.{Polyhedron}
 use Rattle.lra_linear_spec.specs.Strain.{Loss}
 use Rattle.lra_linear_spec.specs.declared.GenKind.{GenKind}
-use Rattle.lra_sys.specs.Listed.{Listed, generators}
+use Rattle.lra_systems.specs.LinearSystems.{LinearSystem, generators}
 use Rattle.lra_duality.specs.Onward.{MayTurn}
 use Rattle.lra_pair.specs.TakenPoints.{IsOfPoints}
 use Rattle.lra_pair.specs.TriedRows.{StrainsWhenTried}
@@ -43,7 +43,7 @@ unites_anew p made more o stops h = by_outcome o h
     by_outcome (Flagged loss) h = record { stops = stops; tried = h }
 
 -- of the list that stands for the generators of an operation
-pub tried_as : (n : ℕ) (given : List LinearRow) (list : Listed GenKind) (made : Polyhedron) (o : Outcome) → list.dims ≡ n → generators list ≡ given →
+pub tried_as : (n : ℕ) (given : List LinearRow) (list : LinearSystem GenKind) (made : Polyhedron) (o : Outcome) → list.dims ≡ n → generators list ≡ given →
     IfFlagged (λ _. AreTriedPoints list.dims (generators list) made o) o → IfFlagged (λ _. AreTriedPoints n given made o) o
 tried_as n given list made o ed eg h = subst (λ (l : List LinearRow). IfFlagged (λ _. AreTriedPoints n l made o) o) eg
     (subst (λ (d : ℕ). IfFlagged (λ _. AreTriedPoints d (generators list) made o) o) ed h)

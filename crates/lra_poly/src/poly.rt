@@ -9,8 +9,8 @@ ghost use Rattle.lra_linear_spec.specs.Points.{IsEmptySet, IsWithin, SameSet};
 ghost use Rattle.lra_linear_spec.specs.Polyhedra.{IsPolyhedron, IsPolyhedronOf};
 ghost use Rattle.lra_linear_spec.specs.SetOperations.{Meet, Union, Hull};
 ghost use Rattle.lra_linear_spec.specs.Vectors.{negated};
-ghost use Rattle.lra_sys.specs.Dimensions.{too_many_dimensions};
-ghost use Rattle.lra_sys.specs.Listed.{constraints, generators, FitKinds};
+ghost use Rattle.lra_systems.specs.Dimensions.{too_many_dimensions};
+ghost use Rattle.lra_systems.specs.LinearSystems.{constraints, generators, FitKinds};
 ghost use Rattle.lra_pair.specs.KeptRows.{IsOfSome};
 ghost use Rattle.lra_pair.specs.OwnLists.{IsPositive};
 ghost use Rattle.lra_pair.specs.TriedRows.{StrainsWhenTried};
@@ -20,7 +20,7 @@ ghost use Rattle.lra_poly.specs.Outcomes.{Becomes, IfFlagged, IsOfGenerators, Is
 ghost use Rattle.lra_poly.specs.Narrowed.{IsMetWith, IsNarrowed, IsSeenWithin, IsTried};
 ghost use Rattle.lra_poly.specs.United.{AreTriedPoints, StopsBehind, UnitesAnew};
 ghost use Rattle.lra_poly.specs.declared.outcome.Outcome.TheVariants.{Exact};
-ghost use Rattle.lra_lin.specs.Form.{form_row};
+ghost use Rattle.lra_linear_forms.specs.Form.{form_row};
 ghost use Rattle.lra_duality.specs.Rows.{test_row};
 ghost use Rattle.lra_duality.specs.Saturations.{saturation_of};
 
@@ -32,9 +32,9 @@ use lra_duality::{
     Inclusion, Maximum, cone_of, facet_cone, inclusion_of, join_generators, join_rows, list_test,
     maximum_of, saturation_matrix,
 };
-use lra_lin::{LinExpr, Test};
+use lra_linear_forms::{LinExpr, Test};
 use lra_pair::Pair;
-use lra_sys::{ConSys, GenSys, are_same};
+use lra_systems::{ConSys, GenSys, are_same};
 use std::alloc::{AllocError, Global};
 use std::marker::Model;
 
@@ -62,7 +62,7 @@ impl Model for Poly {
     ghost use Rattle.std.specs.Prelude.{◌≡◌};
     ghost use Rattle.lra_linear_spec.specs.Representable.{KeepsLimit};
     ghost use Rattle.lra_linear_spec.specs.Polyhedra.{Polyhedron, IsPolyhedron};
-    ghost use Rattle.lra_sys.specs.Listed.{constraints, generators, FitKinds};
+    ghost use Rattle.lra_systems.specs.LinearSystems.{constraints, generators, FitKinds};
     ghost use Rattle.lra_duality.specs.Saturations.{saturation_of};
 
     ghost Value = { Polyhedron };

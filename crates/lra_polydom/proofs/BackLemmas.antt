@@ -4,7 +4,7 @@ use Rattle.std.specs.Prelude.{slice_set}
 use Rattle.std.proofs.Math.ListN.{length-set}
 use Rattle.lra_domain.specs.Actions.{Leads, assign, test}
 use Rattle.lra_domain.specs.Backward.{GoesBack, MeetsBoth}
-use Rattle.lra_lin.specs.Form.{Form, form_row, form_value}
+use Rattle.lra_linear_forms.specs.Form.{Form, form_row, form_value}
 use Rattle.lra_linear_spec.specs.Descriptions.{Con}
 use Rattle.lra_linear_spec.specs.Representable.{IsRepresentable}
 use Rattle.lra_linear_spec.specs.OperationStrain.{AddTestStrains, MeetStrains, PreimageStrains}

@@ -3,7 +3,7 @@ use Rattle.std.proofs.Common.{◌≡◌, ◌⊎◌, ℤ, neg_ℤ, List, [], ◌�
 use Rattle.std.specs.List.{All, Contains}
 use Rattle.std.specs.Prelude.{option_map}
 use Rattle.std.proofs.lemmas.List.Elements.{All-contains}
-use Rattle.lra_lin.specs.Form.{Form, form_row}
+use Rattle.lra_linear_forms.specs.Form.{Form, form_row}
 use Rattle.lra_linear_spec.specs.CheckedArithmetic.{checked_product}
 use Rattle.lra_linear_spec.specs.Descriptions.{LinearRow, inequality}
 use Rattle.lra_linear_spec.specs.OperationStrain.{MaximiseStrains}

@@ -7,13 +7,13 @@ use Rattle.lra_linear_spec.specs.Polyhedra.{Polyhedron}
 use Rattle.lra_linear_spec.specs.Range.{InRange}
 use Rattle.lra_linear_spec.specs.declared.ConKind.{ConKind}
 use Rattle.lra_poly.proofs.FormedLemmas.{listed_in_range}
-use Rattle.lra_sys.specs.Listed.{Listed, constraints}
+use Rattle.lra_systems.specs.LinearSystems.{LinearSystem, constraints}
 use Rattle.lra_widen.proofs.WideningLemmas.{seen_columns}
 use Rattle.lra_polydom.specs.Content.{IsHeadFormed}
 use Rattle.lra_polydom.specs.Growth.{head}
 
 -- a formed polyhedron and a list of rows of its width make a formed head
-pub head_is_formed : (p : Polyhedron) (given : Listed ConKind) (rows : List (List ℤ)) → IsRepresentable p → given.dims ≡ p.dims →
+pub head_is_formed : (p : Polyhedron) (given : LinearSystem ConKind) (rows : List (List ℤ)) → IsRepresentable p → given.dims ≡ p.dims →
     rows ≡ given.rows → All (λ r. length r ≡ suc given.dims) rows → All (All InRange) rows →
     IsHeadFormed (head p (constraints given))
 head_is_formed p given rows fine d e widths in_range = (

@@ -12,7 +12,7 @@ use Rattle.lra_linear_spec.specs.declared.ConKind.TheVariants as con
 use Rattle.lra_linear_spec.specs.Points.{IsEmptySet}
 use Rattle.lra_linear_spec.specs.Polyhedra.{IsPolyhedron, IsPolyhedronOf, Polyhedron}
 use Rattle.lra_linear_spec.proofs.Descriptions.{con_none}
-use Rattle.lra_sys.specs.Listed.{Listed, constraints, given_by}
+use Rattle.lra_systems.specs.LinearSystems.{LinearSystem, constraints, rows_by_kind}
 use Rattle.lra_polydom.specs.Content.{PolyhedronHas, is_absurd, listed, polyhedron_parts}
 use Rattle.lra_polydom.specs.Meaning.{polyhedron_meaning}
 use Rattle.lra_polydom.specs.Covering.{empty_parts, parts_empty, store_point}
@@ -22,35 +22,36 @@ pub kind_back : (kind : ConKind) → constraint_kind (is_equality kind) ≡ kind
 kind_back con.Ge = refl
 kind_back con.Eq = refl
 
-rows_back : (rows : List (List ℤ)) (kinds : List ConKind) → length rows ≡ length kinds → rows_of (given_by is_equality rows kinds) ≡ rows
+rows_back : (rows : List (List ℤ)) (kinds : List ConKind) → length rows ≡ length kinds → rows_of (rows_by_kind is_equality rows kinds) ≡ rows
 rows_back [] kinds e = refl
 rows_back (r ∷ rows) [] e = let wrong : ⊥ = cc in absurd wrong
 rows_back (r ∷ rows) (k ∷ kinds) e = ap (λ l. r ∷ l) (rows_back rows kinds (omega (arith, e)))
 
-kinds_back : (rows : List (List ℤ)) (kinds : List ConKind) → length rows ≡ length kinds → map (λ (g : LinearRow). constraint_kind g.equal) (given_by is_equality rows kinds) ≡ kinds
+kinds_back : (rows : List (List ℤ)) (kinds : List ConKind) → length rows ≡ length kinds → map (λ (g : LinearRow). constraint_kind g.equal) (rows_by_kind is_equality rows kinds) ≡ kinds
 kinds_back [] [] e = refl
 kinds_back [] (k ∷ kinds) e = let wrong : ⊥ = cc in absurd wrong
 kinds_back (r ∷ rows) [] e = let wrong : ⊥ = cc in absurd wrong
 kinds_back (r ∷ rows) (k ∷ kinds) e =
-    ap (λ x. x ∷ map (λ (g : LinearRow). constraint_kind g.equal) (given_by is_equality rows kinds)) (kind_back k) ∙ ap (λ l. k ∷ l) (kinds_back rows kinds (omega (arith, e)))
+    ap (λ x. x ∷ map (λ (g : LinearRow). constraint_kind g.equal) (rows_by_kind is_equality rows kinds)) (kind_back k) ∙ ap (λ l. k ∷ l) (kinds_back rows kinds (omega (arith, e)))
 
-pub listed_back : (p : Polyhedron) (list : Listed ConKind) → list.dims ≡ p.dims → constraints list ≡ p.rows → length list.kinds ≡ length list.rows → list ≡ listed p
+pub listed_back : (p : Polyhedron) (list : LinearSystem ConKind) → list.dims ≡ p.dims → constraints list ≡ p.rows → length list.kinds ≡ length list.rows → list ≡ listed p
 listed_back p list d e n =
     whole list.dims p.dims list.rows (rows_of p.rows) list.kinds (map (λ (g : LinearRow). constraint_kind g.equal) p.rows) d
     (sym (rows_back list.rows list.kinds (sym n)) ∙ ap rows_of e)
     (sym (kinds_back list.rows list.kinds (sym n)) ∙ ap (map (λ (g : LinearRow). constraint_kind g.equal)) e)
   where
     whole : (a b : ℕ) (r s : List (List ℤ)) (k l : List ConKind) → a ≡ b → r ≡ s → k ≡ l →
-        (let x : Listed ConKind = record { dims = a; rows = r; kinds = k } in x) ≡ record { dims = b; rows = s; kinds = l }
+        (let x : LinearSystem ConKind = record { dims = a; rows = r; kinds = k } in x) ≡ record { dims = b; rows = s; kinds = l }
     whole a b r s k l e f g =
-        ap (λ (m : ℕ). let x : Listed ConKind = record { dims = m; rows = r; kinds = k } in x) e ∙
-        ap (λ (m : List (List ℤ)). let x : Listed ConKind = record { dims = b; rows = m; kinds = k } in x) f ∙
-        ap (λ (m : List ConKind). let x : Listed ConKind = record { dims = b; rows = s; kinds = m } in x) g
+        ap (λ (m : ℕ). let x : LinearSystem ConKind = record { dims = m; rows = r; kinds = k } in x) e ∙
+        ap (λ (m : List (List ℤ)). let x : LinearSystem ConKind = record { dims = b; rows = m; kinds = k } in x) f ∙
+        ap (λ (m : List ConKind). let x : LinearSystem ConKind = record { dims = b; rows = s; kinds = m } in x) g
 
 -- and its constraints are those
-constraints_back : (gs : List LinearRow) → given_by is_equality (rows_of gs) (map (λ (g : LinearRow). constraint_kind g.equal) gs) ≡ gs
+constraints_back : (gs : List LinearRow) → rows_by_kind is_equality (rows_of gs) (map (λ (g : LinearRow). constraint_kind g.equal) gs) ≡ gs
 constraints_back [] = refl
-constraints_back (g ∷ gs) = ap (λ (b : Bool). (let y : LinearRow = record { row = g.row; equal = b } in y) ∷ given_by is_equality (rows_of gs) (map (λ (x : LinearRow). constraint_kind x.equal) gs))
+constraints_back (g ∷ gs) =
+    ap (λ (b : Bool). (let y : LinearRow = record { row = g.row; equal = b } in y) ∷ rows_by_kind is_equality (rows_of gs) (map (λ (x : LinearRow). constraint_kind x.equal) gs))
     (equal_back g.equal) ∙
     ap (λ l. g ∷ l) (constraints_back gs)
   where
@@ -65,7 +66,7 @@ parts_where_empty p b h is = (λ t. empty_parts p h (is.0 t), λ e. is.1 (parts_
 pub empty_none : (p : Polyhedron) (b : Bool) → IsTrue b ↔ IsEmptySet p.dims (Con p.rows) → IsTrue b → (s : List ℤ) → ¬ PolyhedronHas p s
 empty_none p b is t s h = is.0 t (pos 1 ∷ s) (store_point p.dims s h.0) h.1
 
-pub some_parts : (p : Polyhedron) (b : Bool) (list : Listed ConKind) → IsTrue b ↔ IsEmptySet p.dims (Con p.rows) → b ≡ false → list.dims ≡ p.dims → constraints list ≡ p.rows →
+pub some_parts : (p : Polyhedron) (b : Bool) (list : LinearSystem ConKind) → IsTrue b ↔ IsEmptySet p.dims (Con p.rows) → b ≡ false → list.dims ≡ p.dims → constraints list ≡ p.rows →
     length list.kinds ≡ length list.rows → list ∷ [] ≡ polyhedron_parts p
 some_parts p b list is none d e n = by_value (list_any is_absurd p.rows) refl
   where
@@ -90,12 +91,12 @@ parts_mean p s long = by_value (list_any is_absurd p.rows) refl
       λ h. absurd h,
     )
 
-pub parts_dims : (p : Polyhedron) → All (λ (l : Listed ConKind). l.dims ≡ p.dims) (polyhedron_parts p)
+pub parts_dims : (p : Polyhedron) → All (λ (l : LinearSystem ConKind). l.dims ≡ p.dims) (polyhedron_parts p)
 parts_dims p = by_value (list_any is_absurd p.rows)
   where
-    by_value : (a : Bool) → All (λ (l : Listed ConKind). l.dims ≡ p.dims) (cond a [] (listed p ∷ []))
-    by_value false = All-cons (λ (l : Listed ConKind). l.dims ≡ p.dims) (listed p) [] refl (All-nil (λ (l : Listed ConKind). l.dims ≡ p.dims))
-    by_value true = All-nil (λ (l : Listed ConKind). l.dims ≡ p.dims)
+    by_value : (a : Bool) → All (λ (l : LinearSystem ConKind). l.dims ≡ p.dims) (cond a [] (listed p ∷ []))
+    by_value false = All-cons (λ (l : LinearSystem ConKind). l.dims ≡ p.dims) (listed p) [] refl (All-nil (λ (l : LinearSystem ConKind). l.dims ≡ p.dims))
+    by_value true = All-nil (λ (l : LinearSystem ConKind). l.dims ≡ p.dims)
 
 -- ---- all stores, and none
 pub universe_stores : (n : ℕ) (p : Polyhedron) → IsPolyhedronOf n (Con []) p → (s : List ℤ) → PolyhedronHas p s ↔ (length s ≡ n)

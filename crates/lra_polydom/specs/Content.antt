@@ -13,7 +13,7 @@ use Rattle.lra_linear_spec.specs.Points.{IsWithin}
 use Rattle.lra_linear_spec.specs.Polyhedra.{Polyhedron}
 use Rattle.lra_linear_spec.specs.Range.{InRange}
 use Rattle.lra_linear_spec.specs.declared.ConKind.{ConKind}
-use Rattle.lra_sys.specs.Listed.{Listed}
+use Rattle.lra_systems.specs.LinearSystems.{LinearSystem}
 
 -- what a loop's head holds: the polyhedron that was reached, and the given rows that no growth has struck
 pub record HeadContent : Type 0 where
@@ -39,11 +39,11 @@ abbrev pub is_absurd : LinearRow → Bool
 is_absurd r = not r.equal && is_negative r.row
 
 -- the constraints as a list of rows with their kinds
-abbrev pub listed : Polyhedron → Listed ConKind
+abbrev pub listed : Polyhedron → LinearSystem ConKind
 listed p = record { dims = p.dims; rows = rows_of p.rows; kinds = map (λ r. constraint_kind r.equal) p.rows }
 
 -- the constraints are the one part; none where one of them holds at no point, as in a polyhedron without a point
-abbrev pub polyhedron_parts : Polyhedron → List (Listed ConKind)
+abbrev pub polyhedron_parts : Polyhedron → List (LinearSystem ConKind)
 polyhedron_parts p = cond (list_any is_absurd p.rows) [] (listed p ∷ [])
 
 -- ---- covering

@@ -2,7 +2,7 @@
 use Rattle.std.proofs.Common.{◌≡◌, ◌∙◌, ◌≤◌, ℕ, suc, ℤ, pos, List, [], ◌∷◌, length, ap, sym, refl, subst, arith}
 use Rattle.lra_domain.specs.Actions.{Action, Leads, Within, assign, dims_after, embed, forget, remove_last, test}
 use Rattle.lra_domain.specs.Backward.{SingleRetracing}
-use Rattle.lra_lin.specs.Form.{form_row}
+use Rattle.lra_linear_forms.specs.Form.{form_row}
 use Rattle.lra_linear_spec.specs.SetOperations.{Meet, Preimage}
 use Rattle.lra_domain.specs.Laws.{Laws, PlainLaws, SingleLaws}
 use Rattle.lra_domain.specs.declared.Mode.{Mode}

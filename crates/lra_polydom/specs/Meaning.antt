@@ -8,7 +8,7 @@ use Rattle.lra_linear_spec.specs.OperationStrain.{HullStrains, InclusionStrains}
 use Rattle.lra_linear_spec.specs.Points.{IsEmptySet}
 use Rattle.lra_linear_spec.specs.Polyhedra.{IsPolyhedron, IsPolyhedronOf, Polyhedron}
 use Rattle.lra_linear_spec.specs.Strain.{Loss}
-use Rattle.lra_sys.specs.Listed.{constraints}
+use Rattle.lra_systems.specs.LinearSystems.{constraints}
 use Rattle.lra_polydom.specs.Bounded.{PolyhedronBounded}
 use Rattle.lra_polydom.specs.Content.{Answers, Covered, HeadContent, IsHeadFormed, PolyhedronHas, polyhedron_parts}
 use Rattle.lra_polydom.specs.Heads.{GrowthStrains, IsGivenUp, IsGrown, IsLeft, head_rank}

@@ -5,7 +5,7 @@ use Rattle.std.proofs.Math.ListN.{length-set}
 use Rattle.std.proofs.lemmas.List.{length-append}
 use Rattle.std.specs.Prelude.{slice_set}
 use Rattle.lra_domain.specs.Actions.{ActionFits, Action, Leads, assign, dims_after, embed, forget, remove_last, test}
-use Rattle.lra_lin.specs.Form.{Form, KindHolds, form_value, form_row}
+use Rattle.lra_linear_forms.specs.Form.{Form, KindHolds, form_value, form_row}
 use Rattle.lra_linear_spec.specs.Descriptions.{Con, Holds, HoldsWith}
 use Rattle.lra_linear_spec.specs.Kinds.{is_equality}
 use Rattle.lra_linear_spec.specs.declared.ConKind.{ConKind}

@@ -8,7 +8,7 @@ use Rattle.std.specs.declared.cmp.Ordering.{Ordering}
 use Rattle.std.specs.declared.cmp.Ordering.TheVariants.{Equal}
 use Rattle.std.proofs.lemmas.Int.{ints}
 use Rattle.lra_domain.specs.Bounds.{IsLowerBound, IsBetween, IsUpperBound}
-use Rattle.lra_lin.specs.Form.{Form, form_row, form_value}
+use Rattle.lra_linear_forms.specs.Form.{Form, form_row, form_value}
 use Rattle.lra_linear_spec.specs.Descriptions.{Con}
 use Rattle.lra_linear_spec.specs.Points.{IsEmptySet}
 use Rattle.lra_linear_spec.specs.Polyhedra.{Polyhedron}

@@ -8,7 +8,7 @@ use Rattle.lra_linear_spec.specs.Points.{IsWithin, PointSet}
 use Rattle.lra_linear_spec.specs.Polyhedra.{IsPolyhedronOf, Polyhedron}
 use Rattle.lra_linear_spec.specs.SetOperations.{Embed, Forget, Hull, Image, Meet, RemoveLast, Union}
 use Rattle.lra_linear_spec.specs.Strain.{Loss}
-use Rattle.lra_lin.specs.Form.{form_row}
+use Rattle.lra_linear_forms.specs.Form.{form_row}
 use Rattle.lra_duality.specs.Rows.{test_row}
 
 -- the points to which the change leads; dimension x is column x + 1

@@ -6,14 +6,14 @@ ghost use Rattle.lra_domain.specs.declared.Mode.TheVariants.{Join};
 ghost use Rattle.lra_linear_spec.specs.Descriptions.{Con};
 ghost use Rattle.lra_linear_spec.specs.Polyhedra.{IsPolyhedronOf};
 ghost use Rattle.lra_widen.specs.Rank.{kept};
-ghost use Rattle.lra_sys.specs.Listed.{constraints};
+ghost use Rattle.lra_systems.specs.LinearSystems.{constraints};
 ghost use Rattle.lra_polydom.specs.Growth.{HasGrown, IsStruck, head, takes_given};
 
 use crate::lists::some_passes;
 use crate::widening::{join_values, widen_value};
 use lra_domain::{Exactness, Mode};
 use lra_poly::Poly;
-use lra_sys::{ConSys, TOO_MANY_DIMENSIONS};
+use lra_systems::{ConSys, TOO_MANY_DIMENSIONS};
 use lra_widen::held_on_both;
 use std::alloc::{AllocError, Global};
 

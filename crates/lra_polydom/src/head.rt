@@ -7,7 +7,7 @@ ghost use Rattle.lra_domain.specs.Meaning.{Grew};
 ghost use Rattle.lra_domain.specs.Rank.{RankBelow, RankFits};
 ghost use Rattle.lra_linear_spec.specs.declared.Excess as E;
 ghost use Rattle.lra_linear_spec.specs.OperationStrain.{InclusionStrains};
-ghost use Rattle.lra_sys.specs.Listed.{constraints};
+ghost use Rattle.lra_systems.specs.LinearSystems.{constraints};
 ghost use Rattle.lra_polydom.specs.Content.{Covered, IsHeadFormed};
 ghost use Rattle.lra_polydom.specs.Growth.{head};
 ghost use Rattle.lra_polydom.specs.Heads.{head_rank};
@@ -16,7 +16,7 @@ ghost use Rattle.lra_polydom.specs.Meaning.{polyhedron_meaning};
 use crate::growth::{give_up, grow_value};
 use lra_domain::{Exactness, Mode, Rank};
 use lra_poly::Poly;
-use lra_sys::ConSys;
+use lra_systems::ConSys;
 use lra_widen::rank;
 use std::alloc::{AllocError, Global};
 use std::marker::Model;
@@ -41,7 +41,7 @@ impl Drop for PolyhedronHead {
 impl Model for PolyhedronHead {
     ghost use Rattle.std.specs.Prelude.{◌≡◌};
     ghost use Rattle.lra_domain.specs.Rank.{RankFits};
-    ghost use Rattle.lra_sys.specs.Listed.{constraints};
+    ghost use Rattle.lra_systems.specs.LinearSystems.{constraints};
     ghost use Rattle.lra_polydom.specs.Content.{HeadContent};
     ghost use Rattle.lra_polydom.specs.Heads.{head_rank};
 

@@ -2,11 +2,11 @@
 
 ghost use Rattle.std.specs.Prelude.{◌≡◌, suc, length};
 ghost use Rattle.std.specs.List.{All, list_any};
-ghost use Rattle.lra_sys.specs.Listed.{constraints, generators};
+ghost use Rattle.lra_systems.specs.LinearSystems.{constraints, generators};
 ghost use Rattle.lra_polydom.specs.Growth.{product_passes, row_passes, some_passes};
 
 use lra_row::Row;
-use lra_sys::{ConSys, GenSys};
+use lra_systems::{ConSys, GenSys};
 
 // Whether the product of two rows passes the range.
 fn passes(row: &Row, generator: &Row) -> bool

@@ -6,17 +6,17 @@ ghost use Rattle.lra_domain.specs.Parts.{CapsWithin};
 ghost use Rattle.lra_domain.specs.Rank.{RankBelow, RankFits};
 ghost use Rattle.lra_linear_spec.specs.Representable.{IsRepresentable};
 ghost use Rattle.lra_linear_spec.specs.Polyhedra.{IsPolyhedron};
-ghost use Rattle.lra_sys.specs.Listed.{constraints, generators, FitKinds};
+ghost use Rattle.lra_systems.specs.LinearSystems.{constraints, generators, FitKinds};
 ghost use Rattle.lra_polydom.specs.Meaning.{polyhedron_meaning};
 
 use crate::head::PolyhedronHead;
 use crate::outcomes::{exactness_of, included, opposite_of, rounded_down};
 use lra_domain::{Backward, Domain, Exactness, Grown, Included, Mode, Plain, Rank, Told};
 use lra_images::{forget, image, preimage};
-use lra_lin::{LinExpr, Test};
+use lra_linear_forms::{LinExpr, Test};
 use lra_maps::{embed, remove_last};
 use lra_poly::Poly;
-use lra_sys::{ConSys, GenSys};
+use lra_systems::{ConSys, GenSys};
 use std::alloc::{AllocError, Global};
 use std::marker::Model;
 

@@ -4,13 +4,13 @@ ghost use Rattle.std.specs.Prelude.{◌≡◌, ◌≢◌, IfOk};
 ghost use Rattle.lra_domain.specs.declared.Mode.TheVariants.{Join, Widen, Limited, Tightest};
 ghost use Rattle.lra_linear_spec.specs.Descriptions.{Con};
 ghost use Rattle.lra_linear_spec.specs.Points.{IsWithin};
-ghost use Rattle.lra_sys.specs.Listed.{constraints};
+ghost use Rattle.lra_systems.specs.LinearSystems.{constraints};
 ghost use Rattle.lra_polydom.specs.Growth.{IsJoined, IsWidening};
 
 use crate::outcomes::exactness_of;
 use lra_domain::{Exactness, Mode};
 use lra_poly::Poly;
-use lra_sys::ConSys;
+use lra_systems::ConSys;
 use lra_widen::{WidenError, limited, limited_by_tightest, standard};
 use std::alloc::{AllocError, Global};
 

@@ -4,7 +4,7 @@ use Rattle.std.proofs.Common.{subst, inl, inr, ◌⊎◌, arith, ℤ, pos, negsu
 use Rattle.std.proofs.Common.{Some, replicate, length-append, true≢false}
 use Rattle.std.specs.List.{All, Contains}
 use Rattle.std.proofs.lemmas.Int.{ints}
-use Rattle.lra_lin.specs.Form.{Form, form_row}
+use Rattle.lra_linear_forms.specs.Form.{Form, form_row}
 use Rattle.lra_linear_spec.specs.declared.Excess.{Excess}
 use Rattle.lra_linear_spec.specs.CheckedArithmetic.{checked_product, checked_product_from}
 use Rattle.lra_linear_spec.specs.Descriptions.{LinearRow, inequality}

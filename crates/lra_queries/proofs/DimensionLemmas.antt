@@ -26,7 +26,7 @@ use Rattle.lra_linear_spec.proofs.Products.{dot_minus, entry_negated, entry_past
 use Rattle.lra_linear_spec.proofs.SetOperations.{has_vertex, valid_on_rows}
 use Rattle.lra_linear_spec.proofs.Signs.{between_opposites, not_both, opposite_of_zero, times_positive, zero_at_least}
 use Rattle.lra_duality.proofs.PolyhedronLemmas.{given_width, with_point}
-use Rattle.lra_sys.specs.Listed.{Listed, constraints, given_by}
+use Rattle.lra_systems.specs.LinearSystems.{LinearSystem, constraints, rows_by_kind}
 use Rattle.lra_queries.specs.Shapes.{AffineDimension}
 
 -- ---- an echelon form none of whose rows leads in column 0 has fewer rows than columns
@@ -133,7 +133,7 @@ valid_spanned p h c s x i k =
 
 -- ---- as the code tells it
 prefix_of : (rows : List (List ℤ)) (kinds : List ConKind) (es is : List (List ℤ)) →
-    given_by is_equality rows kinds ≡ rows_as true es ++ rows_as false is → length kinds ≡ length rows →
+    rows_by_kind is_equality rows kinds ≡ rows_as true es ++ rows_as false is → length kinds ≡ length rows →
     prefix_len is_equality kinds ≡ length es
 prefix_of [] [] [] is e n = refl
 prefix_of [] [] (c ∷ es) is e n = cc
@@ -168,19 +168,19 @@ record Counted (p : Polyhedron) (n : ℕ) : Type 0 where
   point : HasPoint p
   is : n ≡ length point.equalities
 
-counted : (p : Polyhedron) (list : Listed ConKind) (kinds : List ConKind) (n : ℕ) → HasPoint p →
+counted : (p : Polyhedron) (list : LinearSystem ConKind) (kinds : List ConKind) (n : ℕ) → HasPoint p →
     constraints list ≡ p.rows → kinds ≡ list.kinds → length kinds ≡ length list.rows →
     n ≡ prefix_len is_equality kinds → Counted p n
 counted p list kinds n h e ek l is = record {
   point = h;
   is = is ∙ prefix_of list.rows kinds h.equalities h.inequalities
-      (ap (given_by is_equality list.rows) ek ∙ e ∙ h.rows_are) l;
+      (ap (rows_by_kind is_equality list.rows) ek ∙ e ∙ h.rows_are) l;
 }
 
 some_point : (p : Polyhedron) (h : HasPoint p) → ¬ (length h.equalities ≤ p.dims) → IsEmptySet p.dims (Con p.rows)
 some_point p h n x i c = n (few_equalities p h x i c)
 
-pub at_most_dims : (p : Polyhedron) (list : Listed ConKind) (kinds : List ConKind) (n : ℕ) → IsPolyhedron p →
+pub at_most_dims : (p : Polyhedron) (list : LinearSystem ConKind) (kinds : List ConKind) (n : ℕ) → IsPolyhedron p →
     ¬ (IsEmptySet p.dims (Con p.rows)) → constraints list ≡ p.rows → kinds ≡ list.kinds →
     length kinds ≡ length list.rows → n ≡ prefix_len is_equality kinds → n ≤ p.dims
 at_most_dims p list kinds n h some e ek l is =
@@ -190,7 +190,7 @@ at_most_dims p list kinds n h some e ek l is =
       | inr few ↦ few
     ]
 
-pub dimension_told : (p : Polyhedron) (list : Listed ConKind) (kinds : List ConKind) (n d : ℕ) → IsPolyhedron p →
+pub dimension_told : (p : Polyhedron) (list : LinearSystem ConKind) (kinds : List ConKind) (n d : ℕ) → IsPolyhedron p →
     ¬ (IsEmptySet p.dims (Con p.rows)) → constraints list ≡ p.rows → kinds ≡ list.kinds →
     length kinds ≡ length list.rows → n ≡ prefix_len is_equality kinds → d ≡ p.dims - n → AffineDimension p d
 dimension_told p list kinds n d h some e ek l is ed =

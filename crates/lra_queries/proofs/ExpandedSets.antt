@@ -10,7 +10,7 @@ use Rattle.lra_linear_spec.specs.declared.ConKind.{ConKind}
 use Rattle.lra_linear_spec.proofs.Products.{entry_past}
 use Rattle.lra_linear_spec.proofs.Ring.{ring, v, ◌⊕◌, ◌⊗◌}
 use Rattle.lra_linear_spec.proofs.SetOperations.{meet_con, product_set}
-use Rattle.lra_sys.specs.Listed.{Listed, constraints, given_by}
+use Rattle.lra_systems.specs.LinearSystems.{LinearSystem, constraints, rows_by_kind}
 use Rattle.lra_linear_spec.specs.Kinds.{is_equality}
 use Rattle.lra_queries.specs.Expanded.{Expanded, expanded}
 use Rattle.lra_queries.specs.Joined.{counted}
@@ -135,7 +135,7 @@ twin_length n k dims more ed em =
     added [] = refl
     added (x ∷ l) = let e = added l in omega (arith, e)
 
-pub expanded_takes : (p : Polyhedron) (start own all ps qs : Listed ConKind) (first twin kept : List ℕ) (n k : ℕ) →
+pub expanded_takes : (p : Polyhedron) (start own all ps qs : LinearSystem ConKind) (first twin kept : List ℕ) (n k : ℕ) →
     IsPolyhedron p → k < p.dims → n ≡ p.dims → start.rows ≡ [] → start.dims ≡ n + 1 → own.dims ≡ start.dims →
     all.dims ≡ own.dims → first ≡ counted (n + 1) 0 → kept ≡ replaced n k → twin ≡ kept ++ k ∷ [] →
     constraints ps ≡ p.rows → constraints qs ≡ p.rows →
@@ -146,7 +146,7 @@ expanded_takes p start own all ps qs first twin kept n k hp less en er ed eo ea 
   dimensions = ea ∙ eo ∙ ed ∙ ap (λ (d : ℕ). d + 1) en;
   are = ga
       ∙ ap (λ (l : List LinearRow). l ++ moved twin (constraints qs))
-      (go ∙ ap (λ (l : List (List ℤ)). given_by is_equality l start.kinds ++ moved first (constraints ps)) er)
+      (go ∙ ap (λ (l : List (List ℤ)). rows_by_kind is_equality l start.kinds ++ moved first (constraints ps)) er)
       ∙ ap (λ (f : List ℕ). moved f (constraints ps) ++ moved twin (constraints qs))
       (ef ∙ ap (λ (d : ℕ). counted (d + 1) 0) en)
       ∙ ap (λ (f : List ℕ). moved (counted (p.dims + 1) 0) (constraints ps) ++ moved f (constraints qs))

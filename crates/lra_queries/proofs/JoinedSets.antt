@@ -15,8 +15,8 @@ use Rattle.lra_linear_spec.proofs.Products.{dot_same, entry_past}
 use Rattle.lra_linear_spec.proofs.Ring.{ring, v, ◌⊕◌, ◌⊗◌}
 use Rattle.lra_linear_spec.proofs.SetOperations.{meet_con}
 use Rattle.lra_duality.proofs.PolyhedronLemmas.{rows_width}
-use Rattle.lra_sys.specs.Listed.{Listed, constraints, given_by}
-use Rattle.lra_sys.proofs.GivenRows.{constraints_pushed, given_more}
+use Rattle.lra_systems.specs.LinearSystems.{LinearSystem, constraints, rows_by_kind}
+use Rattle.lra_systems.proofs.LinearRows.{constraints_pushed, given_more}
 use Rattle.lra_queries.specs.Joined.{Concatenated, concatenated, counted}
 use Rattle.lra_queries.specs.Moved.{chosen, moved}
 use Rattle.lra_queries.proofs.TakenRows.{TakesRows}
@@ -140,14 +140,14 @@ concatenated_rows p q hp hq =
 
 -- ---- one constraint more
 pub one_moved : (base : List LinearRow) (dims : List ℕ) (rows : List (List ℤ)) (kinds : List ConKind) (i : ℕ) (r : List ℤ)
-    (d : ConKind) (old new : Listed ConKind) (t : List ℤ) → length kinds ≡ length rows → i < length rows →
+    (d : ConKind) (old new : LinearSystem ConKind) (t : List ℤ) → length kinds ≡ length rows → i < length rows →
     r ≡ get_or rows i r → length old.kinds ≡ length old.rows → new.rows ≡ old.rows ++ t ∷ [] →
     new.kinds ≡ old.kinds ++ get_or kinds i d ∷ [] → t ≡ chosen dims r →
-    constraints old ≡ base ++ moved dims (given_by is_equality (take i rows) (take i kinds)) →
-    constraints new ≡ base ++ moved dims (given_by is_equality (take (i + 1) rows) (take (i + 1) kinds))
+    constraints old ≡ base ++ moved dims (rows_by_kind is_equality (take i rows) (take i kinds)) →
+    constraints new ≡ base ++ moved dims (rows_by_kind is_equality (take (i + 1) rows) (take (i + 1) kinds))
 one_moved base dims rows kinds i r d old new t c h er m nr nk et eo =
     let equal = is_equality (get_or kinds i d) in
-    let front = given_by is_equality (take i rows) (take i kinds) in
+    let front = rows_by_kind is_equality (take i rows) (take i kinds) in
     constraints_pushed old new t (get_or kinds i d) m nr nk
     ∙ ap (λ (l : List LinearRow). l ++ (let g : LinearRow = record { row = t; equal = equal } in g) ∷ []) eo
     ∙ append_assoc base (moved dims front) (record { row = t; equal = equal } ∷ [])
@@ -157,15 +157,15 @@ one_moved base dims rows kinds i r d old new t c h er m nr nk et eo =
     (sym (given_more is_equality rows kinds i r (get_or kinds i d) (sym c) h er
     (get_or_default kinds i d (get_or kinds i d) (omega (arith, h, c)))))
 
-pub all_moved : (base : List LinearRow) (dims : List ℕ) (list all : Listed ConKind) (rows : List (List ℤ))
+pub all_moved : (base : List LinearRow) (dims : List ℕ) (list all : LinearSystem ConKind) (rows : List (List ℤ))
     (kinds : List ConKind) (i : ℕ) → rows ≡ list.rows → kinds ≡ list.kinds → length kinds ≡ length list.rows →
-    length rows ≤ i → constraints all ≡ base ++ moved dims (given_by is_equality (take i rows) (take i kinds)) →
+    length rows ≤ i → constraints all ≡ base ++ moved dims (rows_by_kind is_equality (take i rows) (take i kinds)) →
     constraints all ≡ base ++ moved dims (constraints list)
 all_moved base dims list all rows kinds i er ek c h e =
     let s = ap length er in
     e ∙ ap (λ (l : List LinearRow). base ++ moved dims l)
-    (ap (λ (l : List (List ℤ)). given_by is_equality l (take i kinds)) (take_all i rows h ∙ er)
-    ∙ ap (given_by is_equality list.rows) (take_all i kinds (omega (arith, h, c, s)) ∙ ek))
+    (ap (λ (l : List (List ℤ)). rows_by_kind is_equality l (take i kinds)) (take_all i rows h ∙ er)
+    ∙ ap (rows_by_kind is_equality list.rows) (take_all i kinds (omega (arith, h, c, s)) ∙ ek))
 
 -- ---- dimensions in turn
 pub counted_length : (k s : ℕ) → length (counted k s) ≡ k
@@ -202,7 +202,7 @@ behind_length n d m dims e =
     omega (arith, s, r, t)
 
 -- ---- as the code tells it
-pub joined_takes : (p q : Polyhedron) (start own all ps qs : Listed ConKind) (first last : List ℕ) (n m : ℕ) →
+pub joined_takes : (p q : Polyhedron) (start own all ps qs : LinearSystem ConKind) (first last : List ℕ) (n m : ℕ) →
     IsPolyhedron p → IsPolyhedron q → n ≡ p.dims → m ≡ q.dims → start.rows ≡ [] → start.dims ≡ n + m →
     own.dims ≡ start.dims → all.dims ≡ own.dims → first ≡ replicate 0 0 ++ counted (n + m) 0 →
     last ≡ replicate n m ++ counted m 0 → constraints ps ≡ p.rows → constraints qs ≡ q.rows →
@@ -213,7 +213,7 @@ joined_takes p q start own all ps qs first last n m hp hq en em er ed eo ea ef e
   dimensions = ea ∙ eo ∙ ed ∙ ap (λ (k : ℕ). k + m) en ∙ ap (λ (k : ℕ). p.dims + k) em;
   are = ga
       ∙ ap (λ (l : List LinearRow). l ++ moved last (constraints qs))
-      (go ∙ ap (λ (l : List (List ℤ)). given_by is_equality l start.kinds ++ moved first (constraints ps)) er)
+      (go ∙ ap (λ (l : List (List ℤ)). rows_by_kind is_equality l start.kinds ++ moved first (constraints ps)) er)
       ∙ ap (λ (f : List ℕ). moved f (constraints ps) ++ moved last (constraints qs))
       (ef ∙ ap (λ (k : ℕ). counted (k + m) 0) en ∙ ap (λ (k : ℕ). counted (p.dims + k) 0) em)
       ∙ ap (λ (f : List ℕ). moved (counted (p.dims + q.dims) 0) (constraints ps) ++ moved f (constraints qs))

@@ -14,8 +14,8 @@ use Rattle.lra_linear_spec.specs.Vectors.{entry, negated, product}
 use Rattle.lra_linear_spec.specs.Widening.{holds_with}
 use Rattle.lra_linear_spec.proofs.Membership.{all_from, contains_head}
 use Rattle.lra_linear_spec.proofs.Products.{negated_dot}
-use Rattle.lra_sys.specs.Listed.{given_by}
-use Rattle.lra_sys.proofs.FirstMembers.{front, given_more, given_split, member}
+use Rattle.lra_systems.specs.LinearSystems.{rows_by_kind}
+use Rattle.lra_systems.proofs.FirstMembers.{front, given_more, given_split, member}
 use Rattle.lra_queries.specs.declared.relation.Missed.{Missed}
 use Rattle.lra_queries.specs.Relations.{AreMissed, MissesAt, MissesZero, StaysAbove, StaysBelow}
 
@@ -83,15 +83,15 @@ missed_first form rows kinds m b z a = record {
 
 -- ---- all of them
 pub gone_through : (P : List LinearRow → Type 0) (rows : List (List ℤ)) (kinds : List GenKind) (i : ℕ) →
-    length kinds ≡ length rows → length rows ≤ i → P (front is_line rows kinds i) → P (given_by is_line rows kinds)
+    length kinds ≡ length rows → length rows ≤ i → P (front is_line rows kinds i) → P (rows_by_kind is_line rows kinds)
 gone_through P rows kinds i n h p =
-    subst (λ (ks : List GenKind). P (given_by is_line rows ks)) (take_all i kinds (omega (arith, n, h)))
-    (subst (λ (rs : List (List ℤ)). P (given_by is_line rs (take i kinds))) (take_all i rows h) p)
+    subst (λ (ks : List GenKind). P (rows_by_kind is_line rows ks)) (take_all i kinds (omega (arith, n, h)))
+    (subst (λ (rs : List (List ℤ)). P (rows_by_kind is_line rs (take i kinds))) (take_all i rows h) p)
 
 -- ---- a product that passes
 pub one_passes : (form : List ℤ) (rows : List (List ℤ)) (kinds : List GenKind) (i : ℕ) (r : List ℤ) (k : GenKind)
     (e : E.Excess) → length kinds ≡ length rows → i < length rows → r ≡ get_or rows i r →
-    checked_product form r ≡ Err e → ProductsPass (inequality form ∷ []) (given_by is_line rows kinds) e
+    checked_product form r ≡ Err e → ProductsPass (inequality form ∷ []) (rows_by_kind is_line rows kinds) e
 one_passes form rows kinds i r k e n h at passes = record {
   row = inequality form;
   has_row = contains_head (inequality form) [];

@@ -11,7 +11,7 @@ use Rattle.lra_linear_spec.specs.declared.GenKind.{GenKind}
 use Rattle.lra_linear_spec.proofs.Polyhedra.{con_gen}
 use Rattle.lra_linear_spec.proofs.Products.{entry_negated}
 use Rattle.lra_linear_spec.proofs.Ring.{ring, v, ◌⊕◌, ◌⊗◌}
-use Rattle.lra_sys.specs.Listed.{Listed, generators}
+use Rattle.lra_systems.specs.LinearSystems.{LinearSystem, generators}
 use Rattle.lra_lists.proofs.MappedSets.{IsMapOf, mapped_from, mapped_in, widths_of}
 use Rattle.lra_lists.proofs.Sums.{IsLinear}
 use Rattle.lra_poly.proofs.TakenGenerators.{Takes}
@@ -106,7 +106,7 @@ moved_generators p dims h = (
       },
 )
 
-pub moved_takes : (p : Polyhedron) (list all : Listed GenKind) (dims : List ℕ) → IsPolyhedron p →
+pub moved_takes : (p : Polyhedron) (list all : LinearSystem GenKind) (dims : List ℕ) → IsPolyhedron p →
     generators list ≡ p.generators → all.dims ≡ length dims → generators all ≡ moved dims (generators list) →
     Takes (length dims) (Moved p.dims dims (Con p.rows)) (moved dims p.generators) all
 moved_takes p list all dims h eg ed ea = record {

@@ -13,8 +13,8 @@ use Rattle.lra_poly.proofs.PolyLemmas.{same_polyhedron}
 use Rattle.lra_poly.specs.Outcomes.{Becomes, IfExact, IfFlagged, first_of}
 use Rattle.lra_poly.specs.declared.outcome.Outcome.{Outcome}
 use Rattle.lra_poly.specs.declared.outcome.Outcome.TheVariants.{Exact, Flagged}
-use Rattle.lra_sys.specs.Listed.{Listed, constraints, given_by}
-use Rattle.lra_sys.proofs.GivenRows.{constraints_pushed}
+use Rattle.lra_systems.specs.LinearSystems.{LinearSystem, constraints, rows_by_kind}
+use Rattle.lra_systems.proofs.LinearRows.{constraints_pushed}
 use Rattle.lra_queries.specs.Joined.{counted}
 use Rattle.lra_queries.specs.Moved.{MapDimsStrains, Moved, moved}
 use Rattle.lra_queries.specs.Related.{ExtendStrains, Extended, ImageRelationStrains, Related, extended, replaced}
@@ -30,7 +30,7 @@ extended_rows p g h =
       λ x i m. let b = both.1 x i m in ((first_rows p 1 h x).0 b.0, con_head g [] x b.1),
     )
 
-pub extended_takes : (p : Polyhedron) (start own more ps : Listed ConKind) (first : List ℕ) (n : ℕ) (row : List ℤ)
+pub extended_takes : (p : Polyhedron) (start own more ps : LinearSystem ConKind) (first : List ℕ) (n : ℕ) (row : List ℤ)
     (k : ConKind) → IsPolyhedron p → n ≡ p.dims → start.rows ≡ [] → start.dims ≡ n + 1 → own.dims ≡ start.dims →
     first ≡ replicate 0 0 ++ counted (n + 1) 0 → constraints ps ≡ p.rows →
     constraints own ≡ constraints start ++ moved first (constraints ps) → length own.kinds ≡ length own.rows →
@@ -41,7 +41,7 @@ extended_takes p start own more ps first n row k h en er ed eo ef ep go c dm rm 
   dimensions = dm ∙ eo ∙ ed ∙ ap (λ (d : ℕ). d + 1) en;
   are = constraints_pushed own more row k c rm km
       ∙ ap (λ (l : List LinearRow). l ++ (let g : LinearRow = record { row = row; equal = is_equality k } in g) ∷ [])
-      (go ∙ ap (λ (l : List (List ℤ)). given_by is_equality l start.kinds ++ moved first (constraints ps)) er
+      (go ∙ ap (λ (l : List (List ℤ)). rows_by_kind is_equality l start.kinds ++ moved first (constraints ps)) er
       ∙ ap (λ (f : List ℕ). moved f (constraints ps)) (ef ∙ ap (λ (d : ℕ). counted (d + 1) 0) en)
       ∙ ap (moved (counted (p.dims + 1) 0)) ep);
   same = extended_rows p (record { row = row; equal = is_equality k }) h;

@@ -30,7 +30,7 @@ use Rattle.lra_linear_spec.specs.declared.GenKind.TheVariants.{Point, Ray, Line}
 use Rattle.lra_linear_spec.specs.Kinds.{is_equality, is_line}
 use Rattle.lra_linear_spec.proofs.Signs.{add_nonnegative, cases_sign, times_positive}
 use Rattle.lra_pair.proofs.OwnRows.{none_of}
-use Rattle.lra_sys.specs.Listed.{FitKinds, FitsKind, Listed, constraints, generators, given_by}
+use Rattle.lra_systems.specs.LinearSystems.{FitKinds, FitsKind, LinearSystem, constraints, generators, rows_by_kind}
 use Rattle.lra_queries.proofs.RelationLemmas.{blend_product}
 use Rattle.lra_queries.specs.Shapes.{HasBound, IsBounded, IsUniverse}
 
@@ -361,34 +361,34 @@ bounds_points p (inr h) bounds g k = elim (generators_are_generators p (inr h) g
         g.row m))
 
 -- ---- as the code tells it
-given_no : (rows : List (List ℤ)) (kinds : List ConKind) → kinds ≡ [] → given_by is_equality rows kinds ≡ []
+given_no : (rows : List (List ℤ)) (kinds : List ConKind) → kinds ≡ [] → rows_by_kind is_equality rows kinds ≡ []
 given_no [] kinds e = refl
 given_no (r ∷ rows) [] e = refl
 given_no (r ∷ rows) (x ∷ kinds) e = cc
 
 no_given : (rows : List (List ℤ)) (kinds : List ConKind) → length kinds ≡ length rows →
-    given_by is_equality rows kinds ≡ [] → kinds ≡ []
+    rows_by_kind is_equality rows kinds ≡ [] → kinds ≡ []
 no_given [] [] n e = refl
 no_given [] (x ∷ kinds) n e = absurd (omega (arith, n))
 no_given (r ∷ rows) [] n e = refl
 no_given (r ∷ rows) (x ∷ kinds) n e = cc
 
-pub universe_told : (p : Polyhedron) (list : Listed ConKind) (kinds : List ConKind) (b : Bool) → IsPolyhedron p →
+pub universe_told : (p : Polyhedron) (list : LinearSystem ConKind) (kinds : List ConKind) (b : Bool) → IsPolyhedron p →
     constraints list ≡ p.rows → kinds ≡ list.kinds → length kinds ≡ length list.rows → b ≡ (length kinds == 0) →
     IsTrue b ↔ IsUniverse p
 universe_told p list kinds b h e ek n is = (
   λ t. without_rows p (sym e ∙ given_no list.rows list.kinds (sym ek ∙ none_of kinds (length kinds) b refl is t)),
   λ u. is ∙ ap (λ (l : List ConKind). length l == 0)
-      (no_given list.rows kinds n (ap (given_by is_equality list.rows) ek ∙ e ∙ universal p h u)),
+      (no_given list.rows kinds n (ap (rows_by_kind is_equality list.rows) ek ∙ e ∙ universal p h u)),
 )
 
 -- kinds that fit are points exactly where the divisors are above 0
 points_above : (rows : List (List ℤ)) (kinds : List GenKind) → FitKinds rows kinds → All (λ k. k ≡ Point) kinds →
-    (g : LinearRow) → Contains (given_by is_line rows kinds) g → pos 0 <ℤ entry g.row 0
+    (g : LinearRow) → Contains (rows_by_kind is_line rows kinds) g → pos 0 <ℤ entry g.row 0
 points_above [] kinds fits all g k = absurd (contains_none g k)
 points_above (r ∷ rows) [] fits all g k = absurd (contains_none g k)
 points_above (r ∷ rows) (x ∷ kinds) fits all g k =
-    elim (contains_cases (let t : LinearRow = record { row = r; equal = is_line x } in t) g (given_by is_line rows kinds) k) [
+    elim (contains_cases (let t : LinearRow = record { row = r; equal = is_line x } in t) g (rows_by_kind is_line rows kinds) k) [
       | inl e ↦ subst (λ (t : LinearRow). pos 0 <ℤ entry t.row 0) e
           (subst (λ (y : GenKind). FitsKind y r) (All-contains (λ y. y ≡ Point) (x ∷ kinds) x all (contains_head x kinds)) fits.0)
       | inr m ↦ points_above rows kinds fits.1
@@ -396,17 +396,17 @@ points_above (r ∷ rows) (x ∷ kinds) fits all g k =
     ]
 
 above_points : (rows : List (List ℤ)) (kinds : List GenKind) → length kinds ≡ length rows → FitKinds rows kinds →
-    ((g : LinearRow) → Contains (given_by is_line rows kinds) g → pos 0 <ℤ entry g.row 0) →
+    ((g : LinearRow) → Contains (rows_by_kind is_line rows kinds) g → pos 0 <ℤ entry g.row 0) →
     (k : GenKind) → Contains kinds k → k ≡ Point
 above_points [] [] n fits above k i = absurd (contains_none k i)
 above_points [] (x ∷ kinds) n fits above k i = absurd (omega (arith, n))
 above_points (r ∷ rows) [] n fits above k i = absurd (contains_none k i)
 above_points (r ∷ rows) (x ∷ kinds) n fits above k i = elim (contains_cases x k kinds i) [
   | inl e ↦ sym e ∙ of_kind x fits.0 (above (record { row = r; equal = is_line x })
-      (contains_head (let t : LinearRow = record { row = r; equal = is_line x } in t) (given_by is_line rows kinds)))
+      (contains_head (let t : LinearRow = record { row = r; equal = is_line x } in t) (rows_by_kind is_line rows kinds)))
   | inr m ↦ above_points rows kinds (omega (arith, n)) fits.1
       (λ g j. above g (contains_tail (let t : LinearRow = record { row = r; equal = is_line x } in t) g
-      (given_by is_line rows kinds) j)) k m
+      (rows_by_kind is_line rows kinds) j)) k m
 ]
   where
     zero_above : (z : ℤ) → pos 0 <ℤ z → z ≡ pos 0 → ⊥
@@ -417,7 +417,7 @@ above_points (r ∷ rows) (x ∷ kinds) n fits above k i = elim (contains_cases 
     of_kind Ray fits up = absurd (zero_above (entry r 0) up fits)
     of_kind Line fits up = absurd (zero_above (entry r 0) up fits)
 
-pub bounded_told : (p : Polyhedron) (list : Listed GenKind) (kinds : List GenKind) (b : Bool) → IsPolyhedron p →
+pub bounded_told : (p : Polyhedron) (list : LinearSystem GenKind) (kinds : List GenKind) (b : Bool) → IsPolyhedron p →
     generators list ≡ p.generators → kinds ≡ list.kinds → length kinds ≡ length list.rows →
     FitKinds list.rows list.kinds → IsTrue b ↔ All (λ k. k ≡ Point) kinds → IsTrue b ↔ IsBounded p
 bounded_told p list kinds b h e ek n fits is = (

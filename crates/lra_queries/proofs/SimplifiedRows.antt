@@ -18,8 +18,8 @@ use Rattle.lra_poly.specs.declared.outcome.Outcome.{Outcome}
 use Rattle.lra_poly.specs.declared.outcome.Outcome.TheVariants.{Exact, Flagged}
 use Rattle.lra_poly.proofs.PolyLemmas.{if_exact, if_flagged}
 use Rattle.lra_duality.proofs.SaturationLemmas.{given_length}
-use Rattle.lra_sys.specs.Listed.{Listed, constraints, given_by}
-use Rattle.lra_sys.proofs.GivenRows.{constraints_pushed}
+use Rattle.lra_systems.specs.LinearSystems.{LinearSystem, constraints, rows_by_kind}
+use Rattle.lra_systems.proofs.LinearRows.{constraints_pushed}
 use Rattle.lra_queries.specs.Simplified.{AreNeeded, IsGiven, IsNeededOrStrains, IsSimplified, IsSublist, OwnTrialStrains}
 use Rattle.lra_queries.specs.Simplified.{SimplifyStrains, TellsGiven, TrialStrains}
 use Rattle.lra_queries.proofs.RelatedSets.{two_exact, two_flagged}
@@ -252,17 +252,17 @@ one_kept p context kept g later o told s t = record {
 -- the row at the place is the first that comes from there on
 drop_at : {K : Type 0} (equal : K → Bool) (rows : List (List ℤ)) (kinds : List K) (i : ℕ) (r : List ℤ) (k : K) →
     slice_get rows i ≡ Some r → slice_get kinds i ≡ Some k →
-    drop i (given_by equal rows kinds) ≡
-    (let g : LinearRow = record { row = r; equal = equal k } in g) ∷ drop (suc i) (given_by equal rows kinds)
+    drop i (rows_by_kind equal rows kinds) ≡
+    (let g : LinearRow = record { row = r; equal = equal k } in g) ∷ drop (suc i) (rows_by_kind equal rows kinds)
 drop_at equal [] kinds i r k er ek = cc
 drop_at equal (x ∷ rows) [] i r k er ek = cc
 drop_at equal (x ∷ rows) (d ∷ kinds) zero r k er ek =
-    ap (λ (y : List ℤ). (let g : LinearRow = record { row = y; equal = equal d } in g) ∷ given_by equal rows kinds)
-    (ap (λ (o : Option (List ℤ)). unwrap_or o x) er) ∙ ap (λ e. (let g : LinearRow = record { row = r; equal = equal e } in g) ∷ given_by equal rows kinds)
+    ap (λ (y : List ℤ). (let g : LinearRow = record { row = y; equal = equal d } in g) ∷ rows_by_kind equal rows kinds)
+    (ap (λ (o : Option (List ℤ)). unwrap_or o x) er) ∙ ap (λ e. (let g : LinearRow = record { row = r; equal = equal e } in g) ∷ rows_by_kind equal rows kinds)
     (ap (λ o. unwrap_or o d) ek)
 drop_at equal (x ∷ rows) (d ∷ kinds) (suc i) r k er ek = drop_at equal rows kinds i r k er ek
 
-pub at_place : (list : Listed ConKind) (i : ℕ) (r : List ℤ) (k : ConKind) → slice_get list.rows i ≡ Some r →
+pub at_place : (list : LinearSystem ConKind) (i : ℕ) (r : List ℤ) (k : ConKind) → slice_get list.rows i ≡ Some r →
     slice_get list.kinds i ≡ Some k →
     drop i (constraints list) ≡
     (let g : LinearRow = record { row = r; equal = is_equality k } in g) ∷ drop (i + 1) (constraints list)
@@ -270,7 +270,7 @@ at_place list i r k er ek = drop_at is_equality list.rows list.kinds i r k er ek
     ∙ ap (λ (j : ℕ). (let g : LinearRow = record { row = r; equal = is_equality k } in g) ∷ drop j (constraints list))
     (sym (add-one i))
 
-pub one_pushed : (list old new : Listed ConKind) (own : List LinearRow) (i j : ℕ) (r : List ℤ) (k : ConKind) →
+pub one_pushed : (list old new : LinearSystem ConKind) (own : List LinearRow) (i j : ℕ) (r : List ℤ) (k : ConKind) →
     slice_get list.rows i ≡ Some r → slice_get list.kinds i ≡ Some k → length old.kinds ≡ length old.rows →
     new.rows ≡ old.rows ++ r ∷ [] → new.kinds ≡ old.kinds ++ k ∷ [] →
     constraints old ++ drop i (constraints list) ≡ own ++ drop j (constraints list) →
@@ -280,7 +280,7 @@ one_pushed list old new own i j r k er ek c nr nk e =
     ∙ append_assoc (constraints old) (record { row = r; equal = is_equality k } ∷ []) (drop (i + 1) (constraints list))
     ∙ ap (λ (l : List LinearRow). constraints old ++ l) (sym (at_place list i r k er ek)) ∙ e
 
-pub all_pushed : (list all : Listed ConKind) (own : List LinearRow) (i j : ℕ) → length list.kinds ≡ length list.rows →
+pub all_pushed : (list all : LinearSystem ConKind) (own : List LinearRow) (i j : ℕ) → length list.kinds ≡ length list.rows →
     length list.rows ≤ i → constraints all ++ drop i (constraints list) ≡ own ++ drop j (constraints list) →
     constraints all ≡ own ++ drop j (constraints list)
 all_pushed list all own i j n h e =
@@ -288,15 +288,15 @@ all_pushed list all own i j n h e =
     sym (append-nil (constraints all))
     ∙ ap (λ (l : List LinearRow). constraints all ++ l) (sym (drop_all i (constraints list) (omega (arith, c, h)))) ∙ e
 
-pub at_first : (p context : Polyhedron) (list kept : Listed ConKind) → constraints list ≡ p.rows → kept.rows ≡ [] →
+pub at_first : (p context : Polyhedron) (list kept : LinearSystem ConKind) → constraints list ≡ p.rows → kept.rows ≡ [] →
     IsSoFar p context (constraints kept) (constraints list) Exact
 at_first p context list kept el ek =
     subst (λ (l : List LinearRow). IsSoFar p context (constraints kept) l Exact) (sym el)
-    (subst (λ (l : List (List ℤ)). IsSoFar p context (given_by is_equality l kept.kinds) p.rows Exact) (sym ek)
+    (subst (λ (l : List (List ℤ)). IsSoFar p context (rows_by_kind is_equality l kept.kinds) p.rows Exact) (sym ek)
     (so_far_first p context))
 
 -- the one at the place, and those behind it
-pub told_at : (n : ℕ) (context : List LinearRow) (list kept others : Listed ConKind) (i : ℕ) (r : List ℤ) (k : ConKind)
+pub told_at : (n : ℕ) (context : List LinearRow) (list kept others : LinearSystem ConKind) (i : ℕ) (r : List ℤ) (k : ConKind)
     (told : Option Outcome) → slice_get list.rows i ≡ Some r → slice_get list.kinds i ≡ Some k →
     constraints others ≡ constraints kept ++ drop (i + 1) (constraints list) →
     TellsGiven n context (constraints others) (record { row = r; equal = is_equality k }) told →
@@ -311,7 +311,7 @@ told_at n context list kept others i r k told er ek eo t g later e =
     (subst (λ (l : List LinearRow). TellsGiven n context l (record { row = r; equal = is_equality k }) told) eo t))
 
 -- a place that there is has a row and a kind
-pub row_at : (list : Listed ConKind) (i : ℕ) → length list.kinds ≡ length list.rows → i < length list.rows →
+pub row_at : (list : LinearSystem ConKind) (i : ℕ) → length list.kinds ≡ length list.rows → i < length list.rows →
     (g : LinearRow) × (drop i (constraints list) ≡ g ∷ drop (i + 1) (constraints list))
 row_at list i n h =
     let r = some_at list.rows i h in
@@ -324,7 +324,7 @@ row_at list i n h =
     some_at (x ∷ xs) (suc i) h = some_at xs i (omega (arith, h))
 
 -- the place behind, where the one at hand is left out
-pub place_left : (p context : Polyhedron) (list kept : Listed ConKind) (i n : ℕ) (o : Outcome) → n ≡ p.dims →
+pub place_left : (p context : Polyhedron) (list kept : LinearSystem ConKind) (i n : ℕ) (o : Outcome) → n ≡ p.dims →
     length list.kinds ≡ length list.rows → i < length list.rows →
     IsSoFar p context (constraints kept) (drop i (constraints list)) o →
     ((g : LinearRow) (later : List LinearRow) → drop i (constraints list) ≡ g ∷ later →
@@ -337,7 +337,7 @@ place_left p context list kept i n o en c h s t =
     (subst (λ (m : ℕ). IsGiven m context.rows (constraints kept ++ drop (i + 1) (constraints list)) here.0) en
     (t here.0 (drop (i + 1) (constraints list)) here.1))
 
-pub place_kept : (p context : Polyhedron) (list kept more : Listed ConKind) (i n : ℕ) (r : List ℤ) (k : ConKind)
+pub place_kept : (p context : Polyhedron) (list kept more : LinearSystem ConKind) (i n : ℕ) (r : List ℤ) (k : ConKind)
     (o told all : Outcome) → n ≡ p.dims → slice_get list.rows i ≡ Some r →
     slice_get list.kinds i ≡ Some k → IsSoFar p context (constraints kept) (drop i (constraints list)) o →
     ((g : LinearRow) (later : List LinearRow) → drop i (constraints list) ≡ g ∷ later →
@@ -355,7 +355,7 @@ place_kept p context list kept more i n r k o told all en er ek s t c mr mk ea =
     (subst (λ (l : List LinearRow). IsSoFar p context (constraints kept) l o) here s)
     (subst (λ (m : ℕ). TellsGiven m context.rows (constraints kept ++ later) g (Some told)) en (t g later here))))
 
-pub all_told : (p context : Polyhedron) (list kept : Listed ConKind) (i : ℕ) (o : Outcome) →
+pub all_told : (p context : Polyhedron) (list kept : LinearSystem ConKind) (i : ℕ) (o : Outcome) →
     length list.kinds ≡ length list.rows → length list.rows ≤ i →
     IsSoFar p context (constraints kept) (drop i (constraints list)) o → IsSimplified p context (constraints kept) o
 all_told p context list kept i o n h s =

@@ -5,18 +5,18 @@ use Rattle.lra_linear_spec.specs.OperationStrain.{ConstraintsStrain, FromRowsStr
 use Rattle.lra_linear_spec.specs.Points.{PointSet, SameSet}
 use Rattle.lra_linear_spec.specs.Polyhedra.{Polyhedron}
 use Rattle.lra_linear_spec.specs.declared.ConKind.{ConKind}
-use Rattle.lra_sys.specs.Listed.{Listed, constraints}
+use Rattle.lra_systems.specs.LinearSystems.{LinearSystem, constraints}
 use Rattle.lra_poly.specs.Outcomes.{Becomes, IsOfRows}
 use Rattle.lra_poly.specs.declared.outcome.Outcome.{Outcome}
 use Rattle.lra_poly.proofs.PolyLemmas.{becomes_same, constraints_strain}
 
 -- the list, which stands for these constraints, gives the set
-pub record TakesRows (n : ℕ) (S : PointSet) (given : List LinearRow) (list : Listed ConKind) : Type 0 where
+pub record TakesRows (n : ℕ) (S : PointSet) (given : List LinearRow) (list : LinearSystem ConKind) : Type 0 where
   pub dimensions : list.dims ≡ n
   pub are : constraints list ≡ given
   pub same : SameSet n S (Con given)
 
-pub rows_becomes : (n : ℕ) (S : PointSet) (given : List LinearRow) (list : Listed ConKind) (p : Polyhedron) (o : Outcome) →
+pub rows_becomes : (n : ℕ) (S : PointSet) (given : List LinearRow) (list : LinearSystem ConKind) (p : Polyhedron) (o : Outcome) →
     TakesRows n S given list → IsOfRows list.dims (constraints list) p o → Becomes n S (ConstraintsStrain n S given) p o
 rows_becomes n S given list p o t b =
     becomes_same n S (Con given) (ConstraintsStrain n S given) (FromRowsStrains n given) p o t.same

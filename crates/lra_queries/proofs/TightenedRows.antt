@@ -18,8 +18,8 @@ use Rattle.lra_linear_spec.proofs.Signs.{cases_sign, no_product}
 use Rattle.std.proofs.lemmas.List.{get_or_default, length-append, take_all}
 use Rattle.lra_linear_spec.specs.Kinds.{is_equality}
 use Rattle.lra_linear_spec.specs.declared.ConKind.{ConKind}
-use Rattle.lra_sys.specs.Listed.{Listed, constraints, given_by}
-use Rattle.lra_sys.proofs.GivenRows.{constraints_pushed, given_more}
+use Rattle.lra_systems.specs.LinearSystems.{LinearSystem, constraints, rows_by_kind}
+use Rattle.lra_systems.proofs.LinearRows.{constraints_pushed, given_more}
 use Rattle.lra_queries.specs.Tightened.{AreTightened, IsTightened}
 
 -- ---- the product with a multiple of a row
@@ -191,37 +191,37 @@ tightened_stores n (g ∷ gs) (t ∷ ts) all s w = (
 
 -- one constraint more
 pub one_tightened : (n : ℕ) (rows : List (List ℤ)) (kinds : List ConKind) (i : ℕ) (r : List ℤ) (d : ConKind)
-    (old new : Listed ConKind) (t : List ℤ) (k : ConKind) → length kinds ≡ length rows → i < length rows →
+    (old new : LinearSystem ConKind) (t : List ℤ) (k : ConKind) → length kinds ≡ length rows → i < length rows →
     r ≡ get_or rows i r → length old.kinds ≡ length old.rows → new.rows ≡ old.rows ++ t ∷ [] →
     new.kinds ≡ old.kinds ++ k ∷ [] →
-    AreTightened n (given_by is_equality (take i rows) (take i kinds)) (constraints old) →
+    AreTightened n (rows_by_kind is_equality (take i rows) (take i kinds)) (constraints old) →
     (m : ℕ) → m ≡ n →
     IsTightened m (record { row = r; equal = is_equality (get_or kinds i d) })
     (record { row = t; equal = is_equality k }) →
-    AreTightened n (given_by is_equality (take (i + 1) rows) (take (i + 1) kinds)) (constraints new)
+    AreTightened n (rows_by_kind is_equality (take (i + 1) rows) (take (i + 1) kinds)) (constraints new)
 one_tightened n rows kinds i r d old new t k c h e m er ek all dims same one =
     subst (λ (l : List LinearRow). AreTightened n l (constraints new))
     (sym (given_more is_equality rows kinds i r (get_or kinds i d) (sym c) h e
     (get_or_default kinds i d (get_or kinds i d) (omega (arith, h, c)))))
-    (subst (AreTightened n (given_by is_equality (take i rows) (take i kinds) ++
+    (subst (AreTightened n (rows_by_kind is_equality (take i rows) (take i kinds) ++
     (let g : LinearRow = record { row = r; equal = is_equality (get_or kinds i d) } in g) ∷ []))
     (sym (constraints_pushed old new t k m er ek))
-    (tightened_more n (given_by is_equality (take i rows) (take i kinds)) (constraints old)
+    (tightened_more n (rows_by_kind is_equality (take i rows) (take i kinds)) (constraints old)
     (record { row = r; equal = is_equality (get_or kinds i d) }) (record { row = t; equal = is_equality k }) all
     (subst (λ (s : ℕ). IsTightened s (record { row = r; equal = is_equality (get_or kinds i d) })
     (record { row = t; equal = is_equality k })) same one)))
 
-pub one_counted : (old new : Listed ConKind) (t : List ℤ) (k : ConKind) → length old.kinds ≡ length old.rows →
+pub one_counted : (old new : LinearSystem ConKind) (t : List ℤ) (k : ConKind) → length old.kinds ≡ length old.rows →
     new.rows ≡ old.rows ++ t ∷ [] → new.kinds ≡ old.kinds ++ k ∷ [] → length new.kinds ≡ length new.rows
 one_counted old new t k m er ek = ap length ek ∙ length-append old.kinds (k ∷ []) ∙ ap (λ (s : ℕ). s + 1) m ∙
     sym (length-append old.rows (t ∷ [])) ∙ sym (ap length er)
 
-pub all_tightened : (n : ℕ) (list all : Listed ConKind) (rows : List (List ℤ)) (kinds : List ConKind) (i : ℕ) →
+pub all_tightened : (n : ℕ) (list all : LinearSystem ConKind) (rows : List (List ℤ)) (kinds : List ConKind) (i : ℕ) →
     rows ≡ list.rows → kinds ≡ list.kinds → length kinds ≡ length list.rows → length rows ≤ i →
-    AreTightened n (given_by is_equality (take i rows) (take i kinds)) (constraints all) →
+    AreTightened n (rows_by_kind is_equality (take i rows) (take i kinds)) (constraints all) →
     AreTightened n (constraints list) (constraints all)
 all_tightened n list all rows kinds i er ek c h =
     let s = ap length er in
     λ t. subst (λ (l : List LinearRow). AreTightened n l (constraints all))
-    (ap (λ (l : List (List ℤ)). given_by is_equality l (take i kinds)) (take_all i rows h ∙ er)
-    ∙ ap (given_by is_equality list.rows) (take_all i kinds (omega (arith, h, c, s)) ∙ ek)) t
+    (ap (λ (l : List (List ℤ)). rows_by_kind is_equality l (take i kinds)) (take_all i rows h ∙ er)
+    ∙ ap (rows_by_kind is_equality list.rows) (take_all i kinds (omega (arith, h, c, s)) ∙ ek)) t

@@ -1,7 +1,7 @@
 //! The least box around a polyhedron.
 
 ghost use Rattle.std.specs.Prelude.{◌≡◌, ◌↔◌, ◌<◌, length, IfOk, IfSome, IsNone};
-ghost use Rattle.lra_lin.specs.Form.{form_row};
+ghost use Rattle.lra_linear_forms.specs.Form.{form_row};
 ghost use Rattle.lra_linear_spec.specs.declared.Excess.{Excess};
 ghost use Rattle.lra_linear_spec.specs.Descriptions.{Con};
 ghost use Rattle.lra_linear_spec.specs.OperationStrain.{MaximiseStrains};
@@ -12,7 +12,7 @@ ghost use Rattle.lra_queries.specs.Boxed.{coordinate_form};
 
 use crate::minimum::{Minimum, minimise};
 use lra_duality::Maximum;
-use lra_lin::LinExpr;
+use lra_linear_forms::LinExpr;
 use lra_poly::Poly;
 use std::alloc::{AllocError, Global};
 

@@ -4,7 +4,7 @@ ghost use Rattle.std.specs.Prelude.{◌≡◌, ◌∷◌, ◌++◌, ◌<◌, ◌
 ghost use Rattle.lra_linear_spec.specs.Descriptions.{LinearRow};
 ghost use Rattle.lra_linear_spec.specs.Kinds.{is_equality};
 ghost use Rattle.lra_linear_spec.specs.declared.Cause.TheVariants as of_cause;
-ghost use Rattle.lra_sys.specs.Listed.{constraints};
+ghost use Rattle.lra_systems.specs.LinearSystems.{constraints};
 ghost use Rattle.lra_queries.specs.Simplified.{IsSimplified, TellsGiven};
 
 use crate::relation::relate;
@@ -12,7 +12,7 @@ use lra_cone::Loss;
 use lra_linear_spec::{Cause, ConKind, Excess};
 use lra_poly::{Outcome, Poly};
 use lra_row::Row;
-use lra_sys::{ConSys, TOO_MANY_DIMENSIONS};
+use lra_systems::{ConSys, TOO_MANY_DIMENSIONS};
 use std::alloc::{AllocError, Global};
 
 // No constraint. Memory is wanting from 2^62 dimensions on.

@@ -4,8 +4,8 @@ ghost use Rattle.std.specs.Prelude.{◌≡◌, ◌<◌, ◌+◌, ◌++◌, lengt
 ghost use Rattle.lra_linear_spec.specs.Descriptions.{Con};
 ghost use Rattle.lra_linear_spec.specs.Kinds.{is_equality};
 ghost use Rattle.lra_poly.specs.Outcomes.{Becomes};
-ghost use Rattle.lra_sys.specs.Dimensions.{too_many_dimensions};
-ghost use Rattle.lra_sys.specs.Listed.{constraints};
+ghost use Rattle.lra_systems.specs.Dimensions.{too_many_dimensions};
+ghost use Rattle.lra_systems.specs.LinearSystems.{constraints};
 ghost use Rattle.lra_queries.specs.Expanded.{ExpandStrains, Expanded};
 ghost use Rattle.lra_queries.specs.Joined.{ConcatenateStrains, Concatenated, counted};
 ghost use Rattle.lra_queries.specs.Moved.{moved};
@@ -15,7 +15,7 @@ use crate::moving::{choose, map_dims};
 use lra_linear_spec::ConKind;
 use lra_poly::{Outcome, Poly};
 use lra_row::Row;
-use lra_sys::ConSys;
+use lra_systems::ConSys;
 use std::alloc::{AllocError, Global};
 
 // One dimension as often as is asked, then the first ones in turn.

@@ -1,11 +1,11 @@
 //! The least value of a form.
 
 ghost use Rattle.std.specs.Prelude.{◌≡◌, length};
-ghost use Rattle.lra_lin.specs.Form.{form_row};
+ghost use Rattle.lra_linear_forms.specs.Form.{form_row};
 ghost use Rattle.lra_queries.specs.Minima.{IsMinimum, LeastInRange, TellsMinimum};
 
 use lra_duality::Maximum;
-use lra_lin::LinExpr;
+use lra_linear_forms::LinExpr;
 use lra_poly::Poly;
 use lra_row::opposite;
 

@@ -5,13 +5,13 @@ ghost use Rattle.lra_linear_spec.specs.Descriptions.{Con};
 ghost use Rattle.lra_linear_spec.specs.Range.{InRange};
 ghost use Rattle.lra_linear_spec.specs.Vectors.{entry};
 ghost use Rattle.lra_poly.specs.Outcomes.{Becomes};
-ghost use Rattle.lra_sys.specs.Listed.{generators, FitKinds};
+ghost use Rattle.lra_systems.specs.LinearSystems.{generators, FitKinds};
 ghost use Rattle.lra_queries.specs.Folded.{FoldStrains, Folded};
 ghost use Rattle.lra_queries.specs.Moved.{MapDimsStrains, Moved, chosen, moved};
 
 use lra_poly::{Outcome, Poly};
 use lra_row::Row;
-use lra_sys::{GenSys, TOO_MANY_DIMENSIONS};
+use lra_systems::{GenSys, TOO_MANY_DIMENSIONS};
 use std::alloc::{AllocError, Global};
 
 // The row's number along a dimension, 0 past the last one.

@@ -8,7 +8,7 @@ ghost use Rattle.lra_queries.specs.Parted.{AreMadeOf, SomeHas};
 
 use lra_domain::Domain;
 use lra_poly::{Outcome, Poly};
-use lra_sys::ConSys;
+use lra_systems::ConSys;
 use std::alloc::{AllocError, Global};
 
 // A polyhedron for each list.

@@ -9,14 +9,14 @@ ghost use Rattle.lra_linear_spec.specs.Kinds.{is_equality};
 ghost use Rattle.lra_linear_spec.specs.OperationStrain.{ProductsPass};
 ghost use Rattle.lra_linear_spec.specs.Vectors.{entry};
 ghost use Rattle.lra_duality.specs.Maxima.{StaysInRange};
-ghost use Rattle.lra_sys.specs.Listed.{generators};
+ghost use Rattle.lra_systems.specs.LinearSystems.{generators};
 ghost use Rattle.lra_queries.specs.Relations.{AreMissed, IsRelation, MissesAt};
 
 use lra_duality::accepts;
 use lra_linear_spec::{ConKind, Excess};
 use lra_poly::Poly;
 use lra_row::{Row, opposite};
-use lra_sys::GenSys;
+use lra_systems::GenSys;
 
 /// How a constraint stands to a polyhedron. Without a point all four are true.
 #[derive(Clone, Copy, Debug, PartialEq, Eq)]

@@ -10,13 +10,13 @@ ghost use Rattle.lra_linear_spec.specs.Points.{IsWithin};
 ghost use Rattle.lra_linear_spec.specs.Polyhedra.{falsity};
 ghost use Rattle.lra_linear_spec.specs.Range.{InRange};
 ghost use Rattle.lra_row.specs.Rows.{IsRowGcd};
-ghost use Rattle.lra_sys.specs.Dimensions.{too_many_dimensions};
-ghost use Rattle.lra_sys.specs.Listed.{constraints};
+ghost use Rattle.lra_systems.specs.Dimensions.{too_many_dimensions};
+ghost use Rattle.lra_systems.specs.LinearSystems.{constraints};
 ghost use Rattle.lra_queries.specs.Tightened.{AreTightened, IsTightened};
 
 use lra_linear_spec::ConKind;
 use lra_row::{Row, gcd};
-use lra_sys::{ConSys, TOO_MANY_DIMENSIONS, unit};
+use lra_systems::{ConSys, TOO_MANY_DIMENSIONS, unit};
 use std::alloc::{AllocError, Global};
 
 // The greatest number that divides each of them, 0 where all are 0.

@@ -8,7 +8,7 @@ use Rattle.lra_linear_spec.specs.LowestTerms.{IsPrimitive}
 use Rattle.lra_linear_spec.specs.Echelon.{HasPivot}
 use Rattle.lra_linear_spec.specs.declared.ConKind.TheVariants as con
 use Rattle.lra_linear_spec.specs.declared.GenKind.TheVariants as gen
-use Rattle.lra_sys.specs.Listed.{FitsKind}
+use Rattle.lra_systems.specs.LinearSystems.{FitsKind}
 use Rattle.lra_show.specs.Shown.{report_row, report_generator}
 use Rattle.lra_show.specs.Texts.{is_turned}
 use Rattle.lra_report.specs.Spelled.{IsSpelledRow, IsSpelledGenerator}

@@ -3,18 +3,18 @@ use Rattle.std.specs.Prelude.{List, [], Option, Some, None}
 use Rattle.std.specs.List.{AllByRecursion}
 use Rattle.lra_linear_spec.specs.Range.{InRange}
 use Rattle.lra_linear_spec.specs.declared.GenKind.{GenKind}
-use Rattle.lra_sys.specs.Listed.{Listed, FitKinds}
+use Rattle.lra_systems.specs.LinearSystems.{LinearSystem, FitKinds}
 use Rattle.lra_show.specs.Rows.{Row}
 use Rattle.lra_show.specs.Lists.{shown_generators}
 use Rattle.lra_show.specs.Part.{Generator, Part}
 
 -- none where there is no list
-abbrev pub optional_generators : Option (Listed GenKind) → List Generator
+abbrev pub optional_generators : Option (LinearSystem GenKind) → List Generator
 optional_generators None = []
 optional_generators (Some g) = shown_generators g.rows g.kinds
 
 -- column 0 of each generator is as its kind asks
-abbrev pub FitOptionally : Option (Listed GenKind) → Type 0
+abbrev pub FitOptionally : Option (LinearSystem GenKind) → Type 0
 FitOptionally None = Unit {0}
 FitOptionally (Some g) = FitKinds g.rows g.kinds
 

@@ -11,7 +11,7 @@ ghost use Rattle.lra_script.specs.Views.{HasDivisor, IsDivided};
 
 use crate::numbers::numbers_of;
 use lra_row::Row;
-use lra_sys::{ConKind, GenKind};
+use lra_systems::{ConKind, GenKind};
 use std::alloc::{AllocError, Global};
 
 /// A constraint as it is written, with any count of numbers.

@@ -1,7 +1,7 @@
 -- Lemmas on how heads grow.
 use Rattle.std.proofs.Common.{◌≡◌, ◌≢◌, ◌⊎◌, ℕ, ◌<◌, ℤ, Bool, true, false, List, [], ◌∷◌, length, Option, Some, None, refl, sym}
 use Rattle.std.proofs.Common.{subst, ◌∙◌, inl, inr, arith}
-use Rattle.lra_sys.specs.Listed.{Listed}
+use Rattle.lra_systems.specs.LinearSystems.{LinearSystem}
 use Rattle.lra_linear_spec.specs.declared.ConKind.{ConKind}
 use Rattle.lra_domain.specs.declared.Exactness.{Exactness}
 use Rattle.lra_domain.specs.declared.Exactness.TheVariants.{Exact, Flagged}
@@ -130,11 +130,11 @@ all_fails {V} m old new p later qs mode a cut grew =
 
 -- a head starts with the join of the parts, and grows ---------------------------------------------------------------------
 
-pub start_strains : {V H : Type 0} (m : Meaning V H) (given : Listed ConKind) (ps : List V) (k : V) (mode : Mode)
+pub start_strains : {V H : Type 0} (m : Meaning V H) (given : LinearSystem ConKind) (ps : List V) (k : V) (mode : Mode)
     → MergesExactly m ps None → StartsAndGrows m given ps k mode None
 start_strains m given ps k mode strains = inl strains
 
-started_alike : {V H : Type 0} (m : Meaning V H) → PlainLaws m → (given : Listed ConKind) (j : V) (g h i : H)
+started_alike : {V H : Type 0} (m : Meaning V H) → PlainLaws m → (given : LinearSystem ConKind) (j : V) (g h i : H)
     → m.started j given g → h ≡ g → i ≡ g → FormCovered m (one i) (one h)
 started_alike {V} {H} m pl given j g h i st e d = inr (inr (
   j ∷ [],
@@ -146,7 +146,7 @@ started_alike {V} {H} m pl given j g h i st e d = inr (inr (
   (inl (pl.covered_reflexive j), tt),
 ))
 
-pub start_stays : {V H : Type 0} (m : Meaning V H) → Laws m → PlainLaws m → (given : Listed ConKind) (ps : List V)
+pub start_stays : {V H : Type 0} (m : Meaning V H) → Laws m → PlainLaws m → (given : LinearSystem ConKind) (ps : List V)
     (j k : V) (mode : Mode) (g h : H) → EachPart m.formed ps → m.formed k → MergesExactly m ps (Some j)
     → Starts m j given g → h ≡ g → m.answers g k mode Yes → StartsAndGrows m given ps k mode (Some h)
 start_stays {V} {H} m l pl given ps j k mode g h fine by_fine merged st e lies =
@@ -161,12 +161,12 @@ start_stays {V} {H} m l pl given ps j k mode g h fine by_fine merged st e lies =
       (λ s own. subst (λ (x : H). m.head_has x s) (sym e) (l.stays_stores g k mode st.formed by_fine in_it s own)),
     )
   where
-    covers : {V H : Type 0} (m : Meaning V H) → PlainLaws m → (given : Listed ConKind) (j k : V) (mode : Mode) (g h i : H)
+    covers : {V H : Type 0} (m : Meaning V H) → PlainLaws m → (given : LinearSystem ConKind) (j k : V) (mode : Mode) (g h i : H)
         → m.stays g k mode → m.started j given g → h ≡ g → GrowsBy m g k mode i → FormCovered m (one i) (one h)
     covers m pl given j k mode g h i in_it st e (inl stays) = started_alike m pl given j g h i st e stays.1
     covers m pl given j k mode g h i in_it st e (inr grows) = absurd (grows.0 in_it)
 
-pub start_grown : {V H : Type 0} (m : Meaning V H) → Laws m → PlainLaws m → (given : Listed ConKind) (ps : List V)
+pub start_grown : {V H : Type 0} (m : Meaning V H) → Laws m → PlainLaws m → (given : LinearSystem ConKind) (ps : List V)
     (j k : V) (mode : Mode) (g h : H) → EachPart m.formed ps → m.formed k → MergesExactly m ps (Some j)
     → Starts m j given g → Grew m g k mode Exact h → StartsAndGrows m given ps k mode (Some h)
 start_grown {V} {H} m l pl given ps j k mode g h fine by_fine merged st grew =
@@ -192,7 +192,7 @@ growth_strains : {V H : Type 0} (m : Meaning V H) (g h : H) (k : V) (mode : Mode
 growth_strains m g h k mode (inl wide) = inl wide.0
 growth_strains m g h k mode (inr out) = inr out
 
-pub start_flagged : {V H : Type 0} (m : Meaning V H) (given : Listed ConKind) (ps : List V) (j k : V) (mode : Mode) (g h : H)
+pub start_flagged : {V H : Type 0} (m : Meaning V H) (given : LinearSystem ConKind) (ps : List V) (j k : V) (mode : Mode) (g h : H)
     → MergesExactly m ps (Some j) → Starts m j given g → Grew m g k mode Flagged h
     → StartsAndGrows m given ps k mode None
 start_flagged m given ps j k mode g h merged st grew =
@@ -200,12 +200,12 @@ start_flagged m given ps j k mode g h merged st grew =
 
 -- parts become one --------------------------------------------------------------------------------------------------------
 
-pub one_strains : {V H : Type 0} (m : Meaning V H) (given : Listed ConKind) (ps qs : List V) (mode : Mode)
+pub one_strains : {V H : Type 0} (m : Meaning V H) (given : LinearSystem ConKind) (ps qs : List V) (mode : Mode)
     → MergesExactly m qs None → BecomesOne m given ps qs mode None
 one_strains m given [] qs mode strains = strains
 one_strains m given (p ∷ ps) qs mode strains = inr (inl strains)
 
-pub one_first : {V H : Type 0} (m : Meaning V H) → Laws m → PlainLaws m → (given : Listed ConKind) (ps qs : List V)
+pub one_first : {V H : Type 0} (m : Meaning V H) → Laws m → PlainLaws m → (given : LinearSystem ConKind) (ps qs : List V)
     (mode : Mode) (k : V) (h : H) → EachPart m.formed qs → ps ≡ [] → MergesExactly m qs (Some k) → Starts m k given h
     → BecomesOne m given ps qs mode (Some h)
 one_first {V} {H} m l pl given ps qs mode k h fine none merged st =
@@ -216,7 +216,7 @@ one_first {V} {H} m l pl given ps qs mode k h fine none merged st =
       (λ s own. st.stores s (has_all m l qs k fine merged.2 merged.1 s own)),
     )
   where
-    covers : {V H : Type 0} (m : Meaning V H) → PlainLaws m → (given : Listed ConKind) (qs : List V) (mode : Mode) (k : V)
+    covers : {V H : Type 0} (m : Meaning V H) → PlainLaws m → (given : LinearSystem ConKind) (qs : List V) (mode : Mode) (k : V)
         (h : H) → Merges m qs k → m.started k given h → (f : Form V H) → Widens m given (many []) qs mode f
         → FormCovered m f (one h)
     covers {V} {H} m pl given qs mode k h merged st f (x, i, merges, started, e) = inr (inr (
@@ -229,14 +229,14 @@ one_first {V} {H} m l pl given ps qs mode k h fine none merged st =
       (inl (subst (λ (y : V). m.covered x y) (merge_same m pl qs x k merges merged) (pl.covered_reflexive x)), tt),
     ))
 
-more_none : {V H : Type 0} (m : Meaning V H) (given : Listed ConKind) (p : V) (ps qs : List V) (mode : Mode) (k : V)
+more_none : {V H : Type 0} (m : Meaning V H) (given : LinearSystem ConKind) (p : V) (ps qs : List V) (mode : Mode) (k : V)
     → MergesExactly m qs (Some k) → StartsAndGrows m given (p ∷ ps) k mode None
     → BecomesOne m given (p ∷ ps) qs mode None
 more_none m given p ps qs mode k merged (inl strains) = inl strains
 more_none m given p ps qs mode k merged (inr (j, g, joins, started, strains)) =
     inr (inr (j, k, g, joins, started, merged.0, strains))
 
-more_covers : {V H : Type 0} (m : Meaning V H) → PlainLaws m → (given : Listed ConKind) (p : V) (ps qs : List V) (mode : Mode)
+more_covers : {V H : Type 0} (m : Meaning V H) → PlainLaws m → (given : LinearSystem ConKind) (p : V) (ps qs : List V) (mode : Mode)
     (j k : V) (g h : H) → JoinsOn m p ps j → m.started j given g → Merges m qs k
     → ((i : H) → GrowsBy m g k mode i → FormCovered m (one i) (one h)) → (f : Form V H)
     → Widens m given (many (p ∷ ps)) qs mode f → FormCovered m f (one h)
@@ -248,7 +248,7 @@ more_covers {V} {H} m pl given p ps qs mode j k g h joins started merged covers 
     (subst (λ (z : V). GrowsBy m a z mode b) by grows) in
     subst (λ (z : Form V H). FormCovered m z (one h)) (sym e) (covers b grown)
 
-more_one : {V H : Type 0} (m : Meaning V H) → Laws m → PlainLaws m → (given : Listed ConKind) (p : V) (ps qs : List V)
+more_one : {V H : Type 0} (m : Meaning V H) → Laws m → PlainLaws m → (given : LinearSystem ConKind) (p : V) (ps qs : List V)
     (mode : Mode) (k : V) (o : Option H) → EachPart m.formed qs → MergesExactly m qs (Some k)
     → StartsAndGrows m given (p ∷ ps) k mode o → BecomesOne m given (p ∷ ps) qs mode o
 more_one m l pl given p ps qs mode k None fine merged g = more_none m given p ps qs mode k merged g
@@ -259,7 +259,7 @@ more_one m l pl given p ps qs mode k (Some h) fine merged (j, g, joins, started,
   (λ s has. by s (has_all m l qs k fine merged.2 merged.1 s has)),
 )
 
-pub one_more : {V H : Type 0} (m : Meaning V H) → Laws m → PlainLaws m → (given : Listed ConKind) (ps qs : List V)
+pub one_more : {V H : Type 0} (m : Meaning V H) → Laws m → PlainLaws m → (given : LinearSystem ConKind) (ps qs : List V)
     (mode : Mode) (k : V) (o : Option H) → EachPart m.formed qs → 0 < length ps → MergesExactly m qs (Some k)
     → StartsAndGrows m given ps k mode o → BecomesOne m given ps qs mode o
 one_more m l pl given [] qs mode k o fine some merged g = let wrong : ⊥ = omega (arith, some) in absurd wrong
@@ -284,13 +284,13 @@ pub merges_some : {V H : Type 0} (m : Meaning V H) (ps : List V) (o : Option V) 
 merges_some {V} m ps o j e t = subst (λ (x : Option V). MergesExactly m ps x) e t
 
 -- the head stays as it was after a step that answers Stable
-pub stays_as : {V H : Type 0} (m : Meaning V H) → Laws m → PlainLaws m → (given : Listed ConKind) (ps : List V) (j k : V)
+pub stays_as : {V H : Type 0} (m : Meaning V H) → Laws m → PlainLaws m → (given : LinearSystem ConKind) (ps : List V) (j k : V)
     (mode : Mode) (g h : H) (o : Option V) → EachPart m.formed ps → m.formed k → o ≡ Some j → MergesExactly m ps o
     → Starts m j given g → h ≡ g → m.answers g k mode Yes → StartsAndGrows m given ps k mode (Some h)
 stays_as m l pl given ps j k mode g h o fine by_fine e t st same lies =
     start_stays m l pl given ps j k mode g h fine by_fine (merges_some m ps o j e t) st same lies
 
-pub grown_as : {V H : Type 0} (m : Meaning V H) → Laws m → PlainLaws m → (given : Listed ConKind) (ps : List V) (j k : V)
+pub grown_as : {V H : Type 0} (m : Meaning V H) → Laws m → PlainLaws m → (given : LinearSystem ConKind) (ps : List V) (j k : V)
     (mode : Mode) (g h : H) (o : Option V) → EachPart m.formed ps → m.formed k → o ≡ Some j → MergesExactly m ps o
     → Starts m j given g → Grew m g k mode Exact h → StartsAndGrows m given ps k mode (Some h)
 grown_as m l pl given ps j k mode g h o fine by_fine e t st grew =

@@ -1,7 +1,7 @@
 -- Lemmas on the heads of sets.
 use Rattle.std.proofs.Common.{◌≡◌, ◌≢◌, ◌⊎◌, ℕ, ℤ, List, [], ◌∷◌, ◌++◌, length, Option, Some, None, refl, ap, sym}
 use Rattle.std.proofs.Common.{subst, ◌∙◌, inl, inr, arith}
-use Rattle.lra_sys.specs.Listed.{Listed}
+use Rattle.lra_systems.specs.LinearSystems.{LinearSystem}
 use Rattle.lra_linear_spec.specs.declared.ConKind.{ConKind}
 use Rattle.lra_domain.specs.declared.Exactness.{Exactness}
 use Rattle.lra_domain.specs.declared.Exactness.TheVariants.{Exact, Flagged}
@@ -115,7 +115,7 @@ whole_below m (one h) p n = inl (omega arith)
 whole_below m (whole q) p n = absurd n
 
 -- the given rows that are left: the whole asks for none, a single part's head for its own, parts that became one for none
-left_whole : {V H : Type 0} (m : Meaning V H) (given : Listed ConKind) (old : Form V H) (mode : Mode) (p : V)
+left_whole : {V H : Type 0} (m : Meaning V H) (given : LinearSystem ConKind) (old : Form V H) (mode : Mode) (p : V)
     → FormLeft m given old mode (whole p)
 left_whole m given (many ps) Join p = tt
 left_whole m given (many ps) Widen p = tt
@@ -130,14 +130,14 @@ left_whole m given (whole q) Widen p = tt
 left_whole m given (whole q) Limited p = tt
 left_whole m given (whole q) Tightest p = tt
 
-left_one : {V H : Type 0} (m : Meaning V H) (given : Listed ConKind) (g h : H) (mode : Mode) → mode ≢ Join
+left_one : {V H : Type 0} (m : Meaning V H) (given : LinearSystem ConKind) (g h : H) (mode : Mode) → mode ≢ Join
     → m.left g mode h → FormLeft m given (one g) mode (one h)
 left_one m given g h Join w l = absurd (w refl)
 left_one m given g h Widen w l = l
 left_one m given g h Limited w l = l
 left_one m given g h Tightest w l = l
 
-begins_as_one : {V H : Type 0} (m : Meaning V H) (given : Listed ConKind) (ps qs : List V) (h : H) (mode : Mode)
+begins_as_one : {V H : Type 0} (m : Meaning V H) (given : LinearSystem ConKind) (ps qs : List V) (h : H) (mode : Mode)
     → Widens m given (many ps) qs mode (one h) → BeginsAsOne m given mode h
 begins_as_one m given [] qs h mode (k, i, merged, started, is) = let same : h ≡ i = cc in (k, i, started, inl same)
 begins_as_one {V} {H} m given (p ∷ ps) qs h mode (j, k, g, i, joined, started, merged, by, is) = (j, g, started, grows by)
@@ -149,14 +149,14 @@ begins_as_one {V} {H} m given (p ∷ ps) qs h mode (j, k, g, i, joined, started,
     grows (inl (stays, stable)) = inl (same ∙ stable)
     grows (inr (moves, grown)) = inr (k, subst (λ (x : H). m.grown g k mode x) (sym same) grown)
 
-left_many : {V H : Type 0} (m : Meaning V H) (given : Listed ConKind) (ps qs : List V) (h : H) (mode : Mode) → mode ≢ Join
+left_many : {V H : Type 0} (m : Meaning V H) (given : LinearSystem ConKind) (ps qs : List V) (h : H) (mode : Mode) → mode ≢ Join
     → Widens m given (many ps) qs mode (one h) → FormLeft m given (many ps) mode (one h)
 left_many m given ps qs h Join w widens = absurd (w refl)
 left_many m given ps qs h Widen w widens = begins_as_one m given ps qs h Widen widens
 left_many m given ps qs h Limited w widens = begins_as_one m given ps qs h Limited widens
 left_many m given ps qs h Tightest w widens = begins_as_one m given ps qs h Tightest widens
 
-left_anew : {V H : Type 0} (m : Meaning V H) (given : Listed ConKind) (old : Form V H) (rs : List V) (f : Form V H)
+left_anew : {V H : Type 0} (m : Meaning V H) (given : LinearSystem ConKind) (old : Form V H) (rs : List V) (f : Form V H)
     → FormStarts m given rs f → FormLeft m given old Join f
 left_anew {V} {H} m given old [] f e = subst (λ (x : Form V H). FormLeft m given old Join x) (sym e) tt
 left_anew {V} {H} m given old (r ∷ []) f (h, st, e) = subst (λ (x : Form V H). FormLeft m given old Join x) (sym e) (r, st)
@@ -212,17 +212,17 @@ one_below m pl g h (inr (inr (inl third))) = inr (inr (inl (refl, third.1, third
 one_below m pl g h (inr (inr (inr fourth))) = inr (inr (inr (refl, fourth.1, fourth.2, fourth.3)))
 
 -- the head with the head of a single part
-abbrev pub with_one : {V H : Type 0} → ℕ → ℕ → Listed ConKind → H → Head V H
+abbrev pub with_one : {V H : Type 0} → ℕ → ℕ → LinearSystem ConKind → H → Head V H
 with_one n c given h = record { dims = n; cap = c; given = given; form = one h }
 
 -- the join of next's parts isn't in the single part's head
-out_of_one : {V H : Type 0} (m : Meaning V H) → Laws m → PlainLaws m → (n c : ℕ) (given : Listed ConKind) (g : H)
+out_of_one : {V H : Type 0} (m : Meaning V H) → Laws m → PlainLaws m → (n c : ℕ) (given : LinearSystem ConKind) (g : H)
     (next : Parts V) (mode : Mode) (k : V) → mode ≢ Join → Merges m next.parts k → m.answers g k mode No
     → HeadAnswers m (with_one n c given g) next mode No
 out_of_one m l pl n c given g next mode k w merged out =
     λ st. l.answers_no g k mode out (merge_stays m pl g next.parts k mode merged (each_stays m g next.parts mode w st.1))
 
-one_flagged : {V H : Type 0} (m : Meaning V H) → Laws m → PlainLaws m → (n c : ℕ) (given : Listed ConKind) (g h : H)
+one_flagged : {V H : Type 0} (m : Meaning V H) → Laws m → PlainLaws m → (n c : ℕ) (given : LinearSystem ConKind) (g h : H)
     (next : Parts V) (mode : Mode) (k : V) → mode ≢ Join → Merges m next.parts k → m.head_dims g ≡ n
     → (m.answers g k mode Wide × m.given_up g mode h) ⊎ (m.answers g k mode No × m.grow_strains g k mode)
     → (HeadAnswers m (with_one n c given g) next mode Wide
@@ -237,7 +237,7 @@ one_flagged m l pl n c given g h next mode k w merged dims (inr out) = inr (
   widening_strains m (with_one n c given g) next mode w (inr (k, merged, out.1)),
 )
 
-one_covers : {V H : Type 0} (m : Meaning V H) → PlainLaws m → (n c : ℕ) (given : Listed ConKind) (g h : H)
+one_covers : {V H : Type 0} (m : Meaning V H) → PlainLaws m → (n c : ℕ) (given : LinearSystem ConKind) (g h : H)
     (next : Parts V) (mode : Mode) (e : Exactness) → mode ≢ Join → (o : OneGrew m g next.parts mode e h) → (x : Head V H)
     → HeadGrown m (with_one n c given g) next mode x → HeadCovered m x (with_one n c given h)
 one_covers {V} {H} m pl n c given g h next mode e w o x grown =
@@ -245,7 +245,7 @@ one_covers {V} {H} m pl n c given g h next mode e w o x grown =
     let same : by.0 ≡ o.join = merge_same m pl next.parts by.0 o.join by.2 o.merged in
     (grown.dims, inr (inl (by.1, h, by.4, refl, o.grew.covers by.1 (subst (λ (z : V). m.grown g z mode by.1) same by.3))))
 
-pub one_grew : {V H : Type 0} (m : Meaning V H) → Laws m → PlainLaws m → (n c : ℕ) (given : Listed ConKind) (g h : H)
+pub one_grew : {V H : Type 0} (m : Meaning V H) → Laws m → PlainLaws m → (n c : ℕ) (given : LinearSystem ConKind) (g h : H)
     (next : Parts V) (mode : Mode) (e : Exactness) → mode ≢ Join → next.dims ≡ n → m.head_dims g ≡ n
     → OneGrew m g next.parts mode e h
     → HasGrown m (with_one n c given g) next mode (grew_by e) (with_one n c given h)
@@ -272,7 +272,7 @@ one_grew m l pl n c given g h next mode e w same dims o =
       flagged = λ x. one_flagged m l pl n c given g h next mode o.join w o.merged dims (o.grew.flagged x);
     }) (λ x. one_below m pl g h o.lower)
 
-one_has_grown : {V H : Type 0} (m : Meaning V H) → Laws m → PlainLaws m → (n c : ℕ) (given : Listed ConKind) (old new : H)
+one_has_grown : {V H : Type 0} (m : Meaning V H) → Laws m → PlainLaws m → (n c : ℕ) (given : LinearSystem ConKind) (old new : H)
     (next : Parts V) (mode : Mode) (g : Grown) → mode ≢ Join → next.dims ≡ n → m.head_dims old ≡ n
     → OneAnswers m old next.parts mode (Some g) new
     → HasGrown m (with_one n c given old) next mode g (with_one n c given new)
@@ -297,7 +297,7 @@ some_or m l h mode (q ∷ qs) (inr some) = later m h mode q qs (some_or m l h mo
     later m h mode q qs (inl some) = inl (inr some)
     later m h mode q qs (inr not) = inr (λ each. not each.1)
 
-one_fails : {V H : Type 0} (m : Meaning V H) (n c : ℕ) (given : Listed ConKind) (old : H) (next : Parts V) (mode : Mode)
+one_fails : {V H : Type 0} (m : Meaning V H) (n c : ℕ) (given : LinearSystem ConKind) (old : H) (next : Parts V) (mode : Mode)
     → mode ≢ Join → MergeStrains m next.parts
     → SomePart (λ q. m.answers old q mode Wide) next.parts ⊎ ¬ EachPart (λ q. m.stays old q mode) next.parts
     → HeadAnswers m (with_one n c given old) next mode Wide
@@ -309,12 +309,12 @@ one_fails m n c given old next mode w strains (inr not) = inr (
 )
 
 -- the same head, by what it has
-head_is : {V H : Type 0} (h : Head V H) (n c : ℕ) (given : Listed ConKind) (f : Form V H) → h.dims ≡ n → h.cap ≡ c
+head_is : {V H : Type 0} (h : Head V H) (n c : ℕ) (given : LinearSystem ConKind) (f : Form V H) → h.dims ≡ n → h.cap ≡ c
     → h.given ≡ given → h.form ≡ f → h ≡ record { dims = n; cap = c; given = given; form = f }
 head_is {V} {H} h n c given f dims cap rows form =
     subst (λ (k : ℕ). h ≡ record { dims = k; cap = c; given = given; form = f }) dims
     (subst (λ (k : ℕ). h ≡ record { dims = h.dims; cap = k; given = given; form = f }) cap
-    (subst (λ (x : Listed ConKind). h ≡ record { dims = h.dims; cap = h.cap; given = x; form = f }) rows
+    (subst (λ (x : LinearSystem ConKind). h ≡ record { dims = h.dims; cap = h.cap; given = x; form = f }) rows
     (subst (λ (x : Form V H). h ≡ record { dims = h.dims; cap = h.cap; given = h.given; form = x }) form refl)))
 
 pub single_grown : {V H : Type 0} (m : Meaning V H) → Laws m → PlainLaws m → (old new : Head V H) (next : Parts V)
@@ -341,7 +341,7 @@ single_given_up {V} {H} m l old between new next mode n k p w same s dims cap ro
 -- widening: parts, not one ------------------------------------------------------------------------------------------------
 
 -- the head with parts
-abbrev pub with_parts : {V H : Type 0} → ℕ → ℕ → Listed ConKind → List V → Head V H
+abbrev pub with_parts : {V H : Type 0} → ℕ → ℕ → LinearSystem ConKind → List V → Head V H
 with_parts n c given ps = record { dims = n; cap = c; given = given; form = many ps }
 
 pub many_stays : {V H : Type 0} (m : Meaning V H) (old : Head V H) (ps : List V) (next : Parts V) (mode : Mode)
@@ -377,7 +377,7 @@ many_below m [] h n = inl (omega arith)
 many_below m (p ∷ []) h n = absurd (n refl)
 many_below m (p ∷ q ∷ ps) h n = inl (omega arith)
 
-many_one : {V H : Type 0} (m : Meaning V H) (n c : ℕ) (given : Listed ConKind) (ps : List V) (h : H) (next : Parts V)
+many_one : {V H : Type 0} (m : Meaning V H) (n c : ℕ) (given : LinearSystem ConKind) (ps : List V) (h : H) (next : Parts V)
     (mode : Mode) → mode ≢ Join → next.dims ≡ n → length ps ≢ 1 → ¬ PartsInside m.inside next.parts ps
     → BecomesOne m given ps next.parts mode (Some h)
     → HasGrown m (with_parts n c given ps) next mode (grew_by Exact) (with_one n c given h)
@@ -421,18 +421,18 @@ pub united : {V H : Type 0} (m : Meaning V H) {old new : Head V H} {ps rs qs : L
 united {V} {H} m {old} {new} {ps} {rs} {qs} {o} {h} next mode w was same fits dims cap rows form had out are is one_of =
     many_unite m old new ps h next mode w was same fits dims cap rows form
     (subst (λ (xs : List V). ¬ PartsInside m.inside next.parts xs) (parts_same rs ps (sym had ∙ was)) out)
-    (subst (λ (x : Listed ConKind). BecomesOne m x ps next.parts mode (Some h)) rows
+    (subst (λ (x : LinearSystem ConKind). BecomesOne m x ps next.parts mode (Some h)) rows
     (subst (λ (xs : List V). BecomesOne m new.given ps xs mode (Some h)) are
     (subst (λ (x : Option H). BecomesOne m new.given ps qs mode x) is one_of)))
 
-pub not_united : {V H : Type 0} (m : Meaning V H) {old new : Head V H} {given : Listed ConKind} {ps rs qs : List V} {o : Option H}
+pub not_united : {V H : Type 0} (m : Meaning V H) {old new : Head V H} {given : LinearSystem ConKind} {ps rs qs : List V} {o : Option H}
     (next : Parts V) (mode : Mode) → mode ≢ Join → old.form ≡ many ps → next.dims ≡ old.dims → HasAll m old new
     → given ≡ old.given → old.form ≡ many rs → ¬ PartsInside m.inside next.parts rs → qs ≡ next.parts → o ≡ None
     → BecomesOne m given ps qs mode o → HasGrown m old next mode (grew_by Flagged) new
 not_united {V} {H} m {old} {new} {given} {ps} {rs} {qs} {o} next mode w was same all rows had out are is one_of =
     many_strains m old new ps next mode w was same all
     (subst (λ (xs : List V). ¬ PartsInside m.inside next.parts xs) (parts_same rs ps (sym had ∙ was)) out)
-    (subst (λ (x : Listed ConKind). BecomesOne m x ps next.parts mode None) rows
+    (subst (λ (x : LinearSystem ConKind). BecomesOne m x ps next.parts mode None) rows
     (subst (λ (xs : List V). BecomesOne m given ps xs mode None) are
     (subst (λ (x : Option H). BecomesOne m given ps qs mode x) is one_of)))
 

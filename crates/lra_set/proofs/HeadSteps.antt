@@ -1,6 +1,6 @@
 -- Lemmas on the steps of the code of heads.
 use Rattle.std.proofs.Common.{◌≡◌, ◌≤◌, ◌<◌, ◌^◌, ℕ, List, length, sym, ap, subst, ◌∙◌, arith}
-use Rattle.lra_sys.specs.Listed.{Listed}
+use Rattle.lra_systems.specs.LinearSystems.{LinearSystem}
 use Rattle.lra_linear_spec.specs.declared.ConKind.{ConKind}
 use Rattle.lra_domain.specs.declared.Exactness.{Exactness}
 use Rattle.lra_domain.specs.declared.Included.{Included}
@@ -16,7 +16,7 @@ use Rattle.lra_set.specs.Forms.{FormFits, HeadFits}
 use Rattle.lra_set.proofs.HeadLemmas.{whole_fits}
 
 -- the head of a head that fits, given up, fits
-pub fits_whole : {V H : Type 0} (m : Meaning V H) → PlainLaws m → (n c : ℕ) (given : Listed ConKind) (f : Form V H) (p : V) (cap : ℕ)
+pub fits_whole : {V H : Type 0} (m : Meaning V H) → PlainLaws m → (n c : ℕ) (given : LinearSystem ConKind) (f : Form V H) (p : V) (cap : ℕ)
     → HeadFits m (record { dims = n; cap = c; given = given; form = f }) → m.formed p → m.universal n cap p → m.dims p ≡ n
     → HeadFits m (record { dims = n; cap = c; given = given; form = whole p })
 fits_whole m pl n c given f p cap fits fine all dims = record {
@@ -27,13 +27,13 @@ fits_whole m pl n c given f p cap fits fine all dims = record {
   form = whole_fits m pl n cap p fine all dims;
 }
 
-pub fits_whole_as : {V H : Type 0} (m : Meaning V H) → PlainLaws m → (n i c : ℕ) (given : Listed ConKind) (f : Form V H) (p : V)
+pub fits_whole_as : {V H : Type 0} (m : Meaning V H) → PlainLaws m → (n i c : ℕ) (given : LinearSystem ConKind) (f : Form V H) (p : V)
     (cap : ℕ) → HeadFits m (record { dims = n; cap = c; given = given; form = f }) → i ≡ n → m.formed p → m.universal i cap p → m.dims p ≡ i
     → HeadFits m (record { dims = n; cap = c; given = given; form = whole p })
 fits_whole_as m pl n i c given f p cap fits same fine all dims =
     fits_whole m pl n c given f p cap fits fine (subst (λ (k : ℕ). m.universal k cap p) same all) (dims ∙ same)
 
-pub fits_one : {V H : Type 0} (m : Meaning V H) (n c : ℕ) (given : Listed ConKind) (f : Form V H) (h : H)
+pub fits_one : {V H : Type 0} (m : Meaning V H) (n c : ℕ) (given : LinearSystem ConKind) (f : Form V H) (h : H)
     → HeadFits m (record { dims = n; cap = c; given = given; form = f }) → m.head_dims h ≡ n → RankFits (m.rank h)
     → m.head_formed h → HeadFits m (record { dims = n; cap = c; given = given; form = one h })
 fits_one m n c given f h fits dims rank fine =
@@ -48,22 +48,22 @@ told_lists {V} m qs rs ps zs i k e d f t = subst
     (subst (λ (xs : List V). Told (PartsInside m.inside xs zs) (AreUndecided m xs zs) i) e
     (subst (λ (xs : List V). Told (PartsInside m.inside qs xs) (AreUndecided m qs xs) i) d t))
 
-pub anew_as : {V H : Type 0} (m : Meaning V H) (given rows : Listed ConKind) (n k c d : ℕ) (ps qs rs : List V) (e : Exactness)
+pub anew_as : {V H : Type 0} (m : Meaning V H) (given rows : LinearSystem ConKind) (n k c d : ℕ) (ps qs rs : List V) (e : Exactness)
     (f : Form V H) → given ≡ rows → n ≡ k → c ≡ d → qs ≡ rs → StartsAnew m given n c ps qs e f
     → StartsAnew m rows k d ps rs e f
 anew_as {V} m given rows n k c d ps qs rs e f rows_is dims_is cap_is parts_is t =
     subst (λ (xs : List V). StartsAnew m rows k d ps xs e f) parts_is (subst (λ (x : ℕ). StartsAnew m rows k x ps qs e f) cap_is
     (subst (λ (x : ℕ). StartsAnew m rows x c ps qs e f) dims_is
-    (subst (λ (x : Listed ConKind). StartsAnew m x n c ps qs e f) rows_is t)))
+    (subst (λ (x : LinearSystem ConKind). StartsAnew m x n c ps qs e f) rows_is t)))
 
-pub starts_as : {V H : Type 0} (m : Meaning V H) (given : Listed ConKind) (ps qs : List V) (f : Form V H) → ps ≡ qs
+pub starts_as : {V H : Type 0} (m : Meaning V H) (given : LinearSystem ConKind) (ps qs : List V) (f : Form V H) → ps ≡ qs
     → FormStarts m given ps f → FormStarts m given qs f
 starts_as {V} m given ps qs f e t = subst (λ (xs : List V). FormStarts m given xs f) e t
 
 pub form_fits_as : {V H : Type 0} (m : Meaning V H) (n k c : ℕ) (f : Form V H) → n ≡ k → FormFits m n c f → FormFits m k c f
 form_fits_as m n k c f e t = subst (λ (x : ℕ). FormFits m x c f) e t
 
-pub fits_anew : {V H : Type 0} (m : Meaning V H) (n c : ℕ) (given : Listed ConKind) (f g : Form V H)
+pub fits_anew : {V H : Type 0} (m : Meaning V H) (n c : ℕ) (given : LinearSystem ConKind) (f g : Form V H)
     → HeadFits m (record { dims = n; cap = c; given = given; form = f }) → FormFits m given.dims c g
     → HeadFits m (record { dims = n; cap = c; given = given; form = g })
 fits_anew m n c given f g fits form = record {
@@ -75,7 +75,7 @@ fits_anew m n c given f g fits form = record {
 }
 
 -- the head that starts with a set fits
-pub fits_starts : {V H : Type 0} (m : Meaning V H) {n k c d : ℕ} {given rows : Listed ConKind} {ps qs : List V} {f : Form V H}
+pub fits_starts : {V H : Type 0} (m : Meaning V H) {n k c d : ℕ} {given rows : LinearSystem ConKind} {ps qs : List V} {f : Form V H}
     → n ≡ k → c ≡ d → rows ≡ given → given.dims ≡ k → qs ≡ ps → k ≤ 2 ^ 30 → 1 ≤ c → c < 2 ^ 32 → length ps ≤ d
     → ((cap : ℕ) → length qs ≤ cap → FormFits m given.dims cap f)
     → HeadFits m (record { dims = n; cap = c; given = rows; form = f })
@@ -83,6 +83,6 @@ fits_starts m {n} {k} {c} {d} {given} {rows} {ps} {qs} {f} dims cap rows_is same
   small = omega (arith, dims, small);
   some = some;
   few = few;
-  rows = ap (λ (x : Listed ConKind). x.dims) rows_is ∙ same ∙ sym dims;
+  rows = ap (λ (x : LinearSystem ConKind). x.dims) rows_is ∙ same ∙ sym dims;
   form = form_fits_as m given.dims n c f (same ∙ sym dims) (fits c (omega (arith, cap, less, ap length parts)));
 }

@@ -4,7 +4,7 @@ use Rattle.std.proofs.Common.{subst, ◌∙◌, inl, inr, arith}
 use Rattle.std.proofs.lemmas.List.Elements.{All-append}
 use Rattle.std.specs.Prelude.{flat_map}
 use Rattle.std.specs.List.{All}
-use Rattle.lra_sys.specs.Listed.{Listed}
+use Rattle.lra_systems.specs.LinearSystems.{LinearSystem}
 use Rattle.lra_linear_spec.specs.declared.ConKind.{ConKind}
 use Rattle.lra_domain.specs.declared.Exactness.{Exactness}
 use Rattle.lra_domain.specs.Actions.{Action, dims_after, Within}
@@ -91,7 +91,7 @@ join_joins {V} m one two new e all same dims cap is fit settled = set_joins m on
     (subst (λ (xs : List V). IsSettled m one.dims one.cap xs e new.parts) is (settled one.dims fit))
 
 -- a head that starts anew
-pub anew_starts : {V H : Type 0} (m : Meaning V H) (given : Listed ConKind) (n cap : ℕ) (ps qs all rs : List V) (e : Exactness)
+pub anew_starts : {V H : Type 0} (m : Meaning V H) (given : LinearSystem ConKind) (n cap : ℕ) (ps qs all rs : List V) (e : Exactness)
     (f : Form V H) → all ≡ ps ++ qs → EachPart (PartFits m n) all
     → ((k : ℕ) → EachPart (PartFits m k) all → IsSettled m k cap all e rs) → FormStarts m given rs f
     → StartsAnew m given n cap ps qs e f
@@ -100,22 +100,22 @@ anew_starts {V} m given n cap ps qs all rs e f is fit settled starts =
 
 -- the rows that mean the parts --------------------------------------------------------------------------------------------
 
-holds_left : (ps qs : List (Listed ConKind)) (s : List ℤ) → SomePartHolds ps s → SomePartHolds (ps ++ qs) s
+holds_left : (ps qs : List (LinearSystem ConKind)) (s : List ℤ) → SomePartHolds ps s → SomePartHolds (ps ++ qs) s
 holds_left [] qs s h = absurd h
 holds_left (p ∷ ps) qs s (inl h) = inl h
 holds_left (p ∷ ps) qs s (inr h) = inr (holds_left ps qs s h)
 
-holds_right : (ps qs : List (Listed ConKind)) (s : List ℤ) → SomePartHolds qs s → SomePartHolds (ps ++ qs) s
+holds_right : (ps qs : List (LinearSystem ConKind)) (s : List ℤ) → SomePartHolds qs s → SomePartHolds (ps ++ qs) s
 holds_right [] qs s h = h
 holds_right (p ∷ ps) qs s h = inr (holds_right ps qs s h)
 
-holds_split : (ps qs : List (Listed ConKind)) (s : List ℤ) → SomePartHolds (ps ++ qs) s
+holds_split : (ps qs : List (LinearSystem ConKind)) (s : List ℤ) → SomePartHolds (ps ++ qs) s
     → SomePartHolds ps s ⊎ SomePartHolds qs s
 holds_split [] qs s h = inr h
 holds_split (p ∷ ps) qs s (inl h) = inl (inl h)
 holds_split (p ∷ ps) qs s (inr h) = after p ps qs s (holds_split ps qs s h)
   where
-    after : (p : Listed ConKind) (ps qs : List (Listed ConKind)) (s : List ℤ) → SomePartHolds ps s ⊎ SomePartHolds qs s
+    after : (p : LinearSystem ConKind) (ps qs : List (LinearSystem ConKind)) (s : List ℤ) → SomePartHolds ps s ⊎ SomePartHolds qs s
         → SomePartHolds (p ∷ ps) s ⊎ SomePartHolds qs s
     after p ps qs s (inl h) = inl (inr h)
     after p ps qs s (inr h) = inr h
@@ -145,10 +145,10 @@ rows_tell : {V H : Type 0} (m : Meaning V H) (p : V) (later : List V) (s : List 
 rows_tell m p later s one more (inl h) = inl (one h)
 rows_tell m p later s one more (inr h) = inr (more h)
 
-pub more_hold : {V H : Type 0} (m : Meaning V H) (ps : List V) (p : V) (later : List V) (rows : List (Listed ConKind))
+pub more_hold : {V H : Type 0} (m : Meaning V H) (ps : List V) (p : V) (later : List V) (rows : List (LinearSystem ConKind))
     → ps ≡ p ∷ later → rows ≡ m.parts p → ((s : List ℤ) → m.has p s → SomePartHolds rows s) → RowsHold m later → RowsHold m ps
 more_hold {V} m ps p later rows cut is one more = subst (λ (xs : List V). RowsHold m xs) (sym cut)
-    (λ s h. rows_hold m p later s (subst (λ (r : List (Listed ConKind)). m.has p s → SomePartHolds r s) is (one s)) (more s) h)
+    (λ s h. rows_hold m p later s (subst (λ (r : List (LinearSystem ConKind)). m.has p s → SomePartHolds r s) is (one s)) (more s) h)
 
 pub more_tell : {V H : Type 0} (m : Meaning V H) (ps : List V) (p : V) (later : List V) → ps ≡ p ∷ later → PartsTell m p
     → RowsTell m later → RowsTell m ps
@@ -156,15 +156,15 @@ more_tell {V} m ps p later cut one more = subst (λ (xs : List V). RowsTell m xs
     (λ n all s long h. rows_tell m p later s (λ own. one s (long ∙ sym all.0) own) (λ others. more n all.1 s long others)
     (holds_split (m.parts p) (flat_map m.parts later) s h))
 
-each_both : (n : ℕ) (xs ys : List (Listed ConKind)) → All (λ p. p.dims ≡ n) xs → All (λ p. p.dims ≡ n) ys
+each_both : (n : ℕ) (xs ys : List (LinearSystem ConKind)) → All (λ p. p.dims ≡ n) xs → All (λ p. p.dims ≡ n) ys
     → All (λ p. p.dims ≡ n) (xs ++ ys)
-each_both n xs ys a b = All-append (λ (p : Listed ConKind). p.dims ≡ n) xs ys a b
+each_both n xs ys a b = All-append (λ (p : LinearSystem ConKind). p.dims ≡ n) xs ys a b
 
-pub more_fit : {V H : Type 0} (m : Meaning V H) (ps : List V) (p : V) (later : List V) (rows : List (Listed ConKind))
+pub more_fit : {V H : Type 0} (m : Meaning V H) (ps : List V) (p : V) (later : List V) (rows : List (LinearSystem ConKind))
     → ps ≡ p ∷ later → rows ≡ m.parts p → All (λ r. r.dims ≡ m.dims p) rows → RowsFit m later → RowsFit m ps
 more_fit {V} m ps p later rows cut is one more = subst (λ (xs : List V). RowsFit m xs) (sym cut)
     (λ n all. each_both n (m.parts p) (flat_map m.parts later)
-    (subst (λ (r : List (Listed ConKind)). All (λ x. x.dims ≡ n) r) is
+    (subst (λ (r : List (LinearSystem ConKind)). All (λ x. x.dims ≡ n) r) is
     (subst (λ (k : ℕ). All (λ x. x.dims ≡ k) rows) all.0 one)) (more n all.1))
 
 pub change_fits : (change : Change) (n k : ℕ) → n ≡ k → ChangeFits change n → ChangeFits change k
@@ -194,20 +194,20 @@ pub joined_fit : {V H : Type 0} (m : Meaning V H) (n i k : ℕ) (ps qs xs ys all
 joined_fit m n i k ps qs xs ys all own others is first second a b =
     both_fit m n k ps qs all own (joined_lists xs ys all ps qs is first second) a (others_fit m i k qs qs others refl b)
 
-all_rows : {V H : Type 0} (m : Meaning V H) (ps : List V) (none all : List (Listed ConKind)) → none ≡ []
+all_rows : {V H : Type 0} (m : Meaning V H) (ps : List V) (none all : List (LinearSystem ConKind)) → none ≡ []
     → all ≡ none ++ flat_map m.parts ps → all ≡ flat_map m.parts ps
-all_rows m ps none all e d = d ∙ ap (λ (rows : List (Listed ConKind)). rows ++ flat_map m.parts ps) e
+all_rows m ps none all e d = d ∙ ap (λ (rows : List (LinearSystem ConKind)). rows ++ flat_map m.parts ps) e
 
-pub set_rows_fit : {V H : Type 0} (m : Meaning V H) (n k : ℕ) (ps : List V) (none all : List (Listed ConKind)) → n ≡ k
+pub set_rows_fit : {V H : Type 0} (m : Meaning V H) (n k : ℕ) (ps : List V) (none all : List (LinearSystem ConKind)) → n ≡ k
     → none ≡ [] → all ≡ none ++ flat_map m.parts ps → RowsFit m ps → HaveDims m n ps → All (λ p. p.dims ≡ k) all
 set_rows_fit m n k ps none all same e d fit dims =
-    subst (λ (rows : List (Listed ConKind)). All (λ p. p.dims ≡ k) rows) (sym (all_rows m ps none all e d))
+    subst (λ (rows : List (LinearSystem ConKind)). All (λ p. p.dims ≡ k) rows) (sym (all_rows m ps none all e d))
     (subst (λ (i : ℕ). All (λ p. p.dims ≡ i) (flat_map m.parts ps)) same (fit n dims))
 
-pub set_hold : {V H : Type 0} (m : Meaning V H) (v : Parts V) (ps : List V) (none all : List (Listed ConKind)) → ps ≡ v.parts
+pub set_hold : {V H : Type 0} (m : Meaning V H) (v : Parts V) (ps : List V) (none all : List (LinearSystem ConKind)) → ps ≡ v.parts
     → none ≡ [] → all ≡ none ++ flat_map m.parts ps → RowsHold m ps → (s : List ℤ) → SetHas m v s → SomePartHolds all s
 set_hold {V} m v ps none all own e d hold s has =
-    subst (λ (xs : List (Listed ConKind)). SomePartHolds xs s) (sym (all_rows m ps none all e d))
+    subst (λ (xs : List (LinearSystem ConKind)). SomePartHolds xs s) (sym (all_rows m ps none all e d))
     (hold s (subst (λ (xs : List V). SomePart (λ p. m.has p s) xs) (sym own) has.1))
 
 pub set_tell : {V H : Type 0} (m : Meaning V H) (v : Parts V) (n : ℕ) (ps : List V) → n ≡ v.dims → ps ≡ v.parts → RowsTell m ps

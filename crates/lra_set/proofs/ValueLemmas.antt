@@ -1,7 +1,7 @@
 -- Lemmas on the values of heads, their ranks and how many parts they have.
 use Rattle.std.proofs.Common.{◌≡◌, ℕ, zero, suc, ◌≤◌, ◌<◌, ◌^◌, List, [], ◌∷◌, length, refl, ap, sym}
 use Rattle.std.proofs.Common.{subst, ◌∙◌, inl, arith}
-use Rattle.lra_sys.specs.Listed.{Listed}
+use Rattle.lra_systems.specs.LinearSystems.{LinearSystem}
 use Rattle.lra_linear_spec.specs.declared.ConKind.{ConKind}
 use Rattle.lra_domain.specs.declared.Exactness.{Exactness}
 use Rattle.lra_domain.specs.declared.Exactness.TheVariants.{Exact}
@@ -139,7 +139,7 @@ whole_fit {V} {H} m n cap f p q ps form same is some fits =
 
 -- heads that start, ranks and caps ----------------------------------------------------------------------------------------
 
-pub set_starts : {V H : Type 0} (m : Meaning V H) → Laws m → PlainLaws m → (first : Parts V) (given : Listed ConKind)
+pub set_starts : {V H : Type 0} (m : Meaning V H) → Laws m → PlainLaws m → (first : Parts V) (given : LinearSystem ConKind)
     (h : Head V H) → HeadFits m h → h.dims ≡ first.dims → h.cap ≡ first.cap → h.given ≡ given → FormStarts m given first.parts h.form
     → Starts (set_meaning m) first given h
 set_starts m l pl first given h fits dims cap rows starts = record {

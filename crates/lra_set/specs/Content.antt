@@ -1,6 +1,6 @@
 -- What sets of parts and their heads hold.
 use Rattle.std.specs.Prelude.{◌≡◌, ◌≢◌, ℕ, List, [], ◌∷◌}
-use Rattle.lra_sys.specs.Listed.{Listed}
+use Rattle.lra_systems.specs.LinearSystems.{LinearSystem}
 use Rattle.lra_linear_spec.specs.declared.ConKind.{ConKind}
 use Rattle.lra_domain.specs.Meaning.{Meaning}
 
@@ -21,7 +21,7 @@ pub data Form (V H : Type 0) : Type 0 where
 pub record Head (V H : Type 0) : Type 0 where
   pub dims : ℕ
   pub cap : ℕ
-  pub given : Listed ConKind
+  pub given : LinearSystem ConKind
   pub form : Form V H
 
 -- the part isn't empty: it has rows to be printed

@@ -1,6 +1,6 @@
 -- What the steps of a head's growth leave, for the contracts of the code.
 use Rattle.std.specs.Prelude.{◌≡◌, ◌≢◌, ℕ, ℤ, Bool, true, false, List, [], ◌∷◌, ◌++◌, Option, Some, None, ◌⊎◌}
-use Rattle.lra_sys.specs.Listed.{Listed}
+use Rattle.lra_systems.specs.LinearSystems.{LinearSystem}
 use Rattle.lra_linear_spec.specs.declared.ConKind.{ConKind}
 use Rattle.lra_domain.specs.declared.Exactness.{Exactness}
 use Rattle.lra_domain.specs.declared.Included.{Included}
@@ -26,12 +26,13 @@ MergesExactly m ps None = MergeStrains m ps
 MergesExactly m ps (Some j) = Merges m ps j × EachPart (λ p. m.covered p j) ps × m.formed j
 
 -- next's parts come in, and the head starts anew
-abbrev pub StartsAnew : {V H : Type 0} → Meaning V H → Listed ConKind → ℕ → ℕ → List V → List V → Exactness → Form V H
+abbrev pub StartsAnew : {V H : Type 0} → Meaning V H → LinearSystem ConKind → ℕ → ℕ → List V → List V → Exactness →
+    Form V H
     → Type 0
 StartsAnew {V} m given n cap ps qs e f = (rs : List V) × IsSettled m n cap (ps ++ qs) e rs × FormStarts m given rs f
 
 -- the head that started with the join of the parts grew by the other, without loss; or something strains
-abbrev pub StartsAndGrows : {V H : Type 0} → Meaning V H → Listed ConKind → List V → V → Mode → Option H → Type 0
+abbrev pub StartsAndGrows : {V H : Type 0} → Meaning V H → LinearSystem ConKind → List V → V → Mode → Option H → Type 0
 StartsAndGrows {V} {H} m given ps k mode None = MergeStrains m ps
     ⊎ ((j : V) × (g : H) × Merges m ps j × m.started j given g × GrowthStrains m g k mode)
 StartsAndGrows {V} {H} m given ps k mode (Some h) = (j : V) × (g : H)
@@ -41,7 +42,7 @@ StartsAndGrows {V} {H} m given ps k mode (Some h) = (j : V) × (g : H)
     × ((s : List ℤ) → m.has k s → m.head_has h s)
 
 -- parts, not one, became one by joins without loss, which grew without loss; or something strains
-abbrev pub BecomesOne : {V H : Type 0} → Meaning V H → Listed ConKind → List V → List V → Mode → Option H → Type 0
+abbrev pub BecomesOne : {V H : Type 0} → Meaning V H → LinearSystem ConKind → List V → List V → Mode → Option H → Type 0
 BecomesOne m given ps qs mode None = WidenStrains m given (many ps) qs mode
 BecomesOne {V} {H} m given ps qs mode (Some h) =
     Widens m given (many ps) qs mode (one h)

@@ -1,6 +1,6 @@
 -- The heads of sets of parts.
 use Rattle.std.specs.Prelude.{◌≡◌, ◌≤◌, ℕ, zero, suc, ℤ, List, [], ◌∷◌, ◌++◌, length, ◌⊎◌}
-use Rattle.lra_sys.specs.Listed.{Listed}
+use Rattle.lra_systems.specs.LinearSystems.{LinearSystem}
 use Rattle.lra_linear_spec.specs.declared.ConKind.{ConKind}
 use Rattle.lra_domain.specs.declared.Mode.{Mode}
 use Rattle.lra_domain.specs.declared.Mode.TheVariants.{Join, Widen, Limited, Tightest}
@@ -50,12 +50,12 @@ form_rank m (whole p) = record { first = 0; second = 0; third = 0; fourth = 0 }
 -- from values to heads and back -------------------------------------------------------------------
 
 -- a single part becomes a head of its own
-abbrev pub FormStarts : {V H : Type 0} → Meaning V H → Listed ConKind → List V → Form V H → Type 0
+abbrev pub FormStarts : {V H : Type 0} → Meaning V H → LinearSystem ConKind → List V → Form V H → Type 0
 FormStarts m given [] f = f ≡ many []
 FormStarts {V} {H} m given (p ∷ []) f = (h : H) × m.started p given h × (f ≡ one h)
 FormStarts m given (p ∷ q ∷ ps) f = f ≡ many (p ∷ q ∷ ps)
 
-pub record HeadStarts {V H : Type 0} (m : Meaning V H) (first : Parts V) (given : Listed ConKind) (h : Head V H)
+pub record HeadStarts {V H : Type 0} (m : Meaning V H) (first : Parts V) (given : LinearSystem ConKind) (h : Head V H)
     : Type 0 where
   pub dims : h.dims ≡ first.dims
   pub cap : h.cap ≡ first.cap
@@ -122,7 +122,7 @@ GrowsBy m g k mode h = (m.stays g k mode × (h ≡ g)) ⊎ ((¬ m.stays g k mode
 
 -- outside joining, a head that isn't one part first becomes one, the join of its parts in order (without parts, that of
 -- next's); that part then grows by the join of next's parts in order
-abbrev pub Widens : {V H : Type 0} → Meaning V H → Listed ConKind → Form V H → List V → Mode → Form V H → Type 0
+abbrev pub Widens : {V H : Type 0} → Meaning V H → LinearSystem ConKind → Form V H → List V → Mode → Form V H → Type 0
 Widens {V} {H} m given (many []) qs mode f = (k : V) × (h : H) × Merges m qs k × m.started k given h × (f ≡ one h)
 Widens {V} {H} m given (many (p ∷ ps)) qs mode f = (j k : V) × (g h : H)
     × JoinsOn m p ps j × m.started j given g × Merges m qs k × GrowsBy m g k mode h × (f ≡ one h)
@@ -130,7 +130,7 @@ Widens {V} {H} m given (one g) qs mode f = (k : V) × (h : H) × Merges m qs k �
 Widens m given (whole p) qs mode f = f ≡ whole p
 
 -- in joining it becomes the set's join with next
-abbrev pub JoinsWith : {V H : Type 0} → Meaning V H → ℕ → Listed ConKind → Form V H → List V → Form V H → Type 0
+abbrev pub JoinsWith : {V H : Type 0} → Meaning V H → ℕ → LinearSystem ConKind → Form V H → List V → Form V H → Type 0
 JoinsWith {V} m cap given old qs f = (ps rs : List V) × (joins : ℕ)
     × FormValued m old ps × Settles m cap joins (ps ++ qs) rs × FormStarts m given rs f
 
@@ -148,7 +148,7 @@ pub record HeadGrown {V H : Type 0} (m : Meaning V H) (old : Head V H) (next : P
   pub form : FormGrown m old next.parts mode new.form
 
 -- a join of parts strains, or the growth of the single part
-abbrev pub WidenStrains : {V H : Type 0} → Meaning V H → Listed ConKind → Form V H → List V → Mode → Type 0
+abbrev pub WidenStrains : {V H : Type 0} → Meaning V H → LinearSystem ConKind → Form V H → List V → Mode → Type 0
 WidenStrains m given (many []) qs mode = MergeStrains m qs
 WidenStrains {V} {H} m given (many (p ∷ ps)) qs mode =
     JoinsOnStrains m p ps
@@ -180,13 +180,13 @@ pub record HeadGivenUp {V H : Type 0} (m : Meaning V H) (old : Head V H) (mode :
 -- the given rows that are left ---------------------------------------------------------------------
 
 -- parts that become one start with all given rows, and grow without loss
-abbrev pub BeginsAsOne : {V H : Type 0} → Meaning V H → Listed ConKind → Mode → H → Type 0
+abbrev pub BeginsAsOne : {V H : Type 0} → Meaning V H → LinearSystem ConKind → Mode → H → Type 0
 BeginsAsOne {V} {H} m given mode h =
     (p : V) × (g : H) × m.started p given g × ((h ≡ g) ⊎ ((k : V) × m.grown g k mode h))
 
 -- In joining the head starts anew with its given rows, or is given up. Outside joining they are left as the single
 -- part's head leaves them.
-abbrev pub FormLeft : {V H : Type 0} → Meaning V H → Listed ConKind → Form V H → Mode → Form V H → Type 0
+abbrev pub FormLeft : {V H : Type 0} → Meaning V H → LinearSystem ConKind → Form V H → Mode → Form V H → Type 0
 FormLeft {V} m given old Join (one h) = (p : V) × m.started p given h
 FormLeft m given (one g) Widen (one h) = m.left g Widen h
 FormLeft m given (one g) Limited (one h) = m.left g Limited h
@@ -206,7 +206,7 @@ abbrev pub FormCovered : {V H : Type 0} → Meaning V H → Form V H → Form V 
 FormCovered {V} {H} m f g =
     ((p : V) × (g ≡ whole p))
     ⊎ (((h k : H) × (f ≡ one h) × (g ≡ one k) × m.head_covered h k)
-    ⊎ ((ps qs : List V) × (a b : Listed ConKind)
+    ⊎ ((ps qs : List V) × (a b : LinearSystem ConKind)
     × FormStarts m a ps f × FormStarts m b qs g × PartsInside m.covered ps qs))
 
 abbrev pub HeadCovered : {V H : Type 0} → Meaning V H → Head V H → Head V H → Type 0

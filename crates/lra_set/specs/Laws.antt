@@ -4,13 +4,13 @@ use Rattle.std.proofs.Common.{subst}
 use Rattle.std.proofs.Common.{◌∙◌, inl, inr, arith, length-append}
 use Rattle.std.specs.Prelude.{flat_map}
 use Rattle.std.proofs.lemmas.Int.{ints, clamps}
-use Rattle.lra_sys.specs.Listed.{Listed}
+use Rattle.lra_systems.specs.LinearSystems.{LinearSystem}
 use Rattle.lra_linear_spec.specs.declared.ConKind.{ConKind}
 use Rattle.lra_domain.specs.declared.Mode.{Mode}
 use Rattle.lra_domain.specs.declared.Mode.TheVariants.{Join, Widen, Limited, Tightest}
 use Rattle.lra_domain.specs.Actions.{Action, Leads, Within, dims_after}
 use Rattle.lra_domain.specs.Bounds.{IsLowerBound, IsBetween, IsUpperBound, greater, lesser_low}
-use Rattle.lra_lin.specs.Form.{Form as Linear, form_value}
+use Rattle.lra_linear_forms.specs.Form.{Form as Linear, form_value}
 use Rattle.lra_domain.specs.Meaning.{Meaning}
 use Rattle.lra_domain.specs.Laws.{Laws, PlainLaws}
 use Rattle.lra_set.specs.Lists.{EachPart, PartByPart, SomePart}
@@ -78,7 +78,7 @@ pub filled_formed : {V H : Type 0} (m : Meaning V H) (ps : List V) → EachPart 
 filled_formed m [] f = tt
 filled_formed {V} {H} m (p ∷ ps) f = by_rows (m.parts p) (filled_formed m ps f.1)
   where
-    by_rows : (rows : List (Listed ConKind)) → EachPart m.formed (filled m ps)
+    by_rows : (rows : List (LinearSystem ConKind)) → EachPart m.formed (filled m ps)
         → EachPart m.formed (with_filled rows p (filled m ps))
     by_rows [] rest = rest
     by_rows (r ∷ rows) rest = (f.0, rest)
@@ -88,13 +88,13 @@ pub filled_has : {V H : Type 0} (m : Meaning V H) → Laws m → (ps : List V) �
 filled_has m l [] f s h = absurd h
 filled_has {V} {H} m l (p ∷ ps) f s (inl h) = by_rows (m.parts p) refl
   where
-    by_rows : (rows : List (Listed ConKind)) → m.parts p ≡ rows
+    by_rows : (rows : List (LinearSystem ConKind)) → m.parts p ≡ rows
         → SomePart (λ q. m.has q s) (with_filled rows p (filled m ps))
     by_rows [] e = absurd (l.partless p f.0 e s h)
     by_rows (r ∷ rows) e = inl h
 filled_has {V} {H} m l (p ∷ ps) f s (inr h) = by_rows (m.parts p) (filled_has m l ps f.1 s h)
   where
-    by_rows : (rows : List (Listed ConKind)) → SomePart (λ q. m.has q s) (filled m ps)
+    by_rows : (rows : List (LinearSystem ConKind)) → SomePart (λ q. m.has q s) (filled m ps)
         → SomePart (λ q. m.has q s) (with_filled rows p (filled m ps))
     by_rows [] rest = rest
     by_rows (r ∷ rows) rest = inr rest
@@ -194,7 +194,8 @@ form_fine m n cap (one h) fit = fit.2
 form_fine m n cap (whole p) fit = fit.1.formed
 
 -- the parts with which a formed head starts are formed
-started_fine : {V H : Type 0} (m : Meaning V H) → PlainLaws m → (given : Listed ConKind) (ps : List V) (f : Form V H)
+started_fine : {V H : Type 0} (m : Meaning V H) → PlainLaws m →
+    (given : LinearSystem ConKind) (ps : List V) (f : Form V H)
     → FormStarts m given ps f → FormFine m f → EachPart m.formed ps
 started_fine m pl given [] f e fine = tt
 started_fine {V} {H} m pl given (p ∷ []) f (h, st, e) fine =
@@ -202,7 +203,7 @@ started_fine {V} {H} m pl given (p ∷ []) f (h, st, e) fine =
 started_fine {V} {H} m pl given (p ∷ q ∷ ps) f e fine = subst (λ (g : Form V H). FormFine m g) e fine
 
 -- a head that starts with parts has their stores, and no others
-pub started_has : {V H : Type 0} (m : Meaning V H) → Laws m → PlainLaws m → (given : Listed ConKind) (ps : List V)
+pub started_has : {V H : Type 0} (m : Meaning V H) → Laws m → PlainLaws m → (given : LinearSystem ConKind) (ps : List V)
     (f : Form V H) → FormStarts m given ps f → FormFine m f → (s : List ℤ) → SomePart (λ p. m.has p s) ps
     → FormHas m f s
 started_has m l pl given [] f e fine s h = absurd h
@@ -213,7 +214,7 @@ started_has {V} {H} m l pl given (p ∷ []) f (h, st, e) fine s (inl has) =
 started_has m l pl given (p ∷ []) f (h, st, e) fine s (inr none) = absurd none
 started_has {V} {H} m l pl given (p ∷ q ∷ ps) f e fine s h = subst (λ (g : Form V H). FormHas m g s) (sym e) h
 
-pub has_started : {V H : Type 0} (m : Meaning V H) → PlainLaws m → (given : Listed ConKind) (ps : List V)
+pub has_started : {V H : Type 0} (m : Meaning V H) → PlainLaws m → (given : LinearSystem ConKind) (ps : List V)
     (f : Form V H) → FormStarts m given ps f → (s : List ℤ) → FormHas m f s → SomePart (λ p. m.has p s) ps
 has_started {V} {H} m pl given [] f e s h = subst (λ (g : Form V H). FormHas m g s) e h
 has_started {V} {H} m pl given (p ∷ []) f (h, st, e) s own =

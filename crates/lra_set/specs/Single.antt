@@ -1,7 +1,7 @@
 -- Each definition of sets of parts allows one thing, if those of their parts do.
 use Rattle.std.proofs.Common.{◌≡◌, ◌∙◌, ℕ, zero, suc, List, [], ◌∷◌, ◌++◌, length, inl, inr, refl, sym, ap, subst}
 use Rattle.std.proofs.Common.{arith}
-use Rattle.lra_sys.specs.Listed.{Listed}
+use Rattle.lra_systems.specs.LinearSystems.{LinearSystem}
 use Rattle.lra_linear_spec.specs.declared.ConKind.{ConKind}
 use Rattle.lra_domain.specs.declared.Mode.{Mode}
 use Rattle.lra_domain.specs.declared.Mode.TheVariants.{Join, Widen, Limited, Tightest}
@@ -104,7 +104,7 @@ one_settled {V} m l cap (suc i) (suc j) ps vs ws f g =
 -- heads -------------------------------------------------------------------------------------------
 
 one_form_started : {V H : Type 0} (m : Meaning V H) → SingleLaws m
-    → (given : Listed ConKind) (ps : List V) (f g : Form V H)
+    → (given : LinearSystem ConKind) (ps : List V) (f g : Form V H)
     → FormStarts m given ps f → FormStarts m given ps g → f ≡ g
 one_form_started m l given [] f g a b = a ∙ sym b
 one_form_started m l given (p ∷ []) f g a b = a.2 ∙ ap one (l.one_started p given a.0 b.0 a.1 b.1) ∙ sym b.2
@@ -127,7 +127,7 @@ one_grown_by m l g k mode h i (inr a) (inl b) = absurd (a.0 b.0)
 one_grown_by m l g k mode h i (inr a) (inr b) = l.one_grown g k mode h i a.1 b.1
 
 one_widened : {V H : Type 0} (m : Meaning V H) → SingleLaws m
-    → (given : Listed ConKind) (old : Form V H) (qs : List V) (mode : Mode)
+    → (given : LinearSystem ConKind) (old : Form V H) (qs : List V) (mode : Mode)
     (f g : Form V H) → Widens m given old qs mode f → Widens m given old qs mode g → f ≡ g
 one_widened {V} m l given (many []) qs mode f g a b =
     let merged = one_merged m l qs b.0 a.0 b.2 a.2 in
@@ -147,7 +147,7 @@ one_widened {V} m l given (one h) qs mode f g a b =
 one_widened m l given (whole p) qs mode f g a b = a ∙ sym b
 
 one_joined_with : {V H : Type 0} (m : Meaning V H) → SingleLaws m
-    → (cap : ℕ) (given : Listed ConKind) (old : Form V H) (qs : List V)
+    → (cap : ℕ) (given : LinearSystem ConKind) (old : Form V H) (qs : List V)
     (f g : Form V H) → JoinsWith m cap given old qs f → JoinsWith m cap given old qs g → f ≡ g
 one_joined_with {V} m l cap given old qs f g a b =
     let valued = one_form_valued m l old b.0 a.0 b.3 a.3 in
@@ -195,7 +195,7 @@ one_set_joined m l p q v w a b = same_set v w (a.dims ∙ sym b.dims) (a.cap ∙
     (one_settled m l p.cap a.joins b.joins (p.parts ++ q.parts) v.parts w.parts a.settled b.settled)
 
 one_set_started : {V H : Type 0} (m : Meaning V H) → SingleLaws m
-    → (v : Parts V) (given : Listed ConKind) (g h : Head V H)
+    → (v : Parts V) (given : LinearSystem ConKind) (g h : Head V H)
     → HeadStarts m v given g → HeadStarts m v given h → g ≡ h
 one_set_started m l v given g h a b = same_head g h (a.dims ∙ sym b.dims) (a.cap ∙ sym b.cap) (a.rows ∙ sym b.rows)
     (one_form_started m l given v.parts g.form h.form a.form b.form)

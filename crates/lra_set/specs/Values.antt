@@ -3,7 +3,7 @@ use Rattle.std.specs.Prelude.{◌≡◌, ◌≤◌, ℕ, ℤ, Option, None, List
 use Rattle.lra_domain.specs.Actions.{Action, dims_after}
 use Rattle.lra_domain.specs.Bounds.{greater, lesser_low}
 use Rattle.lra_domain.specs.Meaning.{Meaning}
-use Rattle.lra_lin.specs.Form.{Form}
+use Rattle.lra_linear_forms.specs.Form.{Form}
 use Rattle.lra_set.specs.Lists.{EachPart, SomePart, PartByPart}
 use Rattle.lra_set.specs.Content.{PartFits, Parts, filled}
 use Rattle.lra_set.specs.Joins.{Settles, SettleStrains}

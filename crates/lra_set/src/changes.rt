@@ -8,7 +8,7 @@ ghost use Rattle.lra_set.specs.Changes.{ChangeFits, action_of};
 ghost use Rattle.lra_set.specs.Outcomes.{AreChanged, HaveDims, IsAppended};
 
 use lra_domain::{Domain, Exactness, Plain, worse};
-use lra_lin::{LinExpr, Test};
+use lra_linear_forms::{LinExpr, Test};
 use std::alloc::{AllocError, Global};
 
 /// A least change of a value, as the calls of `Domain`.

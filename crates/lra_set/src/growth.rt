@@ -17,7 +17,7 @@ use crate::changes::push_filled;
 use crate::joins::{merge, settle};
 use crate::set::append_copies;
 use lra_domain::{Domain, Exactness, Grown, Mode, Plain};
-use lra_sys::ConSys;
+use lra_systems::ConSys;
 use std::alloc::{AllocError, Global};
 
 /// What stands behind the head of a set.

@@ -15,7 +15,7 @@ use crate::growth::{Held, become_one, grow_one, start_anew, start_with, value_on
 use crate::reduction::all_lie_in;
 use crate::set::{PowerSet, copy_alone, copy_parts};
 use lra_domain::{Domain, Exactness, Grown, Included, Mode, Plain, Rank};
-use lra_sys::ConSys;
+use lra_systems::ConSys;
 use std::alloc::{AllocError, Global};
 use std::marker::Model;
 

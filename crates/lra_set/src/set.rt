@@ -20,8 +20,8 @@ use crate::joins::settle;
 use crate::reduction::{all_lie_in, reduce};
 use lra_domain::bounds::{join_highs, join_lows};
 use lra_domain::{Domain, Exactness, Grown, Included, Mode, Plain, Rank, Told, worse};
-use lra_lin::{LinExpr, Test};
-use lra_sys::ConSys;
+use lra_linear_forms::{LinExpr, Test};
+use lra_systems::ConSys;
 use std::alloc::{AllocError, Global};
 use std::marker::Model;
 

@@ -4,7 +4,7 @@ use Rattle.std.specs.List.{flat_map}
 use Rattle.std.proofs.lemmas.List.{drop_all}
 use Rattle.std.proofs.Math.Seq.{drop-cons}
 use Rattle.lra_linear_spec.specs.declared.GenKind.{GenKind}
-use Rattle.lra_sys.specs.Listed.{FitsKind, FitKinds}
+use Rattle.lra_systems.specs.LinearSystems.{FitsKind, FitKinds}
 use Rattle.lra_show.specs.Lists.{shown_by}
 
 pub drop_front : {A : Type 0} (names : List A) (j : ℕ) (x : A) → x ≡ get_or names j x → j < length names → drop j names ≡ x ∷ drop (j + 1) names

@@ -4,7 +4,7 @@ use Rattle.std.specs.Prelude.{ℕ, zero, suc, List, [], ◌∷◌, ◌++◌, cod
 use Rattle.std.specs.List.{flat_map}
 use Rattle.std.specs.Fmt.{decimal}
 use Rattle.lra_linear_spec.specs.declared.ConKind.{ConKind}
-use Rattle.lra_sys.specs.Listed.{Listed}
+use Rattle.lra_systems.specs.LinearSystems.{LinearSystem}
 use Rattle.lra_show.specs.Rows.{Row}
 use Rattle.lra_show.specs.Part.{Generator}
 use Rattle.lra_show.specs.Texts.{text_line, row_text, generator_text}
@@ -24,16 +24,16 @@ lines_of_rows names (r ∷ rs) = flat_map (plain_row names) (r ∷ rs)
 abbrev pub lines_of_generators : List (List ℕ) → List Generator → List ℕ
 lines_of_generators names gs = flat_map (plain_generator names) gs
 
-abbrev pub lines_of_part : List (List ℕ) → Listed ConKind → List ℕ
+abbrev pub lines_of_part : List (List ℕ) → LinearSystem ConKind → List ℕ
 lines_of_part names p = lines_of_rows names (shown_rows p.rows p.kinds)
 
 -- further parts, each behind a line that parts it from those before it
-abbrev pub lines_behind : List (List ℕ) → List (Listed ConKind) → List ℕ
+abbrev pub lines_behind : List (List ℕ) → List (LinearSystem ConKind) → List ℕ
 lines_behind names [] = []
 lines_behind names (p ∷ ps) = text_line (codes "or") ++ lines_of_part names p ++ lines_behind names ps
 
 -- the parts of a value, or that it has none
-abbrev pub lines_of_parts : List (List ℕ) → List (Listed ConKind) → List ℕ
+abbrev pub lines_of_parts : List (List ℕ) → List (LinearSystem ConKind) → List ℕ
 lines_of_parts names [] = text_line (codes "false")
 lines_of_parts names (p ∷ ps) = lines_of_part names p ++ lines_behind names ps
 

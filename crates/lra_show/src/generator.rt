@@ -4,13 +4,13 @@ ghost use Rattle.std.specs.Prelude.{◌≡◌, ◌++◌, ◌∷◌, [], ℤ, pos
 ghost use Rattle.std.specs.Prelude.{string_bytes, length, codes};
 ghost use Rattle.lra_linear_spec.specs.Range.{InRange};
 ghost use Rattle.lra_linear_spec.specs.Vectors.{entry};
-ghost use Rattle.lra_sys.specs.Listed.{FitsKind};
+ghost use Rattle.lra_systems.specs.LinearSystems.{FitsKind};
 ghost use Rattle.lra_show.specs.Texts as texts;
 ghost use Rattle.lra_show.specs.Shown.{report_generator};
 
 use crate::names::Names;
 use lra_row::{Row, gcd};
-use lra_sys::GenKind;
+use lra_systems::GenKind;
 use std::alloc::{AllocError, Global};
 
 /// Appends a fraction, without the divisor where that is 1.

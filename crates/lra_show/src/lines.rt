@@ -2,7 +2,7 @@
 
 ghost use Rattle.std.specs.Prelude.{◌≡◌, ◌++◌, OnOk, string_bytes, length};
 ghost use Rattle.std.specs.List.{flat_map};
-ghost use Rattle.lra_sys.specs.Listed.{FitsKind, FitKinds};
+ghost use Rattle.lra_systems.specs.LinearSystems.{FitsKind, FitKinds};
 ghost use Rattle.lra_show.specs.Texts.{rows_text};
 ghost use Rattle.lra_show.specs.Lines.{row_line, generator_line};
 ghost use Rattle.lra_show.specs.Shown.{report_row, report_generator};
@@ -12,7 +12,7 @@ use crate::generator::generator_text;
 use crate::names::Names;
 use crate::row::row_text;
 use lra_row::Row;
-use lra_sys::{ConKind, ConSys, GenKind};
+use lra_systems::{ConKind, ConSys, GenKind};
 use std::alloc::{AllocError, Global};
 use std::fmt::Write;
 

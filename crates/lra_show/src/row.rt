@@ -9,7 +9,7 @@ ghost use Rattle.lra_show.specs.Shown.{report_row, rest_text, is_first_behind};
 
 use crate::names::Names;
 use lra_row::Row;
-use lra_sys::ConKind;
+use lra_systems::ConKind;
 use std::alloc::{AllocError, Global};
 use std::cmp::Ordering;
 

@@ -2,7 +2,7 @@
 
 ghost use Rattle.std.specs.Prelude.{◌≡◌, ◌++◌, All, IfOk, OnOk, length, string_bytes};
 ghost use Rattle.std.specs.List.{flat_map};
-ghost use Rattle.lra_sys.specs.Listed.{FitsKind, FitKinds};
+ghost use Rattle.lra_systems.specs.LinearSystems.{FitsKind, FitKinds};
 ghost use Rattle.lra_show.specs.Lists.{shown_rows, shown_generators};
 ghost use Rattle.lra_show.specs.Shown.{report_row, report_generator};
 ghost use Rattle.lra_show.specs.Whole.{lines_behind, lines_of_generators, lines_of_part, lines_of_parts, lines_of_rows};
@@ -12,7 +12,7 @@ use crate::generator::generator_text;
 use crate::names::Names;
 use crate::row::row_text;
 use lra_row::Row;
-use lra_sys::{ConKind, ConSys, GenKind, GenSys};
+use lra_systems::{ConKind, ConSys, GenKind, GenSys};
 use std::alloc::{AllocError, Global};
 use std::fmt::Write;
 

@@ -27,7 +27,7 @@ use lra_base::NumberType;
 use lra_domain::Change;
 use lra_flow::Seen;
 use lra_forms::{constant_of, form_of_one, see};
-use lra_lin::Test;
+use lra_linear_forms::Test;
 use lra_linear_spec::ConKind;
 use lra_operations::Op;
 use lra_program::{Argument, Cell, Cond, Expr, GlobalVariable, Target};

@@ -20,7 +20,7 @@ use lra_base::{Comparison, NumberType};
 use lra_domain::Change;
 use lra_flow::{Division, Seen};
 use lra_forms::{first_case, opposite_of, second_case, see_difference, test_of};
-use lra_lin::Test;
+use lra_linear_forms::Test;
 use lra_program::{Cond, Expr};
 use std::alloc::{AllocError, Global};
 

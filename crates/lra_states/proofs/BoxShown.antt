@@ -3,7 +3,7 @@ use Rattle.std.proofs.Common.{◌≡◌, ℕ, zero, suc, ◌++◌, List, [], ◌
 use Rattle.std.specs.Prelude.{ℤ, pos, negsuc, neg_ℤ, replicate, slice_set, if◌then◌else◌}
 use Rattle.std.specs.List.{AllByRecursion}
 use Rattle.std.proofs.lemmas.List.{length-replicate, length-set}
-use Rattle.lra_sys.specs.Listed.{Listed}
+use Rattle.lra_systems.specs.LinearSystems.{LinearSystem}
 use Rattle.lra_linear_spec.specs.declared.ConKind.{ConKind}
 use Rattle.lra_report.proofs.Every.{every_append}
 use Rattle.lra_box.specs.declared.interval.Interval.{Interval}
@@ -68,7 +68,7 @@ parts_wide n (Some is) =
     let rows = both_wide n (equal_rows n 0 is) (unequal_rows n 0 is) (equal_wide n 0 is) (unequal_wide n 0 is) in
     ((shown_wide n (box_rows n is) (box_system n is).kinds rows, tt), tt)
 
-no_generators : (n : ℕ) (ps : List (Listed ConKind)) → AllByRecursion (Tells Box n) (map shown_part ps)
+no_generators : (n : ℕ) (ps : List (LinearSystem ConKind)) → AllByRecursion (Tells Box n) (map shown_part ps)
 no_generators n [] = tt
 no_generators n (p ∷ ps) = (refl, no_generators n ps)
 

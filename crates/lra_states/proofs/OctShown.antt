@@ -5,7 +5,7 @@ use Rattle.std.specs.Prelude.{replicate, slice_set, if◌then◌else◌}
 use Rattle.std.specs.List.{AllByRecursion}
 use Rattle.std.proofs.lemmas.List.{length-replicate, length-set}
 use Rattle.lra_options.specs.declared.options.Domain.TheVariants.{Oct}
-use Rattle.lra_sys.specs.Listed.{Listed}
+use Rattle.lra_systems.specs.LinearSystems.{LinearSystem}
 use Rattle.lra_linear_spec.specs.declared.ConKind.{ConKind}
 use Rattle.lra_linear_spec.specs.declared.ConKind.TheVariants.{Ge, Eq}
 use Rattle.lra_dbm.specs.Tight.{Entries, with_sign}
@@ -92,7 +92,7 @@ parts_wide n (Some cells) =
     let m = entries n cells in
     ((shown_wide n (octagon_system n m).rows (octagon_system n m).kinds (system_wide n m), tt), tt)
 
-no_generators : (n : ℕ) (ps : List (Listed ConKind)) → AllByRecursion (Tells Oct n) (map shown_part ps)
+no_generators : (n : ℕ) (ps : List (LinearSystem ConKind)) → AllByRecursion (Tells Oct n) (map shown_part ps)
 no_generators n [] = tt
 no_generators n (p ∷ ps) = (refl, no_generators n ps)
 

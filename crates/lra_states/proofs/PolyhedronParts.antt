@@ -11,7 +11,7 @@ use Rattle.lra_linear_spec.specs.declared.ConKind.{ConKind}
 use Rattle.lra_linear_spec.proofs.Membership.{contains_head}
 use Rattle.lra_linear_spec.proofs.OneSpelling.{falsity_never}
 use Rattle.lra_linear_spec.specs.declared.GenKind.{GenKind}
-use Rattle.lra_sys.specs.Listed.{Listed, constraints, generators}
+use Rattle.lra_systems.specs.LinearSystems.{LinearSystem, constraints, generators}
 use Rattle.lra_polydom.specs.Content.{is_absurd, listed, polyhedron_parts}
 use Rattle.lra_polydom.specs.Covering.{empty_parts, parts_empty}
 use Rattle.lra_polydom.specs.Meaning.{polyhedron_meaning}
@@ -23,7 +23,8 @@ use Rattle.lra_states.proofs.SamePoints.{as_row, within_con}
 use Rattle.lra_states.proofs.PolyhedronShown.{no_part, one_part, part_of, has_point, row_is_point}
 
 -- the lists of a polyhedron make it
-pub lists_are : (p : Polyhedron) (rows : Listed ConKind) (gens : Listed GenKind) → rows.dims ≡ p.dims → constraints rows ≡ p.rows → generators gens ≡
+pub lists_are : (p : Polyhedron) (rows : LinearSystem ConKind) (gens : LinearSystem GenKind) → rows.dims ≡ p.dims → constraints rows ≡ p.rows →
+    generators gens ≡
     p.generators → polyhedron_of rows gens ≡ p
 lists_are p rows gens dims of_rows of_generators =
     ap (λ (n : ℕ). let q : Polyhedron = record { dims = n; rows = constraints rows; generators = generators gens } in q) dims
@@ -34,7 +35,7 @@ lists_are p rows gens dims of_rows of_generators =
 not_empty : (p : Polyhedron) → HasPoint p → IsEmptySet p.dims (Con p.rows) → ⊥
 not_empty p h empty = let (x, is_point, within) = has_point p h in empty (as_row x) (row_is_point p.dims x is_point) (within_con p.rows x within)
 
-kept : (b : Bool) (list : Listed ConKind) → (b ≡ true → ⊥) → 1 ≡ length (cond b [] (list ∷ []))
+kept : (b : Bool) (list : LinearSystem ConKind) → (b ≡ true → ⊥) → 1 ≡ length (cond b [] (list ∷ []))
 kept false list never = refl
 kept true list never = absurd (never refl)
 

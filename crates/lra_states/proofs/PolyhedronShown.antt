@@ -21,7 +21,7 @@ use Rattle.lra_linear_spec.proofs.OneSpelling.{falsity_never, given_has, some_me
 use Rattle.lra_linear_spec.proofs.Polyhedra.{con_gen, cone_gen, generators_are_generators}
 use Rattle.lra_linear_spec.specs.declared.GenKind.{GenKind}
 use Rattle.lra_linear_spec.specs.declared.GenKind.TheVariants.{Point, Ray, Line}
-use Rattle.lra_sys.specs.Listed.{Listed, given_by, constraints, generators, FitsKind, FitKinds}
+use Rattle.lra_systems.specs.LinearSystems.{LinearSystem, rows_by_kind, constraints, generators, FitsKind, FitKinds}
 use Rattle.lra_polydom.proofs.PartLemmas.{kind_back}
 use Rattle.lra_show.specs.Rows.{Row, RowHolds}
 use Rattle.lra_show.specs.Shown.{report_row, report_generator}
@@ -38,7 +38,7 @@ use Rattle.lra_states.proofs.RowsHold.{row_holds, row_held}
 use Rattle.lra_states.proofs.SamePoints.{as_row, within_con, con_within, generated_gen, gen_generated}
 
 -- ---- the lists of a report are those of the polyhedron
-pub rows_again : (rows : List (List ℤ)) (kinds : List ConKind) → shown_rows rows kinds ≡ map shown_constraint (given_by is_equality rows kinds)
+pub rows_again : (rows : List (List ℤ)) (kinds : List ConKind) → shown_rows rows kinds ≡ map shown_constraint (rows_by_kind is_equality rows kinds)
 rows_again [] kinds = refl
 rows_again (r ∷ rows) [] = refl
 rows_again (r ∷ rows) (k ∷ kinds) =
@@ -56,7 +56,7 @@ generator_again Ray r h = ap (generator_kind false) (sym h)
 generator_again Line r h = refl
 
 pub generators_again : (rows : List (List ℤ)) (kinds : List GenKind) → FitKinds rows kinds → shown_generators rows kinds ≡ map shown_generator
-    (given_by is_line rows kinds)
+    (rows_by_kind is_line rows kinds)
 generators_again [] kinds h = refl
 generators_again (r ∷ rows) [] h = refl
 generators_again (r ∷ rows) (k ∷ kinds) h =
@@ -65,10 +65,10 @@ generators_again (r ∷ rows) (k ∷ kinds) h =
 
 -- ---- what holds of the rows of a list holds of its members
 pub members : {K : Type 0} (equal : K → Bool) (P : List ℤ → Type 0) (rows : List (List ℤ)) (kinds : List K) → All P rows → (g : LinearRow) → Contains
-    (given_by equal rows kinds) g → P g.row
+    (rows_by_kind equal rows kinds) g → P g.row
 members equal P [] kinds h g k = absurd (contains_none g k)
 members equal P (r ∷ rows) [] h g k = absurd (contains_none g k)
-members equal P (r ∷ rows) (q ∷ kinds) h g k = elim (contains_cases (let x : LinearRow = record { row = r; equal = equal q } in x) g (given_by equal rows kinds) k) [
+members equal P (r ∷ rows) (q ∷ kinds) h g k = elim (contains_cases (let x : LinearRow = record { row = r; equal = equal q } in x) g (rows_by_kind equal rows kinds) k) [
   | inl e ↦ subst (λ (x : LinearRow). P x.row) e (All-head P r rows h)
   | inr d ↦ members equal P rows kinds (All-tail P r rows h) g d
 ]
@@ -284,21 +284,22 @@ spelled p (inr h) small_rows small =
 
 -- ---- two lists
 any_listed : (rows : List (List ℤ)) (kinds : List GenKind) (part : Part) → length kinds ≡ length rows → 0 < length kinds → part_if_any
-    (given_by is_line rows kinds) part ≡ part ∷ []
+    (rows_by_kind is_line rows kinds) part ≡ part ∷ []
 any_listed [] [] part long some = absurd (omega (arith, some))
 any_listed [] (k ∷ kinds) part long some = absurd (omega (arith, long))
 any_listed (r ∷ rows) [] part long some = absurd (omega (arith, some))
 any_listed (r ∷ rows) (k ∷ kinds) part long some = refl
 
-none_listed : (rows : List (List ℤ)) (kinds : List GenKind) (part : Part) → length kinds ≡ 0 → [] ≡ part_if_any (given_by is_line rows kinds) part
+none_listed : (rows : List (List ℤ)) (kinds : List GenKind) (part : Part) → length kinds ≡ 0 → [] ≡ part_if_any (rows_by_kind is_line rows kinds) part
 none_listed [] kinds part none = refl
 none_listed (r ∷ rows) [] part none = refl
 none_listed (r ∷ rows) (k ∷ kinds) part none = absurd (omega (arith, none))
 
-pub none_shown : (rows : Listed ConKind) (gens : Listed GenKind) → length gens.kinds ≡ 0 → [] ≡ shown_polyhedron (polyhedron_of rows gens)
+pub none_shown : (rows : LinearSystem ConKind) (gens : LinearSystem GenKind) → length gens.kinds ≡ 0 → [] ≡ shown_polyhedron (polyhedron_of rows gens)
 none_shown rows gens none = none_listed gens.rows gens.kinds (part_of (polyhedron_of rows gens)) none
 
-pub some_shown : (rows : Listed ConKind) (gens : Listed GenKind) (part : Part) → FitKinds gens.rows gens.kinds → length gens.kinds ≡ length gens.rows → 0 <
+pub some_shown : (rows : LinearSystem ConKind) (gens : LinearSystem GenKind) (part : Part) → FitKinds gens.rows gens.kinds →
+    length gens.kinds ≡ length gens.rows → 0 <
     length gens.kinds
     → part.rows ≡ shown_rows rows.rows rows.kinds → part.generators ≡ shown_generators gens.rows gens.kinds → part ∷ [] ≡ shown_polyhedron
     (polyhedron_of rows gens)
@@ -310,7 +311,7 @@ some_shown rows gens part fit long some of_rows of_generators =
     ap (λ (p : Part). p ∷ []) is ∙ sym (any_listed gens.rows gens.kinds (part_of (polyhedron_of rows gens)) long some)
 
 -- what is said of the polyhedron's state, of one that is the same
-module _ (rows : Listed ConKind) (gens : Listed GenKind) (is : IsPolyhedron (polyhedron_of rows gens)) (same : gens.dims ≡ rows.dims)
+module _ (rows : LinearSystem ConKind) (gens : LinearSystem GenKind) (is : IsPolyhedron (polyhedron_of rows gens)) (same : gens.dims ≡ rows.dims)
     (wide_rows : All (λ (r : List ℤ). length r ≡ suc rows.dims) rows.rows) (wide_generators : All (λ (r : List ℤ). length r ≡ suc gens.dims) gens.rows)
     (small_rows : All (All InRange) rows.rows) (small_generators : All (All InRange) gens.rows) where
   rows_small : AreSmall (constraints rows)

@@ -6,7 +6,7 @@ use Rattle.std.proofs.lemmas.Int.{ints}
 use Rattle.lra_linear_spec.specs.Vectors.{product}
 use Rattle.lra_linear_spec.specs.Descriptions.{LinearRow, Con, HoldsWith}
 use Rattle.lra_linear_spec.proofs.Membership.{contains_none, contains_head, contains_tail, contains_cases}
-use Rattle.lra_sys.specs.Listed.{Listed, given_by}
+use Rattle.lra_systems.specs.LinearSystems.{LinearSystem, rows_by_kind}
 use Rattle.lra_linear_spec.specs.Kinds.{is_equality}
 use Rattle.lra_linear_spec.specs.declared.ConKind.{ConKind}
 use Rattle.lra_linear_spec.specs.declared.ConKind.TheVariants.{Ge, Eq}
@@ -36,40 +36,40 @@ row_held [] Ge s h = omega (arith, ints)
 row_held [] Eq s h = refl
 row_held (c ∷ cs) k s h = subst (λ (z : ℤ). HoldsWith (is_equality k) z) (sym (row_value c cs s)) h
 
-rows_hold : (rows : List (List ℤ)) (kinds : List ConKind) (s : List ℤ) → Con (given_by is_equality rows kinds) (pos 1 ∷ s) → AllByRecursion
+rows_hold : (rows : List (List ℤ)) (kinds : List ConKind) (s : List ℤ) → Con (rows_by_kind is_equality rows kinds) (pos 1 ∷ s) → AllByRecursion
     (λ (r : Row). RowHolds r s) (shown_rows rows kinds)
 rows_hold [] kinds s h = tt
 rows_hold (r ∷ rows) [] s h = tt
 rows_hold (r ∷ rows) (k ∷ kinds) s h =
     let g : LinearRow = record { row = r; equal = is_equality k } in (
-      row_holds r k s (h g (contains_head g (given_by is_equality rows kinds))),
+      row_holds r k s (h g (contains_head g (rows_by_kind is_equality rows kinds))),
       rows_hold rows kinds s
-          (λ x i. h x (contains_tail g x (given_by is_equality rows kinds) i)),
+          (λ x i. h x (contains_tail g x (rows_by_kind is_equality rows kinds) i)),
     )
 
 rows_held : (rows : List (List ℤ)) (kinds : List ConKind) (s : List ℤ) → AllByRecursion (λ (r : Row). RowHolds r s) (shown_rows rows kinds) → Con
-    (given_by is_equality rows kinds) (pos 1 ∷ s)
+    (rows_by_kind is_equality rows kinds) (pos 1 ∷ s)
 rows_held [] kinds s h g i = absurd (contains_none g i)
 rows_held (r ∷ rows) [] s h g i = absurd (contains_none g i)
 rows_held (r ∷ rows) (k ∷ kinds) s h g i =
     let first : LinearRow = record { row = r; equal = is_equality k } in
-    elim (contains_cases first g (given_by is_equality rows kinds) i) [
+    elim (contains_cases first g (rows_by_kind is_equality rows kinds) i) [
       | inl e ↦ subst (λ (x : LinearRow). HoldsWith x.equal (product x.row (pos 1 ∷ s))) e (row_held r k s h.0)
       | inr d ↦ rows_held rows kinds s h.1 g d
     ]
 
-pub parts_hold : (ps : List (Listed ConKind)) (s : List ℤ) → SomePartHolds ps s → Holds (map shown_part ps) s
+pub parts_hold : (ps : List (LinearSystem ConKind)) (s : List ℤ) → SomePartHolds ps s → Holds (map shown_part ps) s
 parts_hold [] s h = h
 parts_hold (p ∷ ps) s (inl h) = inl (rows_hold p.rows p.kinds s h)
 parts_hold (p ∷ ps) s (inr h) = inr (parts_hold ps s h)
 
-parts_held : (ps : List (Listed ConKind)) (s : List ℤ) → Holds (map shown_part ps) s → SomePartHolds ps s
+parts_held : (ps : List (LinearSystem ConKind)) (s : List ℤ) → Holds (map shown_part ps) s → SomePartHolds ps s
 parts_held [] s h = h
 parts_held (p ∷ ps) s (inl h) = inl (rows_held p.rows p.kinds s h)
 parts_held (p ∷ ps) s (inr h) = inr (parts_held ps s h)
 
 -- what the parts of a value mean, their state means
-pub state_means : {V H : Type 0} (m : Meaning V H) (v : V) (ps : List (Listed ConKind)) (state : List Part) → state ≡ map shown_part ps
+pub state_means : {V H : Type 0} (m : Meaning V H) (v : V) (ps : List (LinearSystem ConKind)) (state : List Part) → state ≡ map shown_part ps
     → ps ≡ m.parts v → ((s : List ℤ) → m.has v s → SomePartHolds ps s) → PartsTell m v → MeansValue m v state
 state_means m v ps state is own hold tell s long = (
   λ h. subst (λ l. Holds l s) (sym is) (parts_hold ps s (hold s h)),

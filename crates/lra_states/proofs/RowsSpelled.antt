@@ -4,7 +4,7 @@ use Rattle.std.specs.Prelude.{Result, Ok, Err, IfOk}
 use Rattle.std.specs.List.{AllByRecursion}
 use Rattle.std.proofs.lemmas.List.{length-map}
 use Rattle.lra_options.specs.declared.options.Domain.{Domain}
-use Rattle.lra_sys.specs.Listed.{Listed}
+use Rattle.lra_systems.specs.LinearSystems.{LinearSystem}
 use Rattle.lra_linear_spec.specs.declared.ConKind.{ConKind}
 use Rattle.lra_domain.specs.Meaning.{Meaning}
 use Rattle.lra_show.specs.Rows.{Row}
@@ -22,7 +22,7 @@ rows_spelled : (rs : List Row) → AllByRecursion (λ (r : Row). IsDirected r.ki
 rows_spelled [] d h = tt
 rows_spelled (r ∷ rs) d h = (record { directed = d.0; in_range = h.0 }, rows_spelled rs d.1 h.1)
 
-parts_spelled : (ps : List (Listed ConKind)) → AllByRecursion AreDirected (map shown_part ps) → AllByRecursion IsPartInRange (map shown_part ps) →
+parts_spelled : (ps : List (LinearSystem ConKind)) → AllByRecursion AreDirected (map shown_part ps) → AllByRecursion IsPartInRange (map shown_part ps) →
     AllByRecursion IsSpelledPart (map shown_part ps)
 parts_spelled [] d h = tt
 parts_spelled (p ∷ ps) d h = (record { rows = rows_spelled (shown_rows p.rows p.kinds) d.0 h.0; generators = tt }, parts_spelled ps d.1 h.1)

@@ -2,7 +2,7 @@
 use Rattle.std.proofs.Common.{◌≡◌, List, [], ◌∷◌, ◌++◌, map, ap, sym, ◌∙◌, subst}
 use Rattle.std.specs.List.{AllByRecursion}
 use Rattle.std.proofs.lemmas.List.{map-append}
-use Rattle.lra_sys.specs.Listed.{Listed}
+use Rattle.lra_systems.specs.LinearSystems.{LinearSystem}
 use Rattle.lra_linear_spec.specs.declared.ConKind.{ConKind}
 use Rattle.lra_show.specs.Lists.{shown_rows}
 use Rattle.lra_report.specs.Rows.{IsPartInRange}
@@ -11,12 +11,13 @@ use Rattle.lra_show.specs.Part.{Part}
 use Rattle.lra_show.specs.Rows.{Row}
 use Rattle.lra_states.specs.Shown.{shown_part}
 
-part_is : (p : Part) (y : Listed ConKind) → p.rows ≡ shown_rows y.rows y.kinds → p.generators ≡ [] → p ≡ shown_part y
+part_is : (p : Part) (y : LinearSystem ConKind) → p.rows ≡ shown_rows y.rows y.kinds → p.generators ≡ [] → p ≡ shown_part y
 part_is p y rows none =
     ap (λ (rs : List Row). record { rows = rs; generators = p.generators }) rows
     ∙ ap (λ gs. record { rows = shown_rows y.rows y.kinds; generators = gs }) none
 
-pub pushed : (old new : List Part) (p : Part) (ys : List (Listed ConKind)) (y : Listed ConKind) → old ≡ map shown_part ys → new ≡ old ++ p ∷ [] → p.rows ≡
+pub pushed : (old new : List Part) (p : Part) (ys : List (LinearSystem ConKind)) (y : LinearSystem ConKind) → old ≡ map shown_part ys → new ≡ old ++ p ∷ [] →
+    p.rows ≡
     shown_rows y.rows y.kinds → p.generators ≡ []
     → new ≡ map shown_part (ys ++ y ∷ [])
 pushed old new p ys y so_far is rows none =

@@ -5,7 +5,7 @@ use Rattle.lra_linear_spec.specs.declared.ConKind.{ConKind}
 use Rattle.lra_linear_spec.specs.Descriptions.{LinearRow, Con}
 use Rattle.lra_linear_spec.specs.Polyhedra.{Polyhedron}
 use Rattle.lra_linear_spec.specs.declared.GenKind.{GenKind}
-use Rattle.lra_sys.specs.Listed.{Listed, constraints, generators}
+use Rattle.lra_systems.specs.LinearSystems.{LinearSystem, constraints, generators}
 use Rattle.lra_options.specs.declared.options.Domain.TheVariants.{Poly}
 use Rattle.lra_show.specs.ShownDescriptions.{shown_constraint, shown_generator}
 use Rattle.lra_show.specs.Part.{Part}
@@ -32,5 +32,5 @@ pub record TellsPolyhedron (p : Polyhedron) (state : Invariant) : Type 0 where
   pub only : (s : List ℤ) → length s ≡ p.dims → Holds state s → Con p.rows (pos 1 ∷ s)
 
 -- what two lists show
-abbrev pub polyhedron_of : Listed ConKind → Listed GenKind → Polyhedron
+abbrev pub polyhedron_of : LinearSystem ConKind → LinearSystem GenKind → Polyhedron
 polyhedron_of rows gens = record { dims = rows.dims; rows = constraints rows; generators = generators gens }

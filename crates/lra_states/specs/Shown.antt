@@ -1,7 +1,7 @@
 -- What a domain shows of its values, as the states of a report.
 use Rattle.std.specs.Prelude.{◌≡◌, ◌↔◌, ℤ, List, [], length, map}
 use Rattle.std.specs.List.{AllByRecursion, Contains}
-use Rattle.lra_sys.specs.Listed.{Listed}
+use Rattle.lra_systems.specs.LinearSystems.{LinearSystem}
 use Rattle.lra_linear_spec.specs.declared.ConKind.{ConKind}
 use Rattle.lra_show.specs.Lists.{shown_rows}
 use Rattle.lra_domain.specs.Meaning.{Meaning}
@@ -32,7 +32,7 @@ AreShown {V} m domain shown values = (v : V) → Contains values v → IsShown m
 -- by rows alone, as domains without generators show their values --------------------------------------------------
 
 -- a part without generators
-abbrev pub shown_part : Listed ConKind → Part
+abbrev pub shown_part : LinearSystem ConKind → Part
 shown_part p = record { rows = shown_rows p.rows p.kinds; generators = [] }
 
 -- a value's parts by their rows

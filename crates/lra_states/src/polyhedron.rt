@@ -5,7 +5,7 @@ ghost use Rattle.std.specs.List.{AllByRecursion};
 ghost use Rattle.lra_options.specs.declared.options.Domain.TheVariants as options;
 ghost use Rattle.lra_linear_spec.specs.Representable.{IsRepresentable};
 ghost use Rattle.lra_linear_spec.specs.Polyhedra.{IsPolyhedron};
-ghost use Rattle.lra_sys.specs.Listed.{FitKinds};
+ghost use Rattle.lra_systems.specs.LinearSystems.{FitKinds};
 ghost use Rattle.lra_report.specs.Spelled.{IsSpelledPart};
 ghost use Rattle.lra_states.specs.Canonical.{IsCanonicalState};
 ghost use Rattle.lra_states.specs.Polyhedra.{shown_polyhedron, TellsPolyhedron, polyhedron_of};
@@ -13,7 +13,7 @@ ghost use Rattle.lra_states.specs.Polyhedra.{shown_polyhedron, TellsPolyhedron, 
 use crate::show::Show;
 use lra_polydom::Polyhedron;
 use lra_report::Part;
-use lra_sys::{ConSys, GenSys};
+use lra_systems::{ConSys, GenSys};
 use std::alloc::{AllocError, Global};
 
 /// The state of a polyhedron, given by its canonical lists: no part where there is no point, else one part that has

@@ -3,18 +3,18 @@
 ghost use Rattle.std.specs.Prelude.{◌≡◌, ◌+◌, ◌∷◌, [], length, IfOk, OnOk};
 ghost use Rattle.std.specs.List.{All};
 ghost use Rattle.lra_linear_spec.specs.Range.{InRange};
-ghost use Rattle.lra_canon.specs.Reduced.{IsForm};
-ghost use Rattle.lra_canon.specs.Echelons.{HaveOneWidth};
+ghost use Rattle.lra_canonical.specs.Reduced.{IsEchelonForm};
+ghost use Rattle.lra_canonical.specs.Echelons.{HaveOneWidth};
 
 use lra_bits::{BitRow, SatMatrix};
-use lra_canon::{Order, canonical_order, drop_redundant, echelon, reduce};
+use lra_canonical::{Order, canonical_order, drop_redundant, echelon, reduce};
 use lra_row::{Excess, Operation, Row, RowError};
 use std::alloc::{AllocError, Global};
 
 const MAX: i128 = i128::MAX;
 
 // Three rows as a list.
-#[tactic(auto, using(lra_canon::proofs::CanonExamples::three_wide))]
+#[tactic(auto, using(lra_canonical::proofs::CanonExamples::three_wide))]
 fn three(
     alloc: Global,
     first: &[i128],
@@ -144,9 +144,9 @@ fn excesses_of_forms(rt: HostRuntime) {
 }
 
 // The form of the equality 2 x1 + x2 = 0.
-#[tactic(auto, using(lra_canon::proofs::CanonExamples::sloped_is_form))]
+#[tactic(auto, using(lra_canonical::proofs::CanonExamples::sloped_is_form))]
 fn sloped(alloc: Global) -> Result<Vec<Row>, AllocError>
-    ensures form { IfOk result (λ form. IsForm form.items) }
+    ensures form { IfOk result (λ form. IsEchelonForm form.items) }
     ensures widths { IfOk result (λ form. All (λ line. length line ≡ 3) form.items) }
 {
     let mut form = Vec::new(alloc);

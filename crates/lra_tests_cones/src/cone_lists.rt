@@ -5,7 +5,7 @@ use lra_cone::{ConKind, Loss};
 use lra_conversions::generate;
 use lra_descriptions::nothing;
 use lra_linear_spec::{Cause, Excess, Operation};
-use lra_sys::{ConSys, GenKind, GenSys};
+use lra_systems::{ConSys, GenKind, GenSys};
 use std::alloc::{AllocError, Global};
 use std::process::Abort;
 

@@ -23,7 +23,7 @@ use lra_operations::{Node, Site};
 use lra_options::{DEFAULT_OPTIONS, Domain, Options};
 use lra_report::{Part, Report, text};
 use lra_row::Row;
-use lra_sys::{ConKind, ConSys};
+use lra_systems::{ConKind, ConSys};
 use lra_tree::Tree;
 use std::alloc::{AllocError, Global};
 

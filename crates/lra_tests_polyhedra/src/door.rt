@@ -1,15 +1,15 @@
 //! Lists that are taken in, polyhedra that are the same, under their other type, and changes that are kept as values.
 
 ghost use Rattle.std.specs.Prelude.{◌≡◌, IfOk};
-ghost use Rattle.lra_sys.specs.Listed.{FitKinds};
+ghost use Rattle.lra_systems.specs.LinearSystems.{FitKinds};
 
 use lra_box::Boxes;
 use lra_domain::{Change, Domain, change_all};
-use lra_lin::LinExpr;
+use lra_linear_forms::LinExpr;
 use lra_poly::Poly;
 use lra_polydom::Polyhedron;
 use lra_row::Row;
-use lra_sys::{ConKind, ConSys, GenKind, GenSys};
+use lra_systems::{ConKind, ConSys, GenKind, GenSys};
 use std::alloc::{AllocError, Global};
 
 /// The square 0 <= x <= 2, 0 <= y <= 2.

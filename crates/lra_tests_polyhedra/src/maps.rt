@@ -6,7 +6,7 @@ use crate::shapes::{Unfit, row_of, set_of, shows};
 use lra_images::forget;
 use lra_maps::{embed, remove_last, time_elapse};
 use lra_poly::Poly;
-use lra_sys::{ConKind, ConSys};
+use lra_systems::{ConKind, ConSys};
 use std::alloc::Global;
 
 // The point of two equalities.

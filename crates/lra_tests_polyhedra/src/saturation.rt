@@ -1,9 +1,9 @@
 //! Which constraints are tight at which generators, and tests that change nothing; worked by hand in two dimensions.
 
 use crate::shapes::{Constraint, Unfit, set_of};
-use lra_lin::{LinExpr, Test};
+use lra_linear_forms::{LinExpr, Test};
 use lra_poly::Poly;
-use lra_sys::ConKind;
+use lra_systems::ConKind;
 use std::alloc::Global;
 
 const STRIP: &[Constraint] = &[([0, 0, 1], ConKind::Ge), ([1, 0, -1], ConKind::Ge)];

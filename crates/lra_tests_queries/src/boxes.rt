@@ -5,10 +5,10 @@ ghost use Rattle.std.specs.Prelude.{◌≡◌, IfOk};
 use crate::shapes::{Constraint, FAR, NOWHERE, RIGHT, Unfit, set_of};
 use lra_box::Boxes;
 use lra_domain::Domain;
-use lra_lin::{LinExpr, Test};
+use lra_linear_forms::{LinExpr, Test};
 use lra_queries::{Extent, Fraction, least_box, polyhedra_of};
 use lra_set::PowerSet;
-use lra_sys::ConKind;
+use lra_systems::ConKind;
 use std::alloc::{AllocError, Global};
 
 /// 2 x at least 1, y at least x, x + y at most 5.

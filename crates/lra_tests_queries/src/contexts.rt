@@ -2,7 +2,7 @@
 
 use crate::shapes::{Constraint, FAR, NONE, NOWHERE, RIGHT, RIGHT_OF_ONE, Unfit, list_of, set_of};
 use lra_queries::simplify;
-use lra_sys::{ConKind, ConSys, are_same};
+use lra_systems::{ConKind, ConSys, are_same};
 use std::alloc::Global;
 
 /// y at least x.

@@ -2,10 +2,10 @@
 
 use crate::shapes::{Constraint, FAR, NONE, NOWHERE, RIGHT, Unfit, set_of};
 use lra_domain::Domain;
-use lra_lin::LinExpr;
+use lra_linear_forms::LinExpr;
 use lra_polydom::Polyhedron;
 use lra_queries::{Minimum, minimise};
-use lra_sys::ConKind;
+use lra_systems::ConKind;
 use std::alloc::Global;
 
 /// Two constraints, a form's constant and its factors, and the least value.

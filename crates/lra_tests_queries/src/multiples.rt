@@ -3,7 +3,7 @@
 use crate::shapes::{Constraint, RIGHT, RIGHT_OF_ONE, Unfit, list_of, row_of};
 use lra_farkas::{MultipliersFailure, multipliers};
 use lra_multipliers::Multipliers;
-use lra_sys::ConKind;
+use lra_systems::ConKind;
 use std::alloc::Global;
 
 /// Two premises, a claim's three numbers, the constant first, and its multipliers where it has some: the divisor, that

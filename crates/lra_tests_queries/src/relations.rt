@@ -2,7 +2,7 @@
 
 use crate::shapes::{Constraint, FAR, NONE, NOWHERE, RIGHT, RIGHT_OF_ONE, Unfit, row_of, set_of};
 use lra_queries::{Relation, relate};
-use lra_sys::ConKind;
+use lra_systems::ConKind;
 use std::alloc::Global;
 
 /// A set, a constraint, and whether it holds on all or nowhere, and is saturated on all or nowhere.

@@ -2,7 +2,7 @@
 
 use crate::shapes::{Constraint, NONE, NOWHERE, RIGHT, RIGHT_OF_ONE, Unfit, set_of};
 use lra_queries::{dimension, is_bounded, is_universe, same};
-use lra_sys::ConKind;
+use lra_systems::ConKind;
 use std::alloc::Global;
 
 /// A set; whether it has all points, whether it is bounded, and its dimension.

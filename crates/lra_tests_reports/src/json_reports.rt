@@ -6,7 +6,7 @@ use lra_options::{DEFAULT_OPTIONS, Domain, Options};
 use lra_report::{Part, Point, PointReport, Report, Verdict, VerdictKind};
 use lra_row::Row;
 use lra_show::Names;
-use lra_sys::{ConKind, ConSys, GenKind, GenSys};
+use lra_systems::{ConKind, ConSys, GenKind, GenSys};
 use std::alloc::{AllocError, Global};
 
 fn options(domain: Domain) -> Options {

@@ -7,7 +7,7 @@ use lra_report::{
 };
 use lra_row::Row;
 use lra_show::Names;
-use lra_sys::{ConKind, ConSys, GenKind, GenSys};
+use lra_systems::{ConKind, ConSys, GenKind, GenSys};
 use std::alloc::{AllocError, Global};
 
 fn place(line: u32, column: u32) -> Place {

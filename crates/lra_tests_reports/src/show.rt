@@ -2,12 +2,12 @@
 
 ghost use Rattle.std.specs.List.{All};
 ghost use Rattle.lra_linear_spec.specs.Range.{InRange};
-ghost use Rattle.lra_sys.specs.Listed.{FitsKind};
+ghost use Rattle.lra_systems.specs.LinearSystems.{FitsKind};
 
 use lra_report::names_at;
 use lra_row::Row;
 use lra_show::{Names, generator_text, row_text, value_text};
-use lra_sys::{ConKind, ConSys, GenKind};
+use lra_systems::{ConKind, ConSys, GenKind};
 use std::alloc::{AllocError, Global};
 
 fn names_of(alloc: Global, texts: &[&str]) -> Result<Names, AllocError> {

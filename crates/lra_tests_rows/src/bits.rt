@@ -132,8 +132,8 @@ fn are_columns(columns: &SatMatrix) -> bool
 
 // Whether the multiples turned are their columns, and turned once more as they were.
 fn turns(alloc: Global, width: usize) -> Result<bool, AllocError> {
-    let columns = multiples(alloc, width)?.turned(alloc)?;
-    let again = columns.turned(alloc)?;
+    let columns = multiples(alloc, width)?.transposed(alloc)?;
+    let again = columns.transposed(alloc)?;
     let turned = columns.width() == 3 && columns.height() == width && are_columns(&columns);
     Ok(turned && again.height() == 3 && is_sixth(again.row(2), width))
 }

@@ -1,4 +1,4 @@
-use lra_lin::{LinExpr, Test};
+use lra_linear_forms::{LinExpr, Test};
 use lra_linear_spec::ConKind;
 use std::alloc::{AllocError, Global};
 

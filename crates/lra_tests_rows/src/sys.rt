@@ -3,7 +3,7 @@
 ghost use Rattle.std.specs.Prelude.{◌≡◌, IfOk};
 
 use lra_row::Row;
-use lra_sys::{ConKind, ConSys, GenKind, GenSys, Holds};
+use lra_systems::{ConKind, ConSys, GenKind, GenSys, MembershipAnswer};
 use std::alloc::{AllocError, Global};
 use std::cmp::Ordering;
 use std::hash::{DefaultHasher, Hash, Hasher};
@@ -21,7 +21,7 @@ fn quarter(alloc: Global) -> Result<ConSys, AllocError>
 }
 
 // Which of four points lie there.
-fn members(alloc: Global) -> Result<[Holds; 4], AllocError> {
+fn members(alloc: Global) -> Result<[MembershipAnswer; 4], AllocError> {
     let quarter = quarter(alloc)?;
     Ok([
         quarter.holds_at(&[3, 5], 2),
@@ -34,7 +34,12 @@ fn members(alloc: Global) -> Result<[Holds; 4], AllocError> {
 /// 8 - 3 - 5 is 0, 4 - 3 - 2 is below 0, the first row decides, and 4 - MAX - MAX passes the range.
 #[test]
 fn membership(rt: HostRuntime) {
-    let want = [Holds::Yes, Holds::No(1), Holds::No(0), Holds::Wide(1)];
+    let want = [
+        MembershipAnswer::Yes,
+        MembershipAnswer::No(1),
+        MembershipAnswer::No(0),
+        MembershipAnswer::Wide(1),
+    ];
     assert!(rt; members(rt.alloc()) == Ok(want));
 }
 
@@ -49,7 +54,7 @@ fn line(alloc: Global) -> Result<ConSys, AllocError>
 }
 
 // How many rows it has, and which of two points lie there.
-fn members_of_line(alloc: Global) -> Result<(usize, [Holds; 2]), AllocError> {
+fn members_of_line(alloc: Global) -> Result<(usize, [MembershipAnswer; 2]), AllocError> {
     let line = line(alloc)?;
     let found = [line.holds_at(&[1], 2), line.holds_at(&[1], 1)];
     Ok((line.kinds().len(), found))
@@ -57,7 +62,7 @@ fn members_of_line(alloc: Global) -> Result<(usize, [Holds; 2]), AllocError> {
 
 #[test]
 fn equalities(rt: HostRuntime) {
-    let want = (1, [Holds::Yes, Holds::No(0)]);
+    let want = (1, [MembershipAnswer::Yes, MembershipAnswer::No(0)]);
     assert!(rt; members_of_line(rt.alloc()) == Ok(want));
 }
 

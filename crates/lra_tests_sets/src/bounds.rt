@@ -6,7 +6,7 @@ use crate::boxes::{keep_by, set_by};
 use lra_box::Boxes;
 use lra_domain::Domain;
 use lra_gauge::Gauge;
-use lra_lin::LinExpr;
+use lra_linear_forms::LinExpr;
 use lra_oct::Octagon;
 use lra_polydom::Polyhedron;
 use lra_set::PowerSet;

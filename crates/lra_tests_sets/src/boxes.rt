@@ -2,10 +2,10 @@ ghost use Rattle.std.specs.Prelude.{◌≡◌, ◌<◌, length, IfOk};
 
 use lra_box::Boxes;
 use lra_domain::{Domain, Exactness, Included, Mode};
-use lra_lin::{LinExpr, Test};
+use lra_linear_forms::{LinExpr, Test};
 use lra_linear_spec::ConKind;
 use lra_row::Row;
-use lra_sys::ConSys;
+use lra_systems::ConSys;
 use std::alloc::{AllocError, Global};
 
 /// Assigns the form of this constant and these factors, through the bound.

@@ -6,7 +6,7 @@ use crate::boxes::{VALUE, answers_by, has_rows, head_by, keep_by, set_by, value_
 use lra_domain::{Domain, Exactness, Grown, Mode};
 use lra_polydom::{Polyhedron, PolyhedronHead};
 use lra_row::Row;
-use lra_sys::{ConKind, ConSys};
+use lra_systems::{ConKind, ConSys};
 use std::alloc::{AllocError, Global};
 
 /// x = 3 and 3 <= y <= 10, from the point (3, 3) to the point (3, 10).

@@ -12,7 +12,7 @@ use Rattle.lra_domain.specs.declared.changes.Change.{Change}
 use Rattle.lra_linear_spec.specs.declared.ConKind.{ConKind}
 use Rattle.lra_linear_spec.specs.declared.Excess.{Excess}
 use Rattle.lra_linear_spec.specs.Descriptions.{LinearRow}
-use Rattle.lra_sys.specs.Listed.{Listed, constraints}
+use Rattle.lra_systems.specs.LinearSystems.{LinearSystem, constraints}
 use Rattle.lra_ways.specs.Ways.{Goal, comes_to, denies}
 use Rattle.lra_paths.specs.Paths.{Path, path_by}
 use Rattle.lra_paths.specs.Sources.{to_goal}
@@ -72,7 +72,7 @@ module _ (live : ℕ) (rows : List LinearRow) (steps : List Action) where
   dead_same p goal l = same_given p goal (multipliers_in (codes "dead") (length rows + tests_in steps) (line_or_empty (line_on l.pieces))) l
 
 -- ---- which way a source has to a point
-module _ (from to : Option (Bor (Listed ConKind))) (p q : ℕ) where
+module _ (from to : Option (Bor (LinearSystem ConKind))) (p q : ℕ) where
   abbrev edge : Edge
   edge = record { source = p; point = q; from = from; to = to }
 
@@ -80,7 +80,7 @@ module _ (from to : Option (Bor (Listed ConKind))) (p q : ℕ) where
       path_of edge steps l ≡ edge_by live (rows_of from) (rows_of to) (path_by p (comes_to q) steps) l
   edge_same live steps l h = by from h
     where
-      by : (o : Option (Bor (Listed ConKind))) → IfSome o (λ r. r.now.dims ≡ live) →
+      by : (o : Option (Bor (LinearSystem ConKind))) → IfSome o (λ r. r.now.dims ≡ live) →
           edge_by (dims_of o) (rows_of o) (rows_of to) (path_by p (comes_to q) steps) l ≡
           edge_by live (rows_of o) (rows_of to) (path_by p (comes_to q) steps) l
       by None h = refl
@@ -105,20 +105,20 @@ none_dead : (live : ℕ) (lists : List (List Action)) (l : Left) → in_turn (de
 none_dead live [] l = refl
 none_dead live (steps ∷ lists) l = none_dead live lists l
 
-module _ (w : Ways) (p q : ℕ) (from : Option (Bor (Listed ConKind))) (rows : rows_of from ≡ state_from (states_in w) p) where
+module _ (w : Ways) (p q : ℕ) (from : Option (Bor (LinearSystem ConKind))) (rows : rows_of from ≡ state_from (states_in w) p) where
   pub denial_none : (l : Left) → from ≡ None → denial_by w q p l ≡ Ok l
   denial_none l none =
       ap (λ (x : State). in_turn (dead_by (live_by (sites_in w) p) x) (led_by w p (denies q)) l)
-      (sym rows ∙ ap (λ (o : Option (Bor (Listed ConKind))). rows_of o) none) ∙
+      (sym rows ∙ ap (λ (o : Option (Bor (LinearSystem ConKind))). rows_of o) none) ∙
       none_dead (live_by (sites_in w) p) (led_by w p (denies q)) l
 
-  pub denial_same : (s : Source) (r : Bor (Listed ConKind)) (lists : List (List Action)) (l : Left) → from ≡ Some r → slice_get w.sources.now p ≡ Some s →
+  pub denial_same : (s : Source) (r : Bor (LinearSystem ConKind)) (lists : List (List Action)) (l : Left) → from ≡ Some r → slice_get w.sources.now p ≡ Some s →
       lists ≡ to_goal s.entries.items s.ways.items (denies q) → r.now.dims ≡ live_by (sites_in w) p →
       in_turn (dead_by r.now.dims (Some (constraints r.now))) lists l ≡ denial_by w q p l
   denial_same s r lists l some got led dims =
       ap (λ (n : ℕ). in_turn (dead_by n (Some (constraints r.now))) lists l) dims ∙
       ap (λ (x : State). in_turn (dead_by (live_by (sites_in w) p) x) lists l)
-      (sym (ap (λ (o : Option (Bor (Listed ConKind))). rows_of o) some) ∙ rows) ∙
+      (sym (ap (λ (o : Option (Bor (LinearSystem ConKind))). rows_of o) some) ∙ rows) ∙
       ap (λ (xs : List (List Action)). in_turn (dead_by (live_by (sites_in w) p) (state_from (states_in w) p)) xs l)
       (led ∙ ap (λ (o : Option Source). led_from o (denies q)) (sym got))
 
@@ -152,19 +152,19 @@ module _ (e : Edge) (steps : List Action) (text : List ℕ) (l : Left)
   pub path_none : (next : Left) → takes text l ≡ Ok next → e.from ≡ None → path_of e steps l ≡ Ok next
   path_none next took none =
       sym (path_taken next took) ∙
-      ap (λ (o : Option (Bor (Listed ConKind))). judged_from (dims_of o) path (rows_of o) (rows_of e.to) next) none
+      ap (λ (o : Option (Bor (LinearSystem ConKind))). judged_from (dims_of o) path (rows_of o) (rows_of e.to) next) none
 
-  pub path_some : (next : Left) (r : Bor (Listed ConKind)) (t : Track) → takes text l ≡ Ok next → e.from ≡ Some r →
+  pub path_some : (next : Left) (r : Bor (LinearSystem ConKind)) (t : Track) → takes text l ≡ Ok next → e.from ≡ Some r →
       IsTrack r.now.dims (constraints r.now) steps t → lines_by t (rows_of e.to) next ≡ path_of e steps l
   path_some next r t took some track =
       lines_are (record { live = r.now.dims; rows = constraints r.now; path = path }) t track (rows_of e.to) next ∙
-      sym (ap (λ (o : Option (Bor (Listed ConKind))). judged_from (dims_of o) path (rows_of o) (rows_of e.to) next) some) ∙
+      sym (ap (λ (o : Option (Bor (LinearSystem ConKind))). judged_from (dims_of o) path (rows_of o) (rows_of e.to) next) some) ∙
       path_taken next took
 
   pub path_fault : (error : VerifyError) → IsFault (takes text l) error → IsFault (path_of e steps l) error
   path_fault error = fault_through (takes text l) (path_of e steps l) error
       (λ r took. then_err (takes (edge_text path) l) behind r (sym line_first ∙ took))
 
-pub dead_told : (rows : Listed ConKind) (steps : List Action) (t : Track) (l : Left) → IsTrack rows.dims (constraints rows) steps t →
+pub dead_told : (rows : LinearSystem ConKind) (steps : List Action) (t : Track) (l : Left) → IsTrack rows.dims (constraints rows) steps t →
     line_by t (codes "dead") None l ≡ dead_by rows.dims (Some (constraints rows)) steps l
 dead_told rows steps t l track = dead_is (record { live = rows.dims; rows = constraints rows; path = path_by 0 (denies 0) steps }) t track l

@@ -6,7 +6,7 @@ use Rattle.std.proofs.lemmas.Option.{slice_get_read, slice_get-map, slice_get_wi
 use Rattle.std.specs.Borrow.{Bor}
 use Rattle.std.specs.List.{All}
 use Rattle.lra_linear_spec.specs.declared.ConKind.{ConKind}
-use Rattle.lra_sys.specs.Listed.{Listed}
+use Rattle.lra_systems.specs.LinearSystems.{LinearSystem}
 use Rattle.lra_program.specs.Sites as sites
 use Rattle.lra_operations.specs.declared.graph.Site.{Site}
 use Rattle.lra_operations.specs.GraphViews.{site_view}
@@ -17,14 +17,14 @@ use Rattle.lra_certificate.specs.Judged.{Left, Judged, State, judged_state, judg
 use Rattle.lra_verify.specs.PointViews.{HaveDims, state_view}
 use Rattle.lra_lines.proofs.Told.{states_after, states_more}
 
-pub dims_pushed : (all : List sites.Site) (states : List (Option (Listed ConKind))) (state : Option (Listed ConKind)) (i : ℕ) → length states ≡ i →
+pub dims_pushed : (all : List sites.Site) (states : List (Option (LinearSystem ConKind))) (state : Option (LinearSystem ConKind)) (i : ℕ) → length states ≡ i →
     HaveDims all states → IfSome state (λ rows. rows.dims ≡ live_of (slice_get all i)) → HaveDims all (states ++ state ∷ [])
 dims_pushed all states state i n h s q rows e = by (last_or_before states state (Some rows) q e)
   where
     by : (slice_get states q ≡ Some (Some rows)) ⊎ ((q ≡ length states) × (state ≡ Some rows)) → rows.dims ≡ live_of (slice_get all q)
     by (inl old) = h q rows old
     by (inr new) =
-        subst (λ (o : Option (Listed ConKind)). IfSome o (λ r. r.dims ≡ live_of (slice_get all i))) new.1 s ∙
+        subst (λ (o : Option (LinearSystem ConKind)). IfSome o (λ r. r.dims ≡ live_of (slice_get all i))) new.1 s ∙
         ap (λ (j : ℕ). live_of (slice_get all j)) (sym (new.0 ∙ n))
 
 -- the site at a place
@@ -40,7 +40,7 @@ sites_next all i s h is = ap (map site_view) (drop-cons all i s h ∙ (λ j. sym
 pub sites_end : (all : List Site) (i : ℕ) → length all ≤ i → map site_view (drop i all) ≡ []
 sites_end all i h = ap (map site_view) (drop_all i all h)
 
-pub points_more : (all : List Site) (i : ℕ) (site : Site) (states : List (Option (Listed ConKind))) (state : Option (Listed ConKind)) (l m : Left)
+pub points_more : (all : List Site) (i : ℕ) (site : Site) (states : List (Option (LinearSystem ConKind))) (state : Option (LinearSystem ConKind)) (l m : Left)
     (whole : Judged (List State × Left)) → i < length all → site ≡ slice_index_or all i site →
     states_after (map state_view states) (judged_states (i + 1) (map site_view (drop i all)) l) ≡ whole →
     judged_state (i + 1) site.live l ≡ Ok (state_view state, m) →
@@ -53,12 +53,13 @@ points_more all i site states state l m whole h is so_far e =
     (state_view state) m e
 
 -- ---- what is said of a point, and of a source
-pub state_at : (states : List (Option (Listed ConKind))) (q : ℕ) (state : Option (Listed ConKind)) → q < length states → state ≡ slice_index_or states q state →
+pub state_at : (states : List (Option (LinearSystem ConKind))) (q : ℕ) (state : Option (LinearSystem ConKind)) → q < length states →
+    state ≡ slice_index_or states q state →
     state_view state ≡ state_or_empty (slice_get (map state_view states) q)
 state_at states q state h is =
     sym (ap state_or_empty (slice_get-map state_view states q ∙ ap (option_map state_view) (slice_get_read states (length states) q state refl h is)))
 
-pub state_got : (states : List (Option (Listed ConKind))) (q : ℕ) (state : Option (Listed ConKind)) → q < length states → state ≡ slice_index_or states q state →
+pub state_got : (states : List (Option (LinearSystem ConKind))) (q : ℕ) (state : Option (LinearSystem ConKind)) → q < length states → state ≡ slice_index_or states q state →
     slice_get states q ≡ Some state
 state_got states q state h is = slice_get_read states (length states) q state refl h is
 
@@ -73,6 +74,6 @@ pub live_small : (n : ℕ) (all : List Site) → 0 < n → All (λ s. s.live < n
 live_small n all z h q =
     subst (λ (o : Option sites.Site). live_of o < n) (sym (slice_get-map site_view all q)) (live_by_get n all z h q (slice_get all q) refl)
 
-pub dims_small : (o : Option (Bor (Listed ConKind))) (live n : ℕ) → live < n → IfSome o (λ r. r.now.dims ≡ live) → IfSome o (λ r. r.now.dims < n)
+pub dims_small : (o : Option (Bor (LinearSystem ConKind))) (live n : ℕ) → live < n → IfSome o (λ r. r.now.dims ≡ live) → IfSome o (λ r. r.now.dims < n)
 dims_small None live n h e = tt
 dims_small (Some r) live n h e = omega (arith, h, e)

@@ -14,7 +14,7 @@ use Rattle.lra_sides.proofs.TableSteps.{get_left, get_seam}
 use Rattle.lra_domain.specs.Actions.{Action}
 use Rattle.lra_linear_spec.specs.declared.ConKind.{ConKind}
 use Rattle.lra_linear_spec.specs.Kinds.{is_equality}
-use Rattle.lra_sys.specs.Listed.{Listed, given_by}
+use Rattle.lra_systems.specs.LinearSystems.{LinearSystem, rows_by_kind}
 use Rattle.lra_verify.specs.PointViews.{HaveDims}
 use Rattle.lra_program.specs.Program.{Program}
 use Rattle.lra_program.specs.Sites.{Site, sites_of}
@@ -229,18 +229,18 @@ points_fault P g all bytes e same = fault_through (judged_states 1 all (left_at 
     (ap (λ (s : List Site). judged_states 1 s (left_at bytes 0)) (sym same) ∙ is))
 
 -- ---- a program is ready to be judged
-pub ways_ready : (w : Ways) (states : List (Option (Listed ConKind))) → w.start.now.rows ≡ [] → w.start.now.dims ≡ 0 → w.states.now ≡ states →
+pub ways_ready : (w : Ways) (states : List (Option (LinearSystem ConKind))) → w.start.now.rows ≡ [] → w.start.now.dims ≡ 0 → w.states.now ≡ states →
     length states ≡ length w.sites.now → HaveDims (sites_in w) states → AreSources (length w.sites.now) w.sources.now →
     length w.sites.now < 2 ^ 31 → All (λ s. s.live < 2 ^ 31) w.sites.now → AreWays w
 ways_ready w states none no_dims said count dims sources short live = record {
-  states = ap (λ (x : List (Option (Listed ConKind))). length x) said ∙ count;
+  states = ap (λ (x : List (Option (LinearSystem ConKind))). length x) said ∙ count;
   sources = sources.count;
   many = short;
   tables = sources.tables;
   few = sources.few;
-  start_rows = ap (λ (x : List (List ℤ)). given_by is_equality x w.start.now.kinds) none;
+  start_rows = ap (λ (x : List (List ℤ)). rows_by_kind is_equality x w.start.now.kinds) none;
   start_dims = no_dims;
-  dims = subst (λ (x : List (Option (Listed ConKind))). HaveDims (sites_in w) x) (sym said) dims;
+  dims = subst (λ (x : List (Option (LinearSystem ConKind))). HaveDims (sites_in w) x) (sym said) dims;
   live = live;
 }
 

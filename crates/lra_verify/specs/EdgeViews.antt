@@ -4,7 +4,7 @@ use Rattle.std.specs.Prelude.{Option, None, Some, slice_get, ◌&&◌, if◌then
 use Rattle.std.specs.Borrow.{Bor}
 use Rattle.std.specs.List.{All, range_with_len}
 use Rattle.lra_linear_spec.specs.declared.ConKind.{ConKind}
-use Rattle.lra_sys.specs.Listed.{Listed, constraints}
+use Rattle.lra_systems.specs.LinearSystems.{LinearSystem, constraints}
 use Rattle.lra_domain.specs.Actions.{Action}
 use Rattle.lra_program.specs.Sites.{Site}
 use Rattle.lra_operations.specs.GraphViews.{site_view}
@@ -29,7 +29,7 @@ abbrev pub edge_by : ℕ → State → State → Path → Left → Judged Left
 edge_by live from target path l = then_judged (takes (edge_text path) l) (λ m. judged_from live path from target m)
 
 -- how many variables have the rows of a source that isn't empty
-abbrev pub dims_of : Option (Bor (Listed ConKind)) → ℕ
+abbrev pub dims_of : Option (Bor (LinearSystem ConKind)) → ℕ
 dims_of None = 0
 dims_of (Some rows) = rows.now.dims
 

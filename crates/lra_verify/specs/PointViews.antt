@@ -1,7 +1,7 @@
 -- Rows and points of a certificate as the code reads them.
 use Rattle.std.specs.Prelude.{◌≡◌, ℕ, List, map, Option, Some, None, slice_get}
 use Rattle.lra_linear_spec.specs.Descriptions.{LinearRow}
-use Rattle.lra_sys.specs.Listed.{Listed, constraints}
+use Rattle.lra_systems.specs.LinearSystems.{LinearSystem, constraints}
 use Rattle.lra_linear_spec.specs.declared.ConKind.{ConKind}
 use Rattle.lra_program.specs.Sites.{Site}
 use Rattle.lra_paths.specs.Paths.{live_of}
@@ -15,7 +15,7 @@ use Rattle.lra_verify.specs.declared.points.Points.{Points}
 abbrev pub rows_view : List ℕ → PointRows → List LinearRow × Left
 rows_view bytes r = (constraints r.rows, left_at bytes r.behind)
 
-abbrev pub state_view : Option (Listed ConKind) → State
+abbrev pub state_view : Option (LinearSystem ConKind) → State
 state_view None = None
 state_view (Some rows) = Some (constraints rows)
 
@@ -26,6 +26,6 @@ abbrev pub points_view : List ℕ → Points → List State × Left
 points_view bytes p = (map state_view p.states.items, left_at bytes p.behind)
 
 -- rows of a point have its variables
-abbrev pub HaveDims : List Site → List (Option (Listed ConKind)) → Type 0
-HaveDims sites states = (q : ℕ) (rows : Listed ConKind) → slice_get states q ≡ Some (Some rows) →
+abbrev pub HaveDims : List Site → List (Option (LinearSystem ConKind)) → Type 0
+HaveDims sites states = (q : ℕ) (rows : LinearSystem ConKind) → slice_get states q ≡ Some (Some rows) →
     rows.dims ≡ live_of (slice_get sites q)

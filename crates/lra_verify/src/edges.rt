@@ -2,7 +2,7 @@
 
 ghost use Rattle.std.specs.Prelude.{◌≡◌, ◌≤◌, ◌<◌, ◌++◌, ◌^◌, length, codes, string_bytes, Some, IfOk, IfSome};
 ghost use Rattle.std.specs.Fmt.{decimal};
-ghost use Rattle.lra_sys.specs.Listed.{constraints};
+ghost use Rattle.lra_systems.specs.LinearSystems.{constraints};
 ghost use Rattle.lra_sides.specs.TableSides.{all_done, lists_done};
 ghost use Rattle.lra_verify.specs.EdgeViews.{dead_by, path_of};
 ghost use Rattle.lra_certificate.specs.Lines.{in_turn, left_at};
@@ -10,7 +10,7 @@ ghost use Rattle.lra_lines.specs.LineViews.{IsToldAs};
 
 use lra_domain::Change;
 use lra_lines::{Track, VerifyError, take_line};
-use lra_sys::ConSys;
+use lra_systems::ConSys;
 use std::alloc::{AllocError, Global};
 
 /// A source and a point, with the rows that are said of them; none where nothing comes there.

@@ -21,7 +21,7 @@ use lra_lines::{LineFault, VerifyError, behind_text, line_at, numbers_behind, re
 use lra_operations::Site;
 use lra_row::Row;
 use lra_script::Constraint;
-use lra_sys::ConSys;
+use lra_systems::ConSys;
 use std::alloc::{AllocError, Global};
 
 /// The rows of a point, and where the next line begins.

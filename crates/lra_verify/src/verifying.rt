@@ -29,7 +29,7 @@ use lra_lines::{LineFault, VerifyError, VerifyRefusal};
 use lra_operations::{Graph, Site};
 use lra_paths::{Paths, PathsFailure, Source, find_paths};
 use lra_program::Program;
-use lra_sys::ConSys;
+use lra_systems::ConSys;
 use std::alloc::{AllocError, Global};
 
 /// The most bytes of an input that is to be a certificate.

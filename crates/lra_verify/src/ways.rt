@@ -15,7 +15,7 @@ use crate::edges::{Edge, take_paths};
 use lra_lines::VerifyError;
 use lra_operations::Site;
 use lra_paths::Source;
-use lra_sys::ConSys;
+use lra_systems::ConSys;
 use lra_ways::Goal;
 use std::alloc::Global;
 

@@ -1,7 +1,7 @@
 -- The iteration over boxes on a call whose `return` cuts the callee's parameter, behind which the callee goes on:
 -- long f(long x){ if(input()) return 1; x=2; return x; } int main(void){ long r=f(0); }
 use Rattle.std.proofs.Common.{◌≡◌, ℕ, pos, List, [], ◌∷◌, ◌++◌, length, None, Some, refl, arith, lit<}
-use Rattle.lra_lin.specs.Form.{Form}
+use Rattle.lra_linear_forms.specs.Form.{Form}
 use Rattle.lra_domain.specs.Actions.{assign}
 use Rattle.lra_domain.specs.declared.Exactness.TheVariants.{Exact}
 use Rattle.lra_base.specs.declared.number_types.NumberType.TheVariants.{Int, Long}

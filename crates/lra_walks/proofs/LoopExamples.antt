@@ -1,7 +1,7 @@
 -- The iteration over boxes on a loop that counts: int main(void){ long i=0; while(i<10) i=i+1; }
 use Rattle.std.proofs.Common.{◌≡◌, ℕ, pos, negsuc, List, [], ◌∷◌, None, Some, false, refl, arith, lit<, ◌<◌, ◌^◌}
 use Rattle.std.proofs.lemmas.Int.{ints}
-use Rattle.lra_lin.specs.Form.{Form}
+use Rattle.lra_linear_forms.specs.Form.{Form}
 use Rattle.lra_linear_spec.specs.declared.ConKind.TheVariants.{Ge}
 use Rattle.lra_domain.specs.Actions.{assign, test}
 use Rattle.lra_domain.specs.declared.Exactness.TheVariants.{Exact}

@@ -13,8 +13,8 @@ use Rattle.lra_linear_spec.specs.Polyhedra.{Polyhedron}
 use Rattle.lra_linear_spec.specs.Vectors.{product}
 use Rattle.lra_linear_spec.specs.Widening.{holds_with, is_tight_as}
 use Rattle.lra_linear_spec.proofs.CheckedArithmetic.{checked_product_value}
-use Rattle.lra_sys.specs.Listed.{given_by}
-use Rattle.lra_sys.proofs.FirstMembers.{front, member}
+use Rattle.lra_systems.specs.LinearSystems.{rows_by_kind}
+use Rattle.lra_systems.proofs.FirstMembers.{front, member}
 use Rattle.lra_duality.specs.Saturations.{saturated}
 use Rattle.lra_widen.specs.Rank.{fits, held, holds_in_range, is_free}
 use Rattle.lra_widen.specs.Saturated.{is_zero, same_values, vanishes}
@@ -65,13 +65,13 @@ holds_elsewhere p r bits a t e = sym (ap (λ b. b && holds_in_range p r) t) ∙ 
 -- ---- place by place
 pub agree_all : {K : Type 0} (equal : K → Bool) (f : List ℤ → Bool) (rows : List (List ℤ)) (kinds : List K) (bits : List Bool) → length kinds ≡ length rows →
     ((j : ℕ) → j < length rows → value_at bits j ≡ f (get_or rows j [])) →
-    true ≡ same_values bits (map (λ (g : LinearRow). f g.row) (given_by equal rows kinds))
+    true ≡ same_values bits (map (λ (g : LinearRow). f g.row) (rows_by_kind equal rows kinds))
 agree_all equal f rows kinds [] n h = refl
 agree_all equal f [] kinds (b ∷ bits) n h = refl
 agree_all equal f (x ∷ rows) [] (b ∷ bits) n h = absurd (omega (arith, n))
 agree_all equal f (x ∷ rows) (k ∷ kinds) (b ∷ bits) n h =
     agree_all equal f rows kinds bits (omega (arith, n)) (λ j m. h (suc j) (omega (arith, m))) ∙
-    ap (λ c. c && same_values bits (map (λ (g : LinearRow). f g.row) (given_by equal rows kinds))) (one_value b (f x) (h 0 (omega arith)))
+    ap (λ c. c && same_values bits (map (λ (g : LinearRow). f g.row) (rows_by_kind equal rows kinds))) (one_value b (f x) (h 0 (omega arith)))
   where
     one_value : (b c : Bool) → b ≡ c → true ≡ beq b c
     one_value true true e = refl
@@ -80,12 +80,12 @@ agree_all equal f (x ∷ rows) (k ∷ kinds) (b ∷ bits) n h =
     one_value false true e = cc
 
 pub differ_at : {K : Type 0} (equal : K → Bool) (f : List ℤ → Bool) (rows : List (List ℤ)) (kinds : List K) (bits : List Bool) (i : ℕ) → length kinds ≡ length rows → length bits ≡ length rows →
-    i < length rows → value_at bits i ≢ f (get_or rows i []) → false ≡ same_values bits (map (λ (g : LinearRow). f g.row) (given_by equal rows kinds))
+    i < length rows → value_at bits i ≢ f (get_or rows i []) → false ≡ same_values bits (map (λ (g : LinearRow). f g.row) (rows_by_kind equal rows kinds))
 differ_at equal f [] kinds bits i n l m h = absurd (omega (arith, m))
 differ_at equal f (x ∷ rows) [] bits i n l m h = absurd (omega (arith, n))
 differ_at equal f (x ∷ rows) (k ∷ kinds) [] i n l m h = absurd (omega (arith, l))
 differ_at equal f (x ∷ rows) (k ∷ kinds) (b ∷ bits) zero n l m h =
-    ap (λ c. c && same_values bits (map (λ (g : LinearRow). f g.row) (given_by equal rows kinds))) (two_values b (f x) h)
+    ap (λ c. c && same_values bits (map (λ (g : LinearRow). f g.row) (rows_by_kind equal rows kinds))) (two_values b (f x) h)
   where
     two_values : (b c : Bool) → b ≢ c → false ≡ beq b c
     two_values true true e = absurd (e refl)
@@ -101,7 +101,7 @@ differ_at equal f (x ∷ rows) (k ∷ kinds) (b ∷ bits) (suc i) n l m h =
 
 -- the values in the matrix at the place of a row
 pub bits_at : {K : Type 0} (equal : K → Bool) (generators : List LinearRow) (rows : List (List ℤ)) (kinds : List K) (i : ℕ) (r : List ℤ) → length kinds ≡ length rows → i < length rows →
-    r ≡ get_or rows i r → slice_index_or (map (λ (s : LinearRow). saturated generators s.row) (given_by equal rows kinds)) i [] ≡ saturated generators r
+    r ≡ get_or rows i r → slice_index_or (map (λ (s : LinearRow). saturated generators s.row) (rows_by_kind equal rows kinds)) i [] ≡ saturated generators r
 bits_at equal generators [] kinds i r n m e = absurd (omega (arith, m))
 bits_at equal generators (x ∷ rows) [] i r n m e = absurd (omega (arith, n))
 bits_at equal generators (x ∷ rows) (k ∷ kinds) zero r n m e = ap (saturated generators) (sym e)
@@ -115,14 +115,14 @@ unequal true false h e = cc
 unequal false true h e = cc
 
 -- the rows before a place, and the one there
-take_given : {K : Type 0} (equal : K → Bool) (rows : List (List ℤ)) (kinds : List K) (i : ℕ) → take i (given_by equal rows kinds) ≡ front equal rows kinds i
+take_given : {K : Type 0} (equal : K → Bool) (rows : List (List ℤ)) (kinds : List K) (i : ℕ) → take i (rows_by_kind equal rows kinds) ≡ front equal rows kinds i
 take_given equal rows kinds zero = refl
 take_given equal [] kinds (suc i) = refl
 take_given equal (x ∷ rows) [] (suc i) = refl
 take_given equal (x ∷ rows) (k ∷ kinds) (suc i) =
     ap (λ (l : List LinearRow). (let g : LinearRow = record { row = x; equal = equal k } in g) ∷ l) (take_given equal rows kinds i)
 
-pub row_more : {K : Type 0} (equal : K → Bool) (own : List LinearRow) (rows : List (List ℤ)) (kinds : List K) (i : ℕ) (r : List ℤ) (k : K) → own ≡ given_by equal rows kinds →
+pub row_more : {K : Type 0} (equal : K → Bool) (own : List LinearRow) (rows : List (List ℤ)) (kinds : List K) (i : ℕ) (r : List ℤ) (k : K) → own ≡ rows_by_kind equal rows kinds →
     length kinds ≡ length rows → i < length rows → r ≡ get_or rows i r → take (i + 1) own ≡ take i own ++ member equal kinds i r k ∷ []
 row_more equal own rows kinds i r k e n m is =
     ap (take (i + 1)) e ∙ take_given equal rows kinds (i + 1) ∙ front_step equal rows kinds i r k n m is ∙

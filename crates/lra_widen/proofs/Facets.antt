@@ -23,7 +23,7 @@ use Rattle.lra_linear_spec.proofs.Products.{blend_length, negated_dot, negated_l
 use Rattle.lra_linear_spec.proofs.Ring.{mul_nonnegative, ring, v, ⊖, ◌⊕◌, ◌⊗◌}
 use Rattle.lra_linear_spec.proofs.Signs.{add_nonnegative, cancel_same, not_both, times_positive}
 use Rattle.lra_linear_spec.proofs.Spans.{all_zero}
-use Rattle.lra_canon.proofs.Solutions.{description_exists}
+use Rattle.lra_canonical.proofs.Solutions.{description_exists}
 use Rattle.lra_widen.proofs.Dimension.{pivot_row}
 use Rattle.lra_widen.proofs.Faces.{IsAbove, above_generated, beside_back, con, equality_flat, facet_not_flat, gen, line_flat}
 

@@ -4,8 +4,8 @@ use Rattle.std.proofs.lemmas.List.{append_assoc, length-append, take_all}
 use Rattle.std.proofs.lemmas.List.Elements.{filter-append}
 use Rattle.std.specs.List.{filter}
 use Rattle.lra_linear_spec.specs.Descriptions.{LinearRow}
-use Rattle.lra_sys.specs.Listed.{Listed, given_by}
-use Rattle.lra_sys.proofs.FirstMembers.{front, given_more, member}
+use Rattle.lra_systems.specs.LinearSystems.{LinearSystem, rows_by_kind}
+use Rattle.lra_systems.proofs.FirstMembers.{front, given_more, member}
 
 -- one more place
 pub front_step : {K : Type 0} (equal : K → Bool) (rows : List (List ℤ)) (kinds : List K) (i : ℕ) (r : List ℤ) (k : K) → length kinds ≡ length rows → i < length rows → r ≡ get_or rows i r →
@@ -13,8 +13,9 @@ pub front_step : {K : Type 0} (equal : K → Bool) (rows : List (List ℤ)) (kin
 front_step equal rows kinds i r k n h e = ap (front equal rows kinds) (add-one i) ∙ given_more equal rows kinds i r k n h e
 
 -- all places
-pub front_all : {K : Type 0} (equal : K → Bool) (rows : List (List ℤ)) (kinds : List K) (i : ℕ) → length kinds ≡ length rows → length rows ≤ i → front equal rows kinds i ≡ given_by equal rows kinds
-front_all equal rows kinds i n h = ap (λ l. given_by equal l (take i kinds)) (take_all i rows h) ∙ ap (given_by equal rows) (take_all i kinds (omega (arith, n, h)))
+pub front_all : {K : Type 0} (equal : K → Bool) (rows : List (List ℤ)) (kinds : List K) (i : ℕ) → length kinds ≡ length rows → length rows ≤ i →
+    front equal rows kinds i ≡ rows_by_kind equal rows kinds
+front_all equal rows kinds i n h = ap (λ l. rows_by_kind equal l (take i kinds)) (take_all i rows h) ∙ ap (rows_by_kind equal rows) (take_all i kinds (omega (arith, n, h)))
 
 -- ---- those that pass a test
 pub filter_step : (test : LinearRow → Bool) (xs ys : List LinearRow) (g : LinearRow) → ys ≡ xs ++ g ∷ [] →
@@ -44,8 +45,8 @@ count_few n m i true h e = omega (arith, h, e)
 count_few n m i false h e = omega (arith, h, e)
 
 -- all places of a list
-pub front_seen : {K : Type 0} (equal : K → Bool) (all : Listed K) (rows : List (List ℤ)) (kinds : List K) (i : ℕ) → rows ≡ all.rows → kinds ≡ all.kinds → length kinds ≡ length all.rows →
+pub front_seen : {K : Type 0} (equal : K → Bool) (all : LinearSystem K) (rows : List (List ℤ)) (kinds : List K) (i : ℕ) → rows ≡ all.rows → kinds ≡ all.kinds → length kinds ≡ length all.rows →
     length rows ≤ i →
-    front equal rows kinds i ≡ given_by equal all.rows all.kinds
+    front equal rows kinds i ≡ rows_by_kind equal all.rows all.kinds
 front_seen equal all rows kinds i er ek n h =
-    front_all equal rows kinds i (n ∙ ap length (sym er)) h ∙ ap (λ l. given_by equal l kinds) er ∙ ap (given_by equal all.rows) ek
+    front_all equal rows kinds i (n ∙ ap length (sym er)) h ∙ ap (λ l. rows_by_kind equal l kinds) er ∙ ap (rows_by_kind equal all.rows) ek

@@ -12,11 +12,11 @@ use Rattle.lra_linear_spec.specs.Polyhedra.{Polyhedron}
 use Rattle.lra_linear_spec.specs.Strain.{Loss}
 use Rattle.lra_linear_spec.proofs.Membership.{contains_head, contains_tail}
 use Rattle.lra_duality.specs.declared.inclusion.Inclusion.TheVariants.{Wide}
-use Rattle.lra_sys.specs.FirstPlaces.{FirstAt}
+use Rattle.lra_systems.specs.FirstPlaces.{FirstAt}
 use Rattle.lra_duality.specs.Inclusions.{IsInclusion, Meets, MeetsAll, Passes}
-use Rattle.lra_sys.proofs.FirstMembers.{member}
+use Rattle.lra_systems.proofs.FirstMembers.{member}
 use Rattle.lra_duality.proofs.InclusionLemmas.{has_member}
-use Rattle.lra_sys.specs.Listed.{Listed, constraints, generators, given_by}
+use Rattle.lra_systems.specs.LinearSystems.{LinearSystem, constraints, generators, rows_by_kind}
 use Rattle.lra_linear_spec.specs.declared.GenKind.{GenKind}
 use Rattle.lra_linear_spec.specs.declared.GenKind.TheVariants.{Point}
 use Rattle.lra_widen.specs.Validity.{IsValidity}
@@ -25,28 +25,28 @@ use Rattle.lra_widen.specs.declared.validity.Validity.TheVariants as told
 
 -- ---- a member is among the rows
 row_at : {K : Type 0} (equal : K → Bool) (rows : List (List ℤ)) (kinds : List K) (i : ℕ) (r : List ℤ) (k : K) → length kinds ≡ length rows → i < length rows → r ≡ get_or rows i r →
-    Contains (given_by equal rows kinds) (member equal kinds i r k)
+    Contains (rows_by_kind equal rows kinds) (member equal kinds i r k)
 row_at equal [] kinds i r k n h e = absurd (omega (arith, h))
 row_at equal (x ∷ rows) [] i r k n h e = absurd (omega (arith, n))
 row_at equal (x ∷ rows) (kind ∷ kinds) zero r k n h e =
-    subst (λ (y : List ℤ). Contains (given_by equal (x ∷ rows) (kind ∷ kinds)) (record { row = y; equal = equal kind })) (sym e)
-    (contains_head (let g : LinearRow = record { row = x; equal = equal kind } in g) (given_by equal rows kinds))
+    subst (λ (y : List ℤ). Contains (rows_by_kind equal (x ∷ rows) (kind ∷ kinds)) (record { row = y; equal = equal kind })) (sym e)
+    (contains_head (let g : LinearRow = record { row = x; equal = equal kind } in g) (rows_by_kind equal rows kinds))
 row_at equal (x ∷ rows) (kind ∷ kinds) (suc i) r k n h e =
-    contains_tail (let g : LinearRow = record { row = x; equal = equal kind } in g) (member equal kinds i r k) (given_by equal rows kinds)
+    contains_tail (let g : LinearRow = record { row = x; equal = equal kind } in g) (member equal kinds i r k) (rows_by_kind equal rows kinds)
     (row_at equal rows kinds i r k (omega (arith, n)) (omega (arith, h)) e)
 
-pub row_among : {K : Type 0} (equal : K → Bool) (all : Listed K) (rows : List (List ℤ)) (kinds : List K) (i : ℕ) (r : List ℤ) (k : K) → rows ≡ all.rows → kinds ≡ all.kinds →
+pub row_among : {K : Type 0} (equal : K → Bool) (all : LinearSystem K) (rows : List (List ℤ)) (kinds : List K) (i : ℕ) (r : List ℤ) (k : K) → rows ≡ all.rows → kinds ≡ all.kinds →
     length kinds ≡ length all.rows →
-    i < length rows → r ≡ get_or rows i r → Contains (given_by equal all.rows all.kinds) (member equal kinds i r k)
+    i < length rows → r ≡ get_or rows i r → Contains (rows_by_kind equal all.rows all.kinds) (member equal kinds i r k)
 row_among equal all rows kinds i r k er ek n h e =
-    subst (λ l. Contains (given_by equal all.rows l) (member equal kinds i r k)) ek
-    (subst (λ l. Contains (given_by equal l kinds) (member equal kinds i r k)) er (row_at equal rows kinds i r k (n ∙ ap length (sym er)) h e))
+    subst (λ l. Contains (rows_by_kind equal all.rows l) (member equal kinds i r k)) ek
+    (subst (λ l. Contains (rows_by_kind equal l kinds) (member equal kinds i r k)) er (row_at equal rows kinds i r k (n ∙ ap length (sym er)) h e))
 
 pub width_at : (n : ℕ) (rows : List (List ℤ)) (i : ℕ) (r : List ℤ) → All (λ x. length x ≡ n) rows → i < length rows → r ≡ get_or rows i r → length r ≡ n
 width_at n rows i r h l e = ap length e ∙ h i r l
 
 -- ---- the member at the end of a beginning
-given_at : {K : Type 0} (equal : K → Bool) (rows : List (List ℤ)) (kinds : List K) (e : List LinearRow) (m : LinearRow) (l : List LinearRow) → given_by equal rows kinds ≡ e ++ m ∷ l →
+given_at : {K : Type 0} (equal : K → Bool) (rows : List (List ℤ)) (kinds : List K) (e : List LinearRow) (m : LinearRow) (l : List LinearRow) → rows_by_kind equal rows kinds ≡ e ++ m ∷ l →
     length kinds ≡ length rows →
     (length e < length rows) × ((r : List ℤ) (k : K) → r ≡ get_or rows (length e) r → m ≡ record { row = r; equal = equal (get_or kinds (length e) k) })
 given_at equal [] kinds [] m l h n = cc
@@ -57,7 +57,7 @@ given_at equal (x ∷ rows) (kind ∷ kinds) [] m l h n = (
   λ r k q. let first : m ≡ record { row = x; equal = equal kind } = cc in first ∙ ap (λ (y : List ℤ). (let g : LinearRow = record { row = y; equal = equal kind } in g)) (sym q),
 )
 given_at equal (x ∷ rows) (kind ∷ kinds) (y ∷ e) m l h n =
-    let tail : given_by equal rows kinds ≡ e ++ m ∷ l = cc in
+    let tail : rows_by_kind equal rows kinds ≡ e ++ m ∷ l = cc in
     let i = given_at equal rows kinds e m l tail (omega (arith, n)) in
     (omega (arith, i.0), i.1)
 
@@ -68,13 +68,15 @@ pub record WidePair (p q : Polyhedron) (rows columns : List (List ℤ)) (kinds :
   pub here : (r g : List ℤ) (k : ConKind) → r ≡ get_or rows row r → g ≡ get_or columns generator g →
       Contains q.rows (record { row = r; equal = is_equality (get_or kinds row k) }) × ((x : LinearRow) × Contains p.generators x × (x.row ≡ g)) × IsErr (checked_product r g)
 
-pub wide_pair : (p q : Polyhedron) (list : Listed ConKind) (by : Listed GenKind) (rows columns : List (List ℤ)) (kinds : List ConKind) (others : List GenKind) (generator row : ℕ) →
+pub wide_pair : (p q : Polyhedron) (list : LinearSystem ConKind) (by : LinearSystem GenKind) (rows columns : List (List ℤ)) (kinds : List ConKind) (others : List GenKind) (generator row : ℕ) →
     constraints list ≡ q.rows →
     generators by ≡ p.generators → rows ≡ list.rows → kinds ≡ list.kinds → length kinds ≡ length list.rows → columns ≡ by.rows → others ≡ by.kinds → length others ≡ length by.rows →
     IsInclusion q.rows p.generators (Wide generator row) → WidePair p q rows columns kinds generator row
 wide_pair p q list by rows columns kinds others generator row el eb er ek n ec eo m w =
-    let rows_are : given_by is_equality rows kinds ≡ q.rows = ap (λ l. given_by is_equality l kinds) er ∙ ap (given_by is_equality list.rows) ek ∙ el in
-    let columns_are : given_by is_line columns others ≡ p.generators = ap (λ l. given_by is_line l others) ec ∙ ap (given_by is_line by.rows) eo ∙ eb in
+    let rows_are : rows_by_kind is_equality rows kinds ≡ q.rows =
+    ap (λ l. rows_by_kind is_equality l kinds) er ∙ ap (rows_by_kind is_equality list.rows) ek ∙ el in
+    let columns_are : rows_by_kind is_line columns others ≡ p.generators =
+    ap (λ l. rows_by_kind is_line l others) ec ∙ ap (rows_by_kind is_line by.rows) eo ∙ eb in
     let a = given_at is_line columns others w.earlier w.member w.later (columns_are ∙ w.is) (m ∙ ap length (sym ec)) in
     let b = given_at is_equality rows kinds w.here.earlier w.here.member w.here.later (rows_are ∙ w.here.is) (n ∙ ap length (sym er)) in
     record {

@@ -4,14 +4,14 @@ use Rattle.lra_linear_spec.specs.Descriptions.{LinearRow}
 use Rattle.lra_linear_spec.specs.OperationStrain.{tight_on, with_positivity}
 use Rattle.lra_linear_spec.specs.Polyhedra.{Polyhedron}
 use Rattle.lra_linear_spec.specs.declared.ConKind.{ConKind}
-use Rattle.lra_sys.specs.Listed.{Listed, constraints}
+use Rattle.lra_systems.specs.LinearSystems.{LinearSystem, constraints}
 use Rattle.lra_poly.specs.declared.outcome.Outcome.{Outcome}
 use Rattle.lra_poly.specs.declared.outcome.Outcome.TheVariants.{Exact, Flagged}
 use Rattle.lra_poly.specs.Narrowed.{IsTried}
 use Rattle.lra_widen.specs.Rank.{kept}
 use Rattle.lra_widen.specs.StayingRows.{IsOfStaying, StaysOrIsGivenUp}
 
-pub of_staying : (p q r : Polyhedron) (given : List LinearRow) (list : Listed ConKind) (o : Outcome) → list.dims ≡ p.dims → constraints list ≡ tight_on p q ++ kept p q given →
+pub of_staying : (p q r : Polyhedron) (given : List LinearRow) (list : LinearSystem ConKind) (o : Outcome) → list.dims ≡ p.dims → constraints list ≡ tight_on p q ++ kept p q given →
     IsTried list.dims (with_positivity list.dims []) (constraints list) r o → IsOfStaying p q given r
 of_staying p q r given list o ed er tried = record {
   outcome = o;

@@ -10,7 +10,7 @@ use Rattle.lra_linear_spec.specs.Descriptions.{LinearRow}
 use Rattle.lra_linear_spec.specs.Polyhedra.{Polyhedron}
 use Rattle.lra_linear_spec.specs.Vectors.{product}
 use Rattle.lra_linear_spec.specs.Widening.{is_tight, is_tight_as, saturates}
-use Rattle.lra_sys.specs.Listed.{Listed, given_by}
+use Rattle.lra_systems.specs.LinearSystems.{LinearSystem, rows_by_kind}
 use Rattle.lra_duality.specs.Saturations.{saturated}
 use Rattle.lra_duality.proofs.SaturationLemmas.{rows_saturate}
 use Rattle.lra_widen.specs.Saturated.{same_values}
@@ -53,12 +53,13 @@ class_widths generators rows classes e = subst (All (λ class. length generators
     all_wide (s ∷ rows) (suc k) d h = all_wide rows k d (omega (arith, h))
 
 -- ---- as they are set one after the other
-pub all_rows_saturate : {K : Type 0} (equal : K → Bool) (generators : List LinearRow) (all : Listed K) (rows : List (List ℤ)) (kinds : List K) (classes : List (List Bool)) (k : ℕ) → rows ≡ all.rows →
+pub all_rows_saturate : {K : Type 0} (equal : K → Bool) (generators : List LinearRow) (all : LinearSystem K) (rows : List (List ℤ)) (kinds : List K) (classes : List (List Bool)) (k : ℕ) →
+    rows ≡ all.rows →
     kinds ≡ all.kinds → length kinds ≡ length all.rows → length rows ≤ k → classes ≡ map (saturated generators) (take k rows) →
-    classes ≡ map (λ (s : LinearRow). saturated generators s.row) (given_by equal all.rows all.kinds)
+    classes ≡ map (λ (s : LinearRow). saturated generators s.row) (rows_by_kind equal all.rows all.kinds)
 all_rows_saturate equal generators all rows kinds classes k er ek n h e =
     e ∙ ap (map (saturated generators)) (take_all k rows h) ∙ rows_saturate equal generators rows kinds (n ∙ ap length (sym er)) ∙
-    ap (λ l. map (λ (s : LinearRow). saturated generators s.row) (given_by equal l kinds)) er ∙ ap (λ l. map (λ (s : LinearRow). saturated generators s.row) (given_by equal all.rows l)) ek
+    ap (λ l. map (λ (s : LinearRow). saturated generators s.row) (rows_by_kind equal l kinds)) er ∙ ap (λ l. map (λ (s : LinearRow). saturated generators s.row) (rows_by_kind equal all.rows l)) ek
 
 -- the values of one list beside those of others
 pub bits_widths : (generators : List LinearRow) (r : List ℤ) (bits : List Bool) (classes : List (List Bool)) → bits ≡ saturated generators r → All (λ class. length generators ≡ length class) classes →

@@ -12,7 +12,7 @@ use Rattle.lra_linear_spec.specs.Kinds.{is_equality}
 use Rattle.lra_linear_spec.specs.Points.{IsPoint, IsWithin, SameSet}
 use Rattle.lra_linear_spec.specs.declared.ConKind.{ConKind}
 use Rattle.lra_linear_spec.specs.declared.ConKind.TheVariants.{Ge, Eq}
-use Rattle.lra_sys.specs.Listed.{Listed, constraints, given_by}
+use Rattle.lra_systems.specs.LinearSystems.{LinearSystem, constraints, rows_by_kind}
 use Rattle.lra_linear_spec.specs.Vectors.{dot, entry, product}
 use Rattle.lra_linear_spec.proofs.Membership.{contains_cases, contains_none, filter_from, filter_has}
 use Rattle.lra_linear_spec.proofs.Ring.{mul_nonnegative, ring, v, ◌⊕◌, ◌⊗◌}
@@ -221,7 +221,7 @@ both_or true b c = refl
 both_or false b c = refl
 
 any_given : (r : LinearRow) (rows : List (List ℤ)) (kinds : List ConKind) → length kinds ≡ length rows
-    → list_any (λ s. is_tighter s r) (given_by is_equality rows kinds) ≡ (not r.equal && list_any (λ xs. is_lower xs r.row) rows)
+    → list_any (λ s. is_tighter s r) (rows_by_kind is_equality rows kinds) ≡ (not r.equal && list_any (λ xs. is_lower xs r.row) rows)
 any_given r [] kinds n = sym (and_none (not r.equal))
 any_given r (xs ∷ rows) [] n = let wrong : ⊥ = cc in absurd wrong
 any_given r (xs ∷ rows) (k ∷ kinds) n =
@@ -232,12 +232,12 @@ abbrev constraint_of : List ℤ → ConKind → LinearRow
 constraint_of row kind = record { row = row; equal = is_equality kind }
 
 -- an equality is never loose
-pub loose_never : (list : Listed ConKind) (row : List ℤ) (kind : ConKind) → length list.kinds ≡ length list.rows → kind ≡ Eq → false ≡ is_loose (constraints list) (constraint_of row kind)
+pub loose_never : (list : LinearSystem ConKind) (row : List ℤ) (kind : ConKind) → length list.kinds ≡ length list.rows → kind ≡ Eq → false ≡ is_loose (constraints list) (constraint_of row kind)
 loose_never list row kind n is =
     subst (λ (k : ConKind). false ≡ is_loose (constraints list) (constraint_of row k)) (sym is) (sym (any_given (constraint_of row Eq) list.rows list.kinds n))
 
 -- an inequality is where some row is lower
-pub loose_by : (list : Listed ConKind) (row : List ℤ) (kind : ConKind) (rows : List (List ℤ)) (lower : Bool) → length list.kinds ≡ length list.rows → kind ≡ Ge → rows ≡ list.rows
+pub loose_by : (list : LinearSystem ConKind) (row : List ℤ) (kind : ConKind) (rows : List (List ℤ)) (lower : Bool) → length list.kinds ≡ length list.rows → kind ≡ Ge → rows ≡ list.rows
     → lower ≡ list_any (λ xs. is_lower xs row) rows → lower ≡ is_loose (constraints list) (constraint_of row kind)
 loose_by list row kind rows lower n is same told =
     subst (λ (k : ConKind). lower ≡ is_loose (constraints list) (constraint_of row k)) (sym is)

@@ -19,7 +19,7 @@ use Rattle.lra_linear_spec.proofs.Widening.{limited_con, standard_con, valid_dec
 use Rattle.lra_duality.specs.declared.inclusion.Inclusion.TheVariants.{Wide, Yes}
 use Rattle.lra_poly.specs.declared.outcome.Outcome.{Outcome}
 use Rattle.lra_poly.specs.declared.outcome.Outcome.TheVariants.{Exact, Flagged}
-use Rattle.lra_sys.specs.FirstPlaces.{FirstAt}
+use Rattle.lra_systems.specs.FirstPlaces.{FirstAt}
 use Rattle.lra_duality.specs.Inclusions.{IsInclusion, Meets, MeetsAll, Passes, Violates, ViolatesFirst}
 use Rattle.lra_pair.specs.KeptRows.{IsOfSome}
 use Rattle.lra_poly.specs.Outcomes.{Becomes, IfExact, IfFlagged, IsOfRows}
@@ -28,7 +28,7 @@ use Rattle.lra_poly.proofs.PolyLemmas.{becomes_same, constraints_strain, exactly
 use Rattle.lra_duality.proofs.PolyhedronLemmas.{none_where_empty, some_generator, with_point}
 use Rattle.lra_linear_spec.specs.declared.ConKind.{ConKind}
 use Rattle.lra_linear_spec.specs.Kinds.{is_equality}
-use Rattle.lra_sys.specs.Listed.{Listed, constraints, given_by}
+use Rattle.lra_systems.specs.LinearSystems.{LinearSystem, constraints, rows_by_kind}
 use Rattle.lra_widen.specs.Rank.{Falls, equalities_from, holds_in_range, kept}
 use Rattle.lra_widen.specs.Widenings.{HaveColumns, IsOutside, IsWidened, PassesOnBoth}
 use Rattle.lra_widen.proofs.Counting.{holds_valid, kept_at}
@@ -40,10 +40,10 @@ around_point p q h (inl none) d w = absurd (not_inside p q h none d w)
 around_point p q h (inr k) d w = k
 
 -- ---- widths
-pub given_columns : {K : Type 0} (equal : K → Bool) (n : ℕ) (rows : List (List ℤ)) (kinds : List K) → All (λ r. length r ≡ suc n) rows → HaveColumns n (given_by equal rows kinds)
+pub given_columns : {K : Type 0} (equal : K → Bool) (n : ℕ) (rows : List (List ℤ)) (kinds : List K) → All (λ r. length r ≡ suc n) rows → HaveColumns n (rows_by_kind equal rows kinds)
 given_columns equal n [] kinds h g k = absurd (contains_none g k)
 given_columns equal n (r ∷ rows) [] h g k = absurd (contains_none g k)
-given_columns equal n (r ∷ rows) (x ∷ kinds) h g k = elim (contains_cases (let y : LinearRow = record { row = r; equal = equal x } in y) g (given_by equal rows kinds) k) [
+given_columns equal n (r ∷ rows) (x ∷ kinds) h g k = elim (contains_cases (let y : LinearRow = record { row = r; equal = equal x } in y) g (rows_by_kind equal rows kinds) k) [
   | inl e ↦ ap (λ (y : LinearRow). length y.row) (sym e) ∙ h 0 r (omega arith)
   | inr d ↦ given_columns equal n rows kinds (λ j t m. h (suc j) t (omega (arith, m))) g d
 ]
@@ -306,8 +306,8 @@ wide_inside p q generator row w place f =
         (λ m. ok_or_err _ m.0 a.here) (λ m. let t = m.1 in let f = x.here.1 in cc) in
         ok_or_err _ x.here.0 (subst (Passes g) same a.here)
 
-pub seen_columns : {K : Type 0} (equal : K → Bool) (n m : ℕ) (all : Listed K) (rows : List (List ℤ)) → rows ≡ all.rows → m ≡ n → All (λ r. length r ≡ suc m) rows →
-    HaveColumns n (given_by equal all.rows all.kinds)
+pub seen_columns : {K : Type 0} (equal : K → Bool) (n m : ℕ) (all : LinearSystem K) (rows : List (List ℤ)) → rows ≡ all.rows → m ≡ n → All (λ r. length r ≡ suc m) rows →
+    HaveColumns n (rows_by_kind equal all.rows all.kinds)
 seen_columns equal n m all rows er e h =
     given_columns equal n all.rows all.kinds (subst (λ (l : List (List ℤ)). All (λ r. length r ≡ suc n) l) er (subst (λ (j : ℕ). All (λ r. length r ≡ suc j) rows) e h))
 
@@ -325,10 +325,11 @@ pub no_equalities : (p : Polyhedron) (n : ℕ) → IsPolyhedron p → IsEmptySet
 no_equalities p n hp empty e = e ∙ sym (ap (λ l. equalities_from l p) (none_where_empty p hp empty))
 
 -- there is one constraint where there is no point
-pub one_row : (p : Polyhedron) (list : Listed ConKind) → IsPolyhedron p → IsEmptySet p.dims (Con p.rows) → constraints list ≡ p.rows → 0 < length list.rows
+pub one_row : (p : Polyhedron) (list : LinearSystem ConKind) → IsPolyhedron p → IsEmptySet p.dims (Con p.rows) → constraints list ≡ p.rows →
+    0 < length list.rows
 one_row p list (inr h) empty e = absurd (some_generator p h (none_where_empty p (inr h) empty))
 one_row p list (inl none) empty e = by_rows list.rows list.kinds (e ∙ none.0)
   where
-    by_rows : (rows : List (List ℤ)) (kinds : List ConKind) → given_by is_equality rows kinds ≡ inequality (falsity p.dims) ∷ [] → 0 < length rows
+    by_rows : (rows : List (List ℤ)) (kinds : List ConKind) → rows_by_kind is_equality rows kinds ≡ inequality (falsity p.dims) ∷ [] → 0 < length rows
     by_rows [] kinds h = let wrong : ⊥ = cc in absurd wrong
     by_rows (r ∷ rows) kinds h = omega arith

@@ -6,7 +6,7 @@ ghost use Rattle.lra_linear_spec.specs.Kinds.{is_equality};
 ghost use Rattle.lra_linear_spec.specs.OperationStrain.{tight_on, valid_on};
 ghost use Rattle.lra_linear_spec.specs.Polyhedra.{IsPolyhedronOf};
 ghost use Rattle.lra_linear_spec.specs.declared.Cause.TheVariants as of_cause;
-ghost use Rattle.lra_sys.specs.Listed.{constraints};
+ghost use Rattle.lra_systems.specs.LinearSystems.{constraints};
 ghost use Rattle.lra_duality.specs.declared.inclusion.Inclusion.TheVariants.{Wide};
 ghost use Rattle.lra_duality.specs.Inclusions.{IsInclusion};
 ghost use Rattle.lra_poly.specs.Outcomes.{IfExact, IfFlagged};
@@ -23,7 +23,7 @@ use lra_duality::mark_saturated;
 use lra_linear_spec::{Cause, ConKind, Excess};
 use lra_poly::{Outcome, Poly};
 use lra_row::Row;
-use lra_sys::{ConSys, TOO_MANY_DIMENSIONS};
+use lra_systems::{ConSys, TOO_MANY_DIMENSIONS};
 use std::alloc::{AllocError, Global};
 
 /// No constraint in n dimensions.

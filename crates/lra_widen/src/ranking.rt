@@ -4,7 +4,7 @@ ghost use Rattle.std.specs.Prelude.{◌≡◌, ◌&&◌, cond, length, map, not,
 ghost use Rattle.std.specs.List.{filter, list_any};
 ghost use Rattle.lra_linear_spec.specs.Descriptions.{LinearRow};
 ghost use Rattle.lra_linear_spec.specs.Kinds.{is_equality};
-ghost use Rattle.lra_sys.specs.Listed.{constraints, generators};
+ghost use Rattle.lra_systems.specs.LinearSystems.{constraints, generators};
 ghost use Rattle.lra_duality.specs.Saturations.{saturated, saturation_of};
 ghost use Rattle.lra_widen.specs.Rank.{equalities_from, free, held, holds_in_range, rank_of};
 ghost use Rattle.lra_widen.specs.Saturated.{same_values, vanishes};
@@ -14,7 +14,7 @@ use lra_bits::{BitRow, SatMatrix};
 use lra_linear_spec::ConKind;
 use lra_poly::Poly;
 use lra_row::Row;
-use lra_sys::{ConSys, GenSys};
+use lra_systems::{ConSys, GenSys};
 
 // 1 for true, 0 for false.
 fn one_if(wanted: bool) -> usize

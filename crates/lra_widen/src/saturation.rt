@@ -3,13 +3,13 @@
 ghost use Rattle.std.specs.Prelude.{◌≡◌, ◌||◌, IfOk, length, map};
 ghost use Rattle.std.specs.List.{All, list_any};
 ghost use Rattle.lra_bits.specs.TruthValues.{are_true};
-ghost use Rattle.lra_sys.specs.Listed.{constraints, generators};
+ghost use Rattle.lra_systems.specs.LinearSystems.{constraints, generators};
 ghost use Rattle.lra_duality.specs.Saturations.{saturated};
 ghost use Rattle.lra_widen.specs.Saturated.{same_values};
 
 use lra_bits::BitRow;
 use lra_duality::mark_saturated;
-use lra_sys::{ConSys, GenSys};
+use lra_systems::{ConSys, GenSys};
 use std::alloc::{AllocError, Global};
 
 /// Which of the generators each of the constraints saturates.

@@ -6,7 +6,7 @@ ghost use Rattle.lra_linear_spec.specs.Descriptions.{Con};
 ghost use Rattle.lra_linear_spec.specs.Kinds.{is_equality};
 ghost use Rattle.lra_linear_spec.specs.Points.{IsWithin};
 ghost use Rattle.lra_linear_spec.specs.Widening.{LimitedWidening};
-ghost use Rattle.lra_sys.specs.Listed.{constraints};
+ghost use Rattle.lra_systems.specs.LinearSystems.{constraints};
 ghost use Rattle.lra_poly.specs.Outcomes.{Becomes};
 ghost use Rattle.lra_widen.specs.Rank.{Falls};
 ghost use Rattle.lra_widen.specs.Tightest.{is_loose, is_lower, tightest, TightestStrains};
@@ -18,7 +18,7 @@ use crate::widening::widen_limited_by;
 use lra_linear_spec::ConKind;
 use lra_poly::{Outcome, Poly};
 use lra_row::Row;
-use lra_sys::ConSys;
+use lra_systems::ConSys;
 use std::alloc::{AllocError, Global};
 
 // Whether the rows have equal coefficients, and the constant of the first is lower.

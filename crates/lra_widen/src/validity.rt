@@ -3,7 +3,7 @@
 ghost use Rattle.std.specs.Prelude.{◌≡◌, ◌&&◌, ◌++◌, ◌⊎◌, suc, length};
 ghost use Rattle.std.specs.Option.{MatchOption};
 ghost use Rattle.lra_linear_spec.specs.Kinds.{is_equality};
-ghost use Rattle.lra_sys.specs.Listed.{generators};
+ghost use Rattle.lra_systems.specs.LinearSystems.{generators};
 ghost use Rattle.lra_widen.specs.Rank.{holds_in_range};
 ghost use Rattle.lra_widen.specs.Validity.{IsValidity};
 
@@ -11,7 +11,7 @@ use lra_duality::accepts;
 use lra_linear_spec::{ConKind, Excess};
 use lra_poly::Poly;
 use lra_row::Row;
-use lra_sys::GenSys;
+use lra_systems::GenSys;
 
 /// Whether a row holds with each of the generators.
 #[derive(Clone, Copy, Debug, PartialEq, Eq)]

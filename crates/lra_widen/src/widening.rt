@@ -6,7 +6,7 @@ ghost use Rattle.lra_linear_spec.specs.OperationStrain.{LimitedStrains, Standard
 ghost use Rattle.lra_linear_spec.specs.Points.{IsEmptySet, IsWithin};
 ghost use Rattle.lra_linear_spec.specs.Polyhedra.{IsPolyhedron};
 ghost use Rattle.lra_linear_spec.specs.Widening.{LimitedWidening, StandardWidening};
-ghost use Rattle.lra_sys.specs.Listed.{constraints};
+ghost use Rattle.lra_systems.specs.LinearSystems.{constraints};
 ghost use Rattle.lra_poly.specs.Outcomes.{Becomes};
 ghost use Rattle.lra_widen.specs.Rank.{Falls};
 ghost use Rattle.lra_widen.specs.Widenings.{HaveColumns, IsOutside, IsRefusal, IsWidened};
@@ -17,7 +17,7 @@ use crate::error::WidenError;
 use crate::lists::{add_held, given_loss, inclusion_loss, no_rows, tight_rows, universe};
 use lra_duality::Inclusion;
 use lra_poly::{Outcome, Poly};
-use lra_sys::ConSys;
+use lra_systems::ConSys;
 use std::alloc::{AllocError, Global};
 
 // The widening of a polyhedron with a point by one that it lies in. A constraint that is lost is left out.

@@ -4,7 +4,7 @@ ghost use Rattle.std.specs.Prelude.{◌≡◌, IsTrue, IfOk};
 ghost use Rattle.guzhtarel.specs.Linear.Descriptions.{Con};
 ghost use Rattle.guzhtarel.specs.Linear.Points.{IsWithin};
 ghost use Rattle.guzhtarel.specs.Linear.SetOperations.{Hull, Union};
-ghost use Rattle.guzhtarel.specs.Lists.Listed.{constraints};
+ghost use Rattle.guzhtarel.specs.Lists.LinearSystems.{constraints};
 ghost use Rattle.guzhtarel.specs.Polyhedra.Polyhedra.{IsPolyhedronOf};
 
 use guzhtarel::{ConSys, Poly};

@@ -1,6 +1,6 @@
 use Rattle.std.proofs.Common.{ℕ, List, Bool, length, ◌<◌, ◌^◌}
 use Rattle.std.specs.Prelude.{IsTrue}
-use Rattle.lra_bits.specs.Turned.{IsMarked, AreWider, is_in_word}
+use Rattle.lra_bits.specs.Transposed.{IsMarked, AreWider, is_in_word}
 use Rattle.lra_bits.proofs.sat_matrix.set_word.Given as goal
 
 abbrev pub invariant-loop-left : goal.invariant-loop-left

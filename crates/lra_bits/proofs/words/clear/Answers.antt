@@ -2,7 +2,7 @@
 use Rattle.std.specs.Int.{w64}
 use Rattle.std.proofs.lemmas.Nat.{and_le_l}
 use Rattle.std.proofs.lemmas.Nat.Bits.{bit_at_clear_same, bit_at_clear_other}
-use Rattle.lra_bits.proofs.Turning.{smaller_without}
+use Rattle.lra_bits.proofs.Transposing.{smaller_without}
 use Rattle.lra_bits.proofs.words.clear.Goals as goal
 
 pub returns-clause-cleared : goal.returns-clause-cleared

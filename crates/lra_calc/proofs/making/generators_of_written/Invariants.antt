@@ -1,5 +1,5 @@
 use Rattle.std.proofs.Common.{◌≡◌, ◌++◌, drop, length, map}
-use Rattle.lra_sys.specs.Listed.{generators, FitKinds}
+use Rattle.lra_systems.specs.LinearSystems.{generators, FitKinds}
 use Rattle.lra_script.specs.LineForms.{given_of}
 use Rattle.lra_script.specs.Views.{generator_view}
 use Rattle.lra_calc.proofs.making.generators_of_written.Given as goal

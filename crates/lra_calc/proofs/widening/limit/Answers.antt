@@ -4,7 +4,7 @@ use Rattle.std.proofs.Common.{List, map, subst, Ok}
 use Rattle.lra_linear_spec.specs.Descriptions.{LinearRow}
 use Rattle.lra_linear_spec.specs.OperationStrain.{LimitedStrains}
 use Rattle.lra_linear_spec.specs.Widening.{LimitedWidening}
-use Rattle.lra_sys.specs.Listed.{constraints}
+use Rattle.lra_systems.specs.LinearSystems.{constraints}
 use Rattle.lra_script.specs.Views.{constraint_of}
 use Rattle.lra_calc.specs.MadeSets.{IsLimited}
 use Rattle.lra_calc.specs.Script.{Widens}

@@ -4,7 +4,7 @@ use Rattle.std.specs.Prelude.{Some, option_map}
 use Rattle.std.proofs.lemmas.Grind.{common_steps}
 use Rattle.lra_linear_spec.specs.Descriptions.{LinearRow}
 use Rattle.lra_linear_spec.specs.declared.ConKind.{ConKind}
-use Rattle.lra_sys.specs.Listed.{Listed, constraints}
+use Rattle.lra_systems.specs.LinearSystems.{LinearSystem, constraints}
 use Rattle.lra_certified.proofs.TakenSteps.{rows_kept}
 use Rattle.lra_certified.proofs.taken.state_of.Goals as goal
 
@@ -21,6 +21,6 @@ returns-in_ok-copy-clause-dims c =
     let gens = c.generators.result.now in
     let long : length gens.kinds ≡ length gens.rows = sym (ap length c.kinds.ensures.kinds) ∙ c.kinds.ensures.len in
     let some : 0 < length gens.kinds = grind (arith, common_steps) in
-    ap Some (ap (λ (l : Listed ConKind). l.dims) c.in_ok-copy.ensures ∙ c.rows-rows.ensures.dims)
+    ap Some (ap (λ (l : LinearSystem ConKind). l.dims) c.in_ok-copy.ensures ∙ c.rows-rows.ensures.dims)
     ∙ sym (ap (option_map (λ (rows : List LinearRow). c.args.value.now.dims))
     (rows_kept gens c.args.value.now.generators c.args.value.now.rows long some c.generators.ensures.generators))

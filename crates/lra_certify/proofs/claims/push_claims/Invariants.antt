@@ -1,6 +1,6 @@
 use Rattle.std.proofs.Common.{drop, string_bytes}
 use Rattle.lra_linear_spec.specs.Descriptions.{system_of}
-use Rattle.lra_sys.specs.Listed.{constraints}
+use Rattle.lra_systems.specs.LinearSystems.{constraints}
 use Rattle.lra_certify.specs.GroundViews.{LinesLeft}
 use Rattle.lra_certify.proofs.claims.push_claims.Given as goal
 

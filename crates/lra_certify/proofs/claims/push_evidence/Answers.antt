@@ -1,6 +1,6 @@
 -- Goals of `push_evidence`: what is said of a path with these grounds.
 use Rattle.std.proofs.Common.{None, ap, subst, string_bytes}
-use Rattle.lra_sys.specs.Listed.{constraints}
+use Rattle.lra_systems.specs.LinearSystems.{constraints}
 use Rattle.lra_multipliers.specs.MultiplierViews.{multipliers_view}
 use Rattle.lra_certificate.specs.Judged.{State}
 use Rattle.lra_lines.specs.TrackViews.{rows_of}

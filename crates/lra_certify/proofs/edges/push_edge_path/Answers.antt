@@ -3,7 +3,7 @@ use Rattle.std.proofs.Common.{Some, ap, sym, ◌∙◌, append-nil, string_bytes
 use Rattle.lra_paths.specs.Paths.{path_by}
 use Rattle.lra_sides.specs.TableSides.{all_done}
 use Rattle.lra_ways.specs.Ways.{comes_to}
-use Rattle.lra_sys.specs.Listed.{constraints}
+use Rattle.lra_systems.specs.LinearSystems.{constraints}
 use Rattle.lra_lines.specs.TrackViews.{rows_of}
 use Rattle.lra_certificate.specs.Certificates.{none}
 use Rattle.lra_certify.proofs.PathSteps.{stays_on, nothing_found, adds_path, path_adds, path_strained}

@@ -3,7 +3,7 @@ use Rattle.std.proofs.Common.{◌≡◌, ◌∙◌, ap, refl, sym, subst, length
 use Rattle.std.specs.List.{Contains}
 use Rattle.lra_linear_spec.specs.OperationStrain.{unit_row}
 use Rattle.lra_linear_spec.specs.Vectors.{negated}
-use Rattle.lra_sys.specs.Listed.{constraints}
+use Rattle.lra_systems.specs.LinearSystems.{constraints}
 use Rattle.lra_linear_spec.specs.declared.GenKind.{GenKind}
 use Rattle.lra_linear_spec.specs.declared.GenKind.TheVariants.{Point}
 use Rattle.lra_pair.proofs.ConstraintLists.{nothing_constrained, constrained}

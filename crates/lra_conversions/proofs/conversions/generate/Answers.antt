@@ -1,6 +1,6 @@
 -- Goals of `generate`: the rows kept, their points, rays and lines, and the rows left out.
 use Rattle.std.proofs.Common.{◌∙◌, ap, sym, subst, suc, ℕ, List}
-use Rattle.lra_sys.specs.Listed.{constraints, generators}
+use Rattle.lra_systems.specs.LinearSystems.{constraints, generators}
 use Rattle.lra_pair.proofs.GeneratorLists.{generated, same_points}
 use Rattle.lra_cone.proofs.Stepped.{lines_have_width, rays_have_width}
 use Rattle.lra_linear_spec.specs.Descriptions.{LinearRow}

@@ -1,5 +1,5 @@
 use Rattle.std.proofs.Common.{◌≡◌, ◌++◌, length, replicate}
-use Rattle.lra_canon.specs.MarkedRows.{bits_in, rows_in}
+use Rattle.lra_canonical.specs.MarkedRows.{bits_in, rows_in}
 use Rattle.lra_descriptions.proofs.known.append_generators.Given as goal
 
 abbrev pub invariant-each : goal.invariant-each

@@ -1,5 +1,5 @@
 -- Goals of `list_parts`: these points, then these rays, then these lines.
-use Rattle.lra_canon.specs.MarkedRows.{bits_in}
+use Rattle.lra_canonical.specs.MarkedRows.{bits_in}
 use Rattle.std.proofs.Common.{length}
 use Rattle.lra_descriptions.proofs.KnownLists.{parts_matrix}
 use Rattle.lra_descriptions.proofs.known.list_parts.Goals as goal

@@ -4,8 +4,8 @@ use Rattle.std.specs.List.{All}
 use Rattle.std.proofs.lemmas.List.{append-nil}
 use Rattle.std.proofs.lemmas.Iterator.Adapters.{YieldsList-from_vec}
 use Rattle.std.proofs.lemmas.Iterator.Consumers.{YieldsList-end}
-use Rattle.lra_canon.specs.MarkedRows.{AreToldBy}
-use Rattle.lra_canon.specs.declared.order.Marked.{Marked}
+use Rattle.lra_canonical.specs.MarkedRows.{AreToldBy}
+use Rattle.lra_canonical.specs.declared.order.Marked.{Marked}
 use Rattle.lra_descriptions.specs.ShownLists.{without}
 use Rattle.lra_descriptions.proofs.KnownLists.{all_yielded, kept_each, kept_rows, left_each}
 use Rattle.lra_descriptions.proofs.Parted.{without_append}

@@ -1,6 +1,6 @@
 use Rattle.std.proofs.Common.{◌≡◌, length, take}
 use Rattle.std.specs.Vec.{vec_len}
-use Rattle.lra_canon.specs.MarkedRows.{bits_in, rows_in}
+use Rattle.lra_canonical.specs.MarkedRows.{bits_in, rows_in}
 use Rattle.lra_descriptions.proofs.known.mark_rows.Given as goal
 
 abbrev pub invariant-each : goal.invariant-each

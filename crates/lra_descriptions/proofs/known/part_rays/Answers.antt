@@ -3,7 +3,7 @@ use Rattle.std.proofs.Common.{rules, ◌≡◌, ◌∙◌, ap, cond, length, sub
 use Rattle.std.specs.List.{All}
 use Rattle.std.proofs.lemmas.Iterator.Adapters.{YieldsList-from_vec}
 use Rattle.std.proofs.lemmas.Iterator.Consumers.{YieldsList-end}
-use Rattle.lra_canon.specs.declared.order.Marked.{Marked}
+use Rattle.lra_canonical.specs.declared.order.Marked.{Marked}
 use Rattle.lra_descriptions.specs.ShownLists.{directions_of, points_of}
 use Rattle.lra_descriptions.proofs.KnownLists.{all_yielded, kept_rows, one_row, other_row, parted_each}
 use Rattle.lra_descriptions.proofs.Parted.{directions_append, points_append}

@@ -1,7 +1,7 @@
 use Rattle.std.proofs.Common.{◌≡◌}
 use Rattle.lra_linear_spec.specs.Descriptions.{lines_of}
 use Rattle.lra_linear_spec.specs.Kinds.{is_equality}
-use Rattle.lra_sys.proofs.FirstMembers.{front}
+use Rattle.lra_systems.proofs.FirstMembers.{front}
 use Rattle.lra_duality.proofs.facets.equalities_among.Given as goal
 
 abbrev pub invariant-loop-place : goal.invariant-loop-place

@@ -2,9 +2,9 @@
 -- none, or there are as many constraints, equalities counted with them, as a cone may have rays.
 use Rattle.std.proofs.Common.{◌∙◌, ℕ, List, ap, refl, subst, sym}
 use Rattle.lra_linear_spec.specs.Descriptions.{LinearRow}
-use Rattle.lra_cone.specs.Cones.{Shape, saturation_of as by_rays}
+use Rattle.lra_cone.specs.Cones.{ConeContent, cone_saturation as by_rays}
 use Rattle.lra_linear_spec.specs.Kinds.{is_equality, is_line}
-use Rattle.lra_sys.specs.Listed.{constraints, generators}
+use Rattle.lra_systems.specs.LinearSystems.{constraints, generators}
 use Rattle.lra_duality.specs.Onward.{MayGoOn}
 use Rattle.lra_duality.proofs.FacetLemmas.{seen, taken_generators}
 use Rattle.lra_duality.proofs.StartLemmas.{given_count, no_room, not_fitting, not_turning, some_given}
@@ -33,7 +33,8 @@ of_lists-cone-requires-clause-saturation c =
 pub returns-clause-taken : goal.returns-clause-taken
 returns-clause-taken c =
     let given = c.args.by_generators.now in
-    ap (λ (s : Shape). s.taken) c.of_lists-cone.ensures ∙ taken_generators given c.in_ok-taken.taken c.in_ok-taken.ensures.rows c.in_ok-taken.ensures.kinds
+    ap (λ (s : ConeContent). s.taken) c.of_lists-cone.ensures
+    ∙ taken_generators given c.in_ok-taken.taken c.in_ok-taken.ensures.rows c.in_ok-taken.ensures.kinds
 
 pub returns-clause-some : goal.returns-clause-some
 returns-clause-some c =

@@ -6,8 +6,8 @@ use Rattle.lra_linear_spec.specs.Descriptions.{LinearRow, rays_of}
 use Rattle.lra_linear_spec.specs.Kinds.{is_equality}
 use Rattle.lra_linear_spec.specs.declared.ConKind.{ConKind}
 use Rattle.lra_linear_spec.specs.declared.ConKind.TheVariants.{Ge}
-use Rattle.lra_cone.specs.Cones.{saturation_of as by_rays}
-use Rattle.lra_sys.specs.Listed.{given_by}
+use Rattle.lra_cone.specs.Cones.{cone_saturation as by_rays}
+use Rattle.lra_systems.specs.LinearSystems.{rows_by_kind}
 use Rattle.lra_duality.specs.Saturations.{saturation_of}
 use Rattle.lra_duality.proofs.FacetLemmas.{tight_more, tight_left, tight_none}
 use Rattle.lra_duality.proofs.StartLemmas.{seen_all}
@@ -17,7 +17,7 @@ use Rattle.lra_duality.proofs.facets.inequality_saturation.Goals as goal
 pub loop-place-init : goal.loop-place-init
 loop-place-init c = record {
   width = ap (λ (x : Matrix). x.width) c.new-matrix.ensures ∙ c.width.ensures.width;
-  rows = λ generators e. tight_none (given_by is_equality c.args.list.now.rows c.kinds-kinds.result.now) generators c.args.saturation.now c.new-matrix.result c.width.result e
+  rows = λ generators e. tight_none (rows_by_kind is_equality c.args.list.now.rows c.kinds-kinds.result.now) generators c.args.saturation.now c.new-matrix.result c.width.result e
       c.width.ensures.width c.new-matrix.ensures;
 }
 
@@ -53,7 +53,7 @@ returns c generators e =
     let made = c.loop-place.matrix in
     let n : length kinds ≡ length list.rows = c.kinds-kinds.ensures.len in
     let all : length list.rows ≤ c.loop-place.place = let past = c.loop-place-test.false in omega (arith, n, past) in
-    let seen : m ≡ saturation_of (given_by is_equality list.rows kinds) generators = subst (λ (k : List ConKind). m ≡ saturation_of (given_by is_equality list.rows k) generators)
+    let seen : m ≡ saturation_of (rows_by_kind is_equality list.rows kinds) generators = subst (λ (k : List ConKind). m ≡ saturation_of (rows_by_kind is_equality list.rows k) generators)
     (sym c.kinds-kinds.ensures.kinds) e in
     seen_all is_equality (λ (l : List LinearRow). made ≡ by_rays generators (rays_of l)) list.rows list.rows kinds list.kinds c.loop-place.place refl c.kinds-kinds.ensures.kinds n all
     (c.loop-place.invariant.rows generators seen)

@@ -2,13 +2,13 @@
 use Rattle.std.proofs.Common.{arith, ap, sym, ◌∙◌, ◌≡◌, length, List}
 use Rattle.std.specs.List.{All}
 use Rattle.lra_linear_spec.specs.Descriptions.{LinearRow}
-use Rattle.lra_sys.specs.declared.membership.Holds.TheVariants as holds
+use Rattle.lra_systems.specs.declared.membership.MembershipAnswer.TheVariants as holds
 use Rattle.lra_linear_spec.specs.declared.GenKind.TheVariants.{Point}
 use Rattle.lra_linear_spec.specs.Kinds.{is_line}
-use Rattle.lra_sys.specs.Listed.{constraints}
-use Rattle.lra_sys.specs.FirstPlaces.{FirstAt}
+use Rattle.lra_systems.specs.LinearSystems.{constraints}
+use Rattle.lra_systems.specs.FirstPlaces.{FirstAt}
 use Rattle.lra_duality.specs.Inclusions.{Meets, MeetsAll, Passes, ViolatesFirst}
-use Rattle.lra_sys.proofs.FirstMembers.{first_at, one_more, all_gone_through}
+use Rattle.lra_systems.proofs.FirstMembers.{first_at, one_more, all_gone_through}
 use Rattle.lra_duality.proofs.InclusionLemmas.{reply_seen, seen_generators}
 use Rattle.lra_duality.proofs.inclusion.inclusion_of.Goals as goal
 

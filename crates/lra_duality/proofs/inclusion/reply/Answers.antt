@@ -6,7 +6,7 @@ use Rattle.lra_linear_spec.specs.Descriptions.{LinearRow}
 use Rattle.lra_linear_spec.specs.declared.ConKind.TheVariants.{Ge}
 use Rattle.lra_linear_spec.specs.Kinds.{is_equality}
 use Rattle.lra_duality.specs.Inclusions.{Meets, Violates, Passes}
-use Rattle.lra_sys.proofs.FirstMembers.{member, first_at, one_more, all_gone_through, ok_of, err_of}
+use Rattle.lra_systems.proofs.FirstMembers.{member, first_at, one_more, all_gone_through, ok_of, err_of}
 use Rattle.lra_duality.proofs.inclusion.reply.Goals as goal
 
 pub returns-then-not-accepts : goal.returns-then-not-accepts

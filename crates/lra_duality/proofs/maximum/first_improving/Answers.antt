@@ -4,9 +4,9 @@ use Rattle.std.specs.List.{All}
 use Rattle.lra_linear_spec.specs.Descriptions.{LinearRow}
 use Rattle.lra_linear_spec.specs.Kinds.{is_line}
 use Rattle.lra_linear_spec.specs.declared.GenKind.TheVariants.{Point}
-use Rattle.lra_sys.specs.FirstPlaces.{FirstAt}
+use Rattle.lra_systems.specs.FirstPlaces.{FirstAt}
 use Rattle.lra_duality.specs.Maxima.{DoesNotImprove, Improves, StaysInRange, directed}
-use Rattle.lra_sys.proofs.FirstMembers.{all_gone_through, at_member, first_at, member, one_more}
+use Rattle.lra_systems.proofs.FirstMembers.{all_gone_through, at_member, first_at, member, one_more}
 use Rattle.lra_duality.proofs.InclusionLemmas.{seen_generators}
 use Rattle.lra_duality.proofs.MaximumLemmas.{both_seen}
 use Rattle.lra_duality.proofs.maximum.first_improving.Goals as goal

@@ -4,9 +4,9 @@ use Rattle.std.specs.List.{All}
 use Rattle.lra_linear_spec.specs.Descriptions.{LinearRow}
 use Rattle.lra_linear_spec.specs.Kinds.{is_line}
 use Rattle.lra_linear_spec.specs.declared.GenKind.TheVariants.{Point}
-use Rattle.lra_sys.specs.FirstPlaces.{FirstAt}
+use Rattle.lra_systems.specs.FirstPlaces.{FirstAt}
 use Rattle.lra_duality.specs.Maxima.{StaysInRange, PassesRange, directed}
-use Rattle.lra_sys.proofs.FirstMembers.{first_at, one_more, all_gone_through, ok_of}
+use Rattle.lra_systems.proofs.FirstMembers.{first_at, one_more, all_gone_through, ok_of}
 use Rattle.lra_duality.proofs.MaximumLemmas.{many, seen_rows}
 use Rattle.lra_duality.proofs.maximum.first_wide.Goals as goal
 

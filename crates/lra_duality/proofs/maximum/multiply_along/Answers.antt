@@ -2,7 +2,7 @@
 use Rattle.std.proofs.Common.{rules, FitsSigned}
 use Rattle.std.specs.Int.{w128}
 use Rattle.std.proofs.lemmas.Int.{to_z-of_z}
-use Rattle.lra_lin.specs.Form.{form_row}
+use Rattle.lra_linear_forms.specs.Form.{form_row}
 use Rattle.lra_duality.proofs.MaximumLemmas.{opposite_fails, opposite_product, value_in_range}
 use Rattle.lra_duality.proofs.maximum.multiply_along.Goals as goal
 

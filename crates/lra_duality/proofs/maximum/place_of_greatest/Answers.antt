@@ -4,7 +4,7 @@ use Rattle.std.specs.List.{All}
 use Rattle.lra_linear_spec.specs.Kinds.{is_line}
 use Rattle.lra_linear_spec.specs.declared.GenKind.TheVariants.{Point}
 use Rattle.lra_duality.specs.Maxima.{StaysInRange, directed}
-use Rattle.lra_sys.proofs.FirstMembers.{at_member}
+use Rattle.lra_systems.proofs.FirstMembers.{at_member}
 use Rattle.lra_duality.proofs.MaximumLemmas.{best_found, best_kept, best_taken, many, rows_seen}
 use Rattle.lra_duality.proofs.maximum.place_of_greatest.Goals.{then-exceeds, else-exceeds}
 use Rattle.lra_duality.proofs.maximum.place_of_greatest.Goals as goal

@@ -4,8 +4,8 @@ use Rattle.std.specs.Ordering.{int_eq}
 use Rattle.std.proofs.lemmas.List.{get_or_default}
 use Rattle.lra_linear_spec.specs.Kinds.{is_line}
 use Rattle.lra_linear_spec.specs.Vectors.{product}
-use Rattle.lra_steps.proofs.Filling.{filled_more}
-use Rattle.lra_steps.proofs.Thirds.{filled_skip}
+use Rattle.lra_double_description.proofs.Filling.{filled_more}
+use Rattle.lra_double_description.proofs.Thirds.{filled_skip}
 use Rattle.lra_duality.proofs.SaturationLemmas.{filled_saturated}
 use Rattle.lra_duality.proofs.saturation.mark_saturated.Goals as goal
 use Rattle.lra_duality.proofs.saturation.mark_saturated.Goals.{then-saturates, else-saturates}

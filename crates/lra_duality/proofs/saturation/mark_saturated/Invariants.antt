@@ -1,6 +1,6 @@
 use Rattle.std.proofs.Common.{length, get_or, [], pos}
 use Rattle.std.specs.Ordering.{int_eq}
-use Rattle.lra_steps.specs.Steps.{IsFilled}
+use Rattle.lra_double_description.specs.Steps.{IsFilled}
 use Rattle.lra_linear_spec.specs.Vectors.{product}
 use Rattle.lra_duality.proofs.saturation.mark_saturated.Given as goal
 

@@ -1,6 +1,6 @@
 use Rattle.std.proofs.Common.{◌∷◌}
 use Rattle.lra_bits.specs.TruthValues.{value_at}
-use Rattle.lra_steps.specs.Steps.{IsFilled}
+use Rattle.lra_double_description.specs.Steps.{IsFilled}
 use Rattle.lra_duality.specs.Saturations.{column}
 use Rattle.lra_duality.proofs.start.values_of.Given as goal
 

@@ -1,5 +1,5 @@
 -- Goals of `convert`: the polyhedron of the rows, which has a point.
-use Rattle.lra_sys.specs.Listed.{constraints}
+use Rattle.lra_systems.specs.LinearSystems.{constraints}
 use Rattle.lra_poly.proofs.MetRows.{never}
 use Rattle.lra_farkas.proofs.FirstPoints.{convert_none, convert_exact, convert_strained}
 use Rattle.lra_farkas.proofs.first.convert.Goals as goal

@@ -1,6 +1,6 @@
 -- Goals of `convert_by_any`: the polyhedron of the rows, where their own order strains by another.
 use Rattle.std.proofs.Common.{subst}
-use Rattle.lra_sys.specs.Listed.{constraints}
+use Rattle.lra_systems.specs.LinearSystems.{constraints}
 use Rattle.lra_farkas.specs.RowsByKinds.{HasNoFirst}
 use Rattle.lra_farkas.proofs.KeyedRows.{tried_fails}
 use Rattle.lra_farkas.proofs.first.convert_by_any.Goals as goal

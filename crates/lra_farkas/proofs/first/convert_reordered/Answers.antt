@@ -1,5 +1,5 @@
 -- Goals of `convert_reordered`: the polyhedron of the rows, as they are converted in another order.
-use Rattle.lra_sys.specs.Listed.{constraints}
+use Rattle.lra_systems.specs.LinearSystems.{constraints}
 use Rattle.lra_farkas.specs.RowsByKinds.{HasNoPoint}
 use Rattle.lra_farkas.proofs.FirstPoints.{exit_fails}
 use Rattle.lra_farkas.proofs.KeyedRows.{reordered_is, reordered_fails}

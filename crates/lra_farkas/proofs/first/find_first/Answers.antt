@@ -1,5 +1,5 @@
 -- Goals of `find_first`: the first generator of the polyhedron of all multipliers, or why there is none.
-use Rattle.lra_sys.specs.Listed.{constraints}
+use Rattle.lra_systems.specs.LinearSystems.{constraints}
 use Rattle.lra_multipliers.specs.MultiplierViews.{multipliers_view}
 use Rattle.lra_farkas.specs.FirstMultipliers.{IsFailure}
 use Rattle.lra_farkas.proofs.FirstPoints.{are_first, exit_fails, no_first_fails}

@@ -1,7 +1,7 @@
 -- Goals of `multipliers`: the first multipliers that show the claim, or why there are none.
 use Rattle.std.proofs.Common.{◌∙◌, ap, sym, length, List}
 use Rattle.lra_linear_spec.specs.declared.ConKind.{ConKind}
-use Rattle.lra_sys.specs.Listed.{constraints}
+use Rattle.lra_systems.specs.LinearSystems.{constraints}
 use Rattle.lra_multipliers.specs.MultiplierViews.{multipliers_view}
 use Rattle.lra_farkas.specs.FirstMultipliers.{IsFailure}
 use Rattle.lra_farkas.proofs.FirstPoints.{as_wide, as_many, exit_fails, first_many, first_answer, first_strained}

@@ -3,7 +3,7 @@ use Rattle.std.proofs.Common.{◌≡◌, ℤ, List, suc, map, length, ap, sym, �
 use Rattle.std.specs.List.{All}
 use Rattle.std.proofs.lemmas.List.Elements.{All-push, All-nil}
 use Rattle.lra_linear_spec.specs.Kinds.{is_equality}
-use Rattle.lra_sys.proofs.GivenRows.{all_given}
+use Rattle.lra_systems.proofs.LinearRows.{all_given}
 use Rattle.lra_farkas.specs.KeyedRows.{given_of}
 use Rattle.lra_farkas.specs.declared.orders.Keyed.{Keyed}
 use Rattle.lra_farkas.proofs.KeyedRows.{keyed_pushed}

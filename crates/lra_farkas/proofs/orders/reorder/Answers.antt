@@ -1,6 +1,6 @@
 -- Goals of `reorder`: the same rows in another order.
 use Rattle.std.proofs.Common.{◌∙◌}
-use Rattle.lra_sys.specs.Listed.{constraints}
+use Rattle.lra_systems.specs.LinearSystems.{constraints}
 use Rattle.lra_farkas.proofs.KeyedRows.{sorted_widths, sorted_rows}
 use Rattle.lra_farkas.proofs.orders.reorder.Goals as goal
 

@@ -1,5 +1,5 @@
 use Rattle.std.proofs.Common.{◌≡◌, map, take, length}
-use Rattle.lra_sys.specs.Listed.{constraints}
+use Rattle.lra_systems.specs.LinearSystems.{constraints}
 use Rattle.lra_farkas.specs.KeyedRows.{given_of}
 use Rattle.lra_farkas.proofs.orders.unkey_rows.Given as goal
 

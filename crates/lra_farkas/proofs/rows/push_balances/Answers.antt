@@ -3,7 +3,7 @@ use Rattle.std.proofs.Common.{ap, sym, ◌∙◌, arith, suc, ℕ, ◌++◌, map
 use Rattle.std.specs.List.{range_with_len}
 use Rattle.lra_linear_spec.specs.Descriptions.{equality}
 use Rattle.lra_linear_spec.specs.declared.ConKind.TheVariants.{Eq}
-use Rattle.lra_sys.specs.Listed.{constraints}
+use Rattle.lra_systems.specs.LinearSystems.{constraints}
 use Rattle.lra_farkas.specs.MultiplierRows.{balance_row}
 use Rattle.lra_multipliers.proofs.ListedKinds.{kinds_pushed}
 use Rattle.lra_farkas.proofs.ListedRows.{balances_more, balance_width}

@@ -1,7 +1,7 @@
 use Rattle.std.proofs.Common.{◌≡◌, ◌++◌, map, length}
 use Rattle.std.specs.List.{range_with_len}
 use Rattle.lra_linear_spec.specs.Descriptions.{equality}
-use Rattle.lra_sys.specs.Listed.{constraints}
+use Rattle.lra_systems.specs.LinearSystems.{constraints}
 use Rattle.lra_farkas.specs.MultiplierRows.{balance_row}
 use Rattle.lra_farkas.proofs.rows.push_balances.Given as goal
 

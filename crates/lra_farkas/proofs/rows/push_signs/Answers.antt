@@ -1,6 +1,6 @@
 -- Goals of `push_signs`: that the multipliers of inequalities are not below 0 comes last.
 use Rattle.std.proofs.Common.{ap, sym, ◌∙◌, ℕ, ◌+◌, ◌++◌, ◌∷◌, [], map, arith}
-use Rattle.lra_sys.specs.Listed.{constraints}
+use Rattle.lra_systems.specs.LinearSystems.{constraints}
 use Rattle.lra_farkas.specs.MultiplierRows.{sign_row}
 use Rattle.lra_farkas.specs.RowsByKinds.{columns_by_kinds}
 use Rattle.lra_farkas.proofs.ListedRows.{signs_more, signs_not, signs_end}

@@ -1,5 +1,5 @@
 use Rattle.std.proofs.Common.{◌≡◌, ◌++◌, map, length}
-use Rattle.lra_sys.specs.Listed.{constraints}
+use Rattle.lra_systems.specs.LinearSystems.{constraints}
 use Rattle.lra_farkas.specs.MultiplierRows.{sign_row}
 use Rattle.lra_farkas.specs.RowsByKinds.{columns_by_kinds}
 use Rattle.lra_farkas.proofs.ListedRows.{signs_from}

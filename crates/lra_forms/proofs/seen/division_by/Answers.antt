@@ -2,7 +2,7 @@
 use Rattle.std.proofs.Common.{rules, ◌≡◌, ◌∙◌, sym, subst, ℤ, pos, Some, None, true, to_z, of_z}
 use Rattle.std.specs.Prelude.{◌&&◌, int_le}
 use Rattle.std.specs.Int.{w64}
-use Rattle.lra_lin.specs.Form.{Form, opposite_form}
+use Rattle.lra_linear_forms.specs.Form.{Form, opposite_form}
 use Rattle.lra_flow.specs.declared.seen.Division.{Division}
 use Rattle.lra_flow.specs.Linear.{fitting, is_constant}
 use Rattle.lra_flow.specs.Seen.{one_more, division}

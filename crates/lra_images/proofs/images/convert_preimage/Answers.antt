@@ -5,7 +5,7 @@ use Rattle.std.specs.List.{Contains}
 use Rattle.lra_linear_spec.specs.CheckedArithmetic.{checked_substitution}
 use Rattle.lra_linear_spec.specs.Descriptions.{LinearRow}
 use Rattle.lra_linear_spec.specs.OperationStrain.{FormingPasses, substituted_rows}
-use Rattle.lra_sys.specs.Listed.{constraints}
+use Rattle.lra_systems.specs.LinearSystems.{constraints}
 use Rattle.lra_images.proofs.SubstitutedSets.{assignment_of, preimage_becomes}
 use Rattle.lra_images.proofs.KeptLists.{of_formed}
 use Rattle.lra_images.proofs.images.convert_preimage.Goals as goal

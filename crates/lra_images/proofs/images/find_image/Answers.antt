@@ -1,5 +1,5 @@
 -- Goals of `find_image`: the image by what is at hand.
-use Rattle.lra_lin.specs.Form.{form_row}
+use Rattle.lra_linear_forms.specs.Form.{form_row}
 use Rattle.lra_images.proofs.BackImages.{image_made}
 use Rattle.lra_images.proofs.KeptLists.{stays_for}
 use Rattle.lra_images.proofs.images.find_image.Goals as goal

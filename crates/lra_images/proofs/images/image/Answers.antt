@@ -3,7 +3,7 @@ use Rattle.std.proofs.Common.{suc, subst, List, ℤ}
 use Rattle.lra_linear_spec.specs.Descriptions.{Con}
 use Rattle.lra_linear_spec.specs.OperationStrain.{ImageStrains}
 use Rattle.lra_linear_spec.specs.SetOperations.{Image}
-use Rattle.lra_lin.specs.Form.{form_row}
+use Rattle.lra_linear_forms.specs.Form.{form_row}
 use Rattle.lra_poly.specs.Outcomes.{Becomes}
 use Rattle.lra_poly.proofs.PolyLemmas.{exactly}
 use Rattle.lra_images.proofs.BackImages.{row_width}

@@ -5,7 +5,7 @@ use Rattle.lra_linear_spec.specs.Descriptions.{Con}
 use Rattle.lra_linear_spec.specs.OperationStrain.{PreimageStrains}
 use Rattle.lra_linear_spec.specs.SetOperations.{Preimage}
 use Rattle.lra_poly.specs.Outcomes.{Becomes}
-use Rattle.lra_lin.specs.Form.{form_row}
+use Rattle.lra_linear_forms.specs.Form.{form_row}
 use Rattle.lra_poly.proofs.PolyLemmas.{exactly}
 use Rattle.lra_images.proofs.BackImages.{preimage_made, row_width}
 use Rattle.lra_images.specs.FormedPreimages.{IsOfFormed}

@@ -3,7 +3,7 @@
 use Rattle.std.proofs.Common.{refl, rules, suc, sym, subst}
 use Rattle.lra_linear_spec.specs.Polyhedra.{Polyhedron}
 use Rattle.lra_linear_spec.specs.Strain.{Loss}
-use Rattle.lra_sys.specs.Listed.{generators}
+use Rattle.lra_systems.specs.LinearSystems.{generators}
 use Rattle.lra_poly.specs.Outcomes.{IsOfGenerators}
 use Rattle.lra_poly.proofs.MetRows.{never}
 use Rattle.lra_images.specs.Forgetting.{IsForgotten}

@@ -4,7 +4,7 @@ use Rattle.std.proofs.lemmas.Result.{err_from_is_err_and}
 use Rattle.lra_linear_spec.specs.Descriptions.{Con}
 use Rattle.lra_linear_spec.specs.Polyhedra.{IsPolyhedronOf}
 use Rattle.lra_linear_spec.specs.SetOperations.{Image}
-use Rattle.lra_sys.specs.Listed.{constraints, generators}
+use Rattle.lra_systems.specs.LinearSystems.{constraints, generators}
 use Rattle.lra_images.proofs.KeptLists.{generators_pass, rows_pass}
 use Rattle.lra_images.proofs.MovedPolyhedra.{image_limit, is_moving, moved_image}
 use Rattle.lra_images.proofs.moved.move_lists.Goals as goal

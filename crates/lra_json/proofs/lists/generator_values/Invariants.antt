@@ -1,7 +1,7 @@
 use Rattle.std.proofs.Common.{◌≡◌, ◌++◌, drop, map}
 use Rattle.serde_json.specs.Data.{string}
 use Rattle.serde_json.specs.View.{view}
-use Rattle.lra_sys.specs.Listed.{FitKinds}
+use Rattle.lra_systems.specs.LinearSystems.{FitKinds}
 use Rattle.lra_show.specs.Texts.{generator_text}
 use Rattle.lra_show.specs.Lists.{shown_generators}
 use Rattle.lra_json.proofs.lists.generator_values.Given as goal

@@ -1,5 +1,5 @@
 use Rattle.std.proofs.Common.{◌≡◌, suc, map, take, length}
-use Rattle.lra_sys.specs.Listed.{constraints}
+use Rattle.lra_systems.specs.LinearSystems.{constraints}
 use Rattle.lra_certificate.specs.Certificates.{padded}
 use Rattle.lra_lines.proofs.tracks.pad_rows.Given as goal
 

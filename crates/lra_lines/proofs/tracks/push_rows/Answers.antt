@@ -1,7 +1,7 @@
 -- Goals of `push_rows`: the rows come last.
 use Rattle.std.proofs.Common.{◌++◌, List, arith, ap, refl, ◌∙◌}
 use Rattle.lra_linear_spec.specs.Descriptions.{LinearRow}
-use Rattle.lra_sys.specs.Listed.{constraints}
+use Rattle.lra_systems.specs.LinearSystems.{constraints}
 use Rattle.lra_lines.proofs.TrackSteps.{row_pushed, all_constraints}
 use Rattle.lra_multipliers.proofs.ListedKinds.{kinds_pushed}
 use Rattle.lra_lines.proofs.tracks.push_rows.Goals as goal

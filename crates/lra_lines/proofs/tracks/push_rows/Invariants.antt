@@ -1,5 +1,5 @@
 use Rattle.std.proofs.Common.{◌≡◌, ◌++◌, take, length}
-use Rattle.lra_sys.specs.Listed.{constraints}
+use Rattle.lra_systems.specs.LinearSystems.{constraints}
 use Rattle.lra_lines.proofs.tracks.push_rows.Given as goal
 
 abbrev pub invariant-loop-place : goal.invariant-loop-place

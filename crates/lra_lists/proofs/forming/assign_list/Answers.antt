@@ -4,7 +4,7 @@ use Rattle.std.proofs.Common.{arith, refl, subst, suc, sym}
 use Rattle.lra_linear_spec.specs.CheckedArithmetic.{checked_product}
 use Rattle.lra_linear_spec.specs.SetOperations.{assigned}
 use Rattle.lra_linear_spec.specs.declared.Excess as E
-use Rattle.lra_sys.specs.Listed.{generators}
+use Rattle.lra_systems.specs.LinearSystems.{generators}
 use Rattle.lra_lists.specs.Forming.{IsLossAt}
 use Rattle.lra_lists.proofs.Assigning.{assigned_level}
 use Rattle.lra_lists.proofs.LossLemmas.{excess_of, lost_at}

@@ -3,7 +3,7 @@
 use Rattle.std.proofs.Common.{◌≡◌, ◌∙◌, ◌<◌, ap, get_or, length, refl, subst, sym, ℤ, List, Some, rules}
 use Rattle.std.specs.Prelude.{false, is_none}
 use Rattle.lra_linear_spec.specs.CheckedArithmetic.{checked_substitution}
-use Rattle.lra_sys.specs.Listed.{constraints}
+use Rattle.lra_systems.specs.LinearSystems.{constraints}
 use Rattle.lra_lists.specs.Forming.{IsLossAt}
 use Rattle.lra_lists.proofs.FormedLists.{formed_if_pushed, formed_left, formed_lost, substituted_fits}
 use Rattle.lra_lists.proofs.LossLemmas.{excess_of, lost_at}

@@ -1,7 +1,7 @@
 -- Goals of `push_directions`: the generators of the first, then those of the second as directions.
 use Rattle.std.proofs.Common.{◌≡◌, ◌∙◌, ap, length, sym, ℤ, List}
 use Rattle.lra_linear_spec.specs.Vectors.{entry}
-use Rattle.lra_sys.specs.Listed.{generators}
+use Rattle.lra_systems.specs.LinearSystems.{generators}
 use Rattle.lra_lists.proofs.ListLemmas.{direction_level}
 use Rattle.lra_lists.proofs.PushedLists.{direction_added, fit_more, many_more}
 use Rattle.lra_lists.proofs.lists.push_directions.Goals as goal

@@ -1,8 +1,8 @@
 use Rattle.std.proofs.Common.{◌≡◌, ◌++◌, length}
 use Rattle.lra_linear_spec.specs.OperationStrain.{as_directions}
 use Rattle.lra_linear_spec.specs.Kinds.{is_line}
-use Rattle.lra_sys.specs.Listed.{FitKinds, generators}
-use Rattle.lra_sys.proofs.FirstMembers.{front}
+use Rattle.lra_systems.specs.LinearSystems.{FitKinds, generators}
+use Rattle.lra_systems.proofs.FirstMembers.{front}
 use Rattle.lra_lists.proofs.lists.push_directions.Given as goal
 
 abbrev pub invariant-loop-place : goal.invariant-loop-place

@@ -2,7 +2,7 @@
 use Rattle.std.proofs.Common.{◌∙◌, ap, length, suc, sym}
 use Rattle.lra_linear_spec.specs.OperationStrain.{unit_row}
 use Rattle.lra_linear_spec.proofs.UnitRows.{unit_length}
-use Rattle.lra_sys.specs.Listed.{Listed}
+use Rattle.lra_systems.specs.LinearSystems.{LinearSystem}
 use Rattle.lra_linear_spec.specs.declared.GenKind.{GenKind}
 use Rattle.lra_lists.proofs.ListLemmas.{line_added, line_fits, unit_level, unit_seen}
 use Rattle.lra_lists.proofs.lists.with_line.Goals as goal
@@ -11,7 +11,7 @@ pub push-requires : goal.push-requires
 push-requires c =
     ap length (unit_seen c.args.list.now.dims c.dims-2.result c.args.x c.in_ok-row.row c.in_ok-row.ensures
     c.dims-2.ensures) ∙ unit_length c.args.list.now.dims (suc c.args.x) ∙
-    ap (λ (l : Listed GenKind). suc l.dims) (sym c.in_ok-all.ensures)
+    ap (λ (l : LinearSystem GenKind). suc l.dims) (sym c.in_ok-all.ensures)
 
 pub returns-clause-generators : goal.returns-clause-generators
 returns-clause-generators c =

@@ -1,7 +1,7 @@
 use Rattle.std.proofs.Common.{◌≡◌, ◌+◌, ◌++◌, length, map, suc, take, true}
 use Rattle.lra_linear_spec.specs.Descriptions.{rows_as}
 use Rattle.lra_linear_spec.specs.Vectors.{units, zeros}
-use Rattle.lra_sys.specs.Listed.{FitKinds, generators}
+use Rattle.lra_systems.specs.LinearSystems.{FitKinds, generators}
 use Rattle.lra_lists.proofs.lists.with_new_lines.Given as goal
 
 abbrev pub invariant-loop-i : goal.invariant-loop-i

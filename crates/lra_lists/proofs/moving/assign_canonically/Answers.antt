@@ -3,7 +3,7 @@ use Rattle.std.proofs.Common.{◌+◌, arith, ◌∙◌}
 use Rattle.std.proofs.lemmas.Result.{err_from_is_err_and}
 use Rattle.lra_linear_spec.specs.Kinds.{is_line}
 use Rattle.lra_linear_spec.specs.SetOperations.{assigned}
-use Rattle.lra_sys.specs.Listed.{generators}
+use Rattle.lra_systems.specs.LinearSystems.{generators}
 use Rattle.lra_lists.proofs.MovedLists.{KeepsWidth, lines_wide, rays_wide}
 use Rattle.lra_lists.proofs.TakenBack.{assigned_width}
 use Rattle.lra_lists.proofs.MovingLosses.{assignment_canonical, assignment_forms}

@@ -1,7 +1,7 @@
 -- Goals of `remake`: the lines in echelon form, and the rays reduced by it.
 use Rattle.std.proofs.Common.{sym, subst, List, ℤ}
 use Rattle.std.proofs.lemmas.Result.{err_from_is_err_and}
-use Rattle.lra_canon.specs.Echelons.{HaveWidth}
+use Rattle.lra_canonical.specs.Echelons.{HaveWidth}
 use Rattle.lra_pair.specs.OwnLists.{AnyReductionExcess}
 use Rattle.lra_lists.proofs.MovingLosses.{echelon_passes, reduction_passes}
 use Rattle.lra_lists.proofs.moving.remake.Goals as goal

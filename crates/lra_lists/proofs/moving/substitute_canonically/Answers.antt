@@ -3,7 +3,7 @@ use Rattle.std.proofs.Common.{◌+◌, arith, sym, ◌∙◌}
 use Rattle.std.proofs.lemmas.Result.{err_from_is_err_and}
 use Rattle.lra_linear_spec.specs.Kinds.{is_equality}
 use Rattle.lra_linear_spec.specs.Vectors.{substituted}
-use Rattle.lra_sys.specs.Listed.{constraints}
+use Rattle.lra_systems.specs.LinearSystems.{constraints}
 use Rattle.lra_lists.proofs.MovedLists.{KeepsWidth, lines_wide, rays_wide}
 use Rattle.lra_lists.proofs.TakenBack.{substituted_width}
 use Rattle.lra_lists.proofs.MovingLosses.{substitution_canonical, substitution_forms}

@@ -2,7 +2,7 @@
 use Rattle.lra_linear_spec.specs.Descriptions.{Con}
 use Rattle.lra_linear_spec.specs.OperationStrain.{TimeElapseStrains}
 use Rattle.lra_linear_spec.specs.SetOperations.{TimeElapse}
-use Rattle.lra_sys.specs.Listed.{generators}
+use Rattle.lra_systems.specs.LinearSystems.{generators}
 use Rattle.lra_duality.proofs.PolyhedronLemmas.{with_point}
 use Rattle.lra_poly.proofs.PolyLemmas.{exactly}
 use Rattle.lra_maps.proofs.ElapsedSets.{elapse_extended}

@@ -1,7 +1,7 @@
 -- Goals of `elapse_anew`: the time-elapse of two that have a point each, where the generators are converted from nothing.
 use Rattle.std.proofs.Common.{◌≡◌, ◌∙◌, ◌++◌, subst, ℕ}
 use Rattle.lra_linear_spec.specs.OperationStrain.{as_directions}
-use Rattle.lra_sys.specs.Listed.{generators}
+use Rattle.lra_systems.specs.LinearSystems.{generators}
 use Rattle.lra_poly.specs.Outcomes.{IsOfGenerators}
 use Rattle.lra_duality.proofs.PolyhedronLemmas.{with_point}
 use Rattle.lra_maps.proofs.ElapsedSets.{elapse_becomes, list_is}

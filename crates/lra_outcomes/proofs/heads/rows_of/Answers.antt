@@ -3,7 +3,7 @@ use Rattle.std.proofs.Common.{◌≡◌, ap, sym, subst, ◌∙◌}
 use Rattle.std.specs.Prelude.{option_map, IfOk}
 use Rattle.lra_operations.specs.GraphViews.{node_view}
 use Rattle.lra_program.specs.ProgramViews.{cond_view}
-use Rattle.lra_sys.specs.Listed.{Listed}
+use Rattle.lra_systems.specs.LinearSystems.{LinearSystem}
 use Rattle.lra_linear_spec.specs.declared.ConKind.{ConKind}
 use Rattle.lra_flow.specs.Given.{given_rows}
 use Rattle.lra_flow.specs.Thresholds.{loop_rows, threshold_rows}
@@ -17,7 +17,7 @@ returns-in-None c =
     let body = node_view l.body.now in
     let same : given_rows c.args.live l.base condition ≡ loop_rows l.plan.now.widening c.args.live l.base condition body =
     rows_by_condition l.plan.now.widening c.args.live l.base condition body (ap (option_map (λ x. x.now)) (sym c.in-None.is) ∙ c.thresholds.ensures) in
-    subst (λ (rows : Listed ConKind). IfOk c.given_of.result (λ s. s ≡ rows)) same c.given_of.ensures
+    subst (λ (rows : LinearSystem ConKind). IfOk c.given_of.result (λ s. s ≡ rows)) same c.given_of.ensures
 
 pub returns-in-Some : goal.returns-in-Some
 returns-in-Some c =
@@ -27,4 +27,4 @@ returns-in-Some c =
     let constants = c.in-Some.constants.now in
     let same : threshold_rows constants c.args.live l.base condition body ≡ loop_rows l.plan.now.widening c.args.live l.base condition body =
     rows_by_thresholds l.plan.now.widening constants c.args.live l.base condition body (ap (option_map (λ x. x.now)) (sym c.in-Some.is) ∙ c.thresholds.ensures) in
-    subst (λ (rows : Listed ConKind). IfOk c.thresholds_of.result (λ s. s ≡ rows)) same c.thresholds_of.ensures
+    subst (λ (rows : LinearSystem ConKind). IfOk c.thresholds_of.result (λ s. s ≡ rows)) same c.thresholds_of.ensures

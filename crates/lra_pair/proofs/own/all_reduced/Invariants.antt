@@ -1,5 +1,5 @@
 use Rattle.std.proofs.Common.{take}
-use Rattle.lra_canon.specs.Echelons.{HaveWidth}
+use Rattle.lra_canonical.specs.Echelons.{HaveWidth}
 use Rattle.lra_pair.specs.OwnLists.{AreReducedBy}
 use Rattle.lra_pair.proofs.own.all_reduced.Given as goal
 

@@ -1,7 +1,7 @@
 -- Goals of `find_marked_list`: the canonical description of what the rows taken into the cone generate, with the matrix.
 use Rattle.std.proofs.Common.{◌≡◌, ◌+◌, arith, sym, subst, suc, length, List, ℤ, ℕ}
 use Rattle.std.proofs.lemmas.Result.{err_from_is_err_and}
-use Rattle.lra_canon.specs.Echelons.{HaveWidth}
+use Rattle.lra_canonical.specs.Echelons.{HaveWidth}
 use Rattle.lra_pair.specs.OwnLists.{AnyReductionExcess}
 use Rattle.lra_pair.proofs.OwnRows.{all_width, tight_width, loose_width, echelon_excess, reduction_excess, as_many}
 use Rattle.lra_pair.proofs.OwnMade.{own_made, own_matrix}

@@ -1,4 +1,4 @@
-use Rattle.lra_steps.specs.Steps.{IsFilled}
+use Rattle.lra_double_description.specs.Steps.{IsFilled}
 use Rattle.lra_pair.specs.OwnLists.{tight_value}
 use Rattle.lra_pair.proofs.own.tight_where.Given as goal
 

@@ -1,5 +1,5 @@
 -- Goals of `enclose_points`: the polyhedron of constraints that hold at each of the points, after a loss.
-use Rattle.lra_sys.specs.Listed.{constraints}
+use Rattle.lra_systems.specs.LinearSystems.{constraints}
 use Rattle.lra_pair.proofs.GeneratorPairs.{of_first}
 use Rattle.lra_pair.proofs.pair.enclose_points.Goals as goal
 

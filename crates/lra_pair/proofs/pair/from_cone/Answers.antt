@@ -1,7 +1,7 @@
 -- Goals of `from_cone`: the polyhedron of the constraints that were taken into a cone behind the positivity row,
 -- and of further ones that are taken in after them; and what was lost of these, as by `from_rows`.
 use Rattle.std.proofs.lemmas.Result.{IfOk-weaker}
-use Rattle.lra_sys.specs.Listed.{constraints}
+use Rattle.lra_systems.specs.LinearSystems.{constraints}
 use Rattle.lra_pair.proofs.MadeLemmas.{tried_is_made, tried_some}
 use Rattle.lra_pair.proofs.PairLosses.{of_tried}
 use Rattle.lra_pair.proofs.pair.from_cone.Goals as goal

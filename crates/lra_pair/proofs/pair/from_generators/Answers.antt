@@ -5,7 +5,7 @@ use Rattle.std.proofs.lemmas.Result.{IfOk-weaker}
 use Rattle.lra_linear_spec.specs.Descriptions.{Gen, inequality}
 use Rattle.lra_linear_spec.specs.OperationStrain.{FromGeneratorsStrains}
 use Rattle.lra_linear_spec.specs.Polyhedra.{falsity}
-use Rattle.lra_sys.specs.Listed.{generators}
+use Rattle.lra_systems.specs.LinearSystems.{generators}
 use Rattle.lra_linear_spec.specs.declared.GenKind.{GenKind}
 use Rattle.lra_linear_spec.specs.declared.GenKind.TheVariants.{Point}
 use Rattle.lra_pair.proofs.ConstraintLists.{no_point_given}

@@ -5,7 +5,7 @@ use Rattle.std.proofs.lemmas.Grind.{common_steps}
 use Rattle.std.proofs.lemmas.Result.{IfOk-weaker}
 use Rattle.lra_linear_spec.specs.Descriptions.{Gen}
 use Rattle.lra_linear_spec.specs.Points.{IsEmptySet}
-use Rattle.lra_sys.specs.Listed.{generators}
+use Rattle.lra_systems.specs.LinearSystems.{generators}
 use Rattle.lra_pair.proofs.OwnRows.{none_of, some_of}
 use Rattle.lra_pair.proofs.GeneratorPairs.{all_taken, if_both, some_lost}
 use Rattle.lra_pair.proofs.pair.from_points.Goals as goal

@@ -2,7 +2,7 @@
 use Rattle.std.proofs.Common.{List, subst}
 use Rattle.std.proofs.lemmas.Result.{IfOk-weaker}
 use Rattle.lra_linear_spec.specs.Descriptions.{LinearRow}
-use Rattle.lra_sys.specs.Listed.{constraints}
+use Rattle.lra_systems.specs.LinearSystems.{constraints}
 use Rattle.lra_pair.specs.KeptRows.{IsOfSome}
 use Rattle.lra_pair.specs.Made.{IsMadeOfRows}
 use Rattle.lra_pair.specs.TriedRows.{IsOfTried}

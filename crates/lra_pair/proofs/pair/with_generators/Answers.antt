@@ -6,7 +6,7 @@ use Rattle.std.proofs.lemmas.Grind.{common_steps}
 use Rattle.lra_linear_spec.specs.Descriptions.{LinearRow, Gen}
 use Rattle.lra_linear_spec.specs.Points.{IsEmptySet}
 use Rattle.lra_linear_spec.specs.Polyhedra.{IsPolyhedronOf}
-use Rattle.lra_sys.specs.Listed.{constraints, generators}
+use Rattle.lra_systems.specs.LinearSystems.{constraints, generators}
 use Rattle.lra_pair.proofs.GeneratorPairs.{further_columns, further_rows, further_taken}
 use Rattle.lra_pair.proofs.OwnRows.{none_of, some_of}
 use Rattle.lra_pair.proofs.PairLosses.{if_none, list_strains, one_left_out}

@@ -2,7 +2,7 @@
 -- were to be taken in.
 use Rattle.std.proofs.Common.{ap, sym, ◌∙◌, suc}
 use Rattle.lra_cone.proofs.Stepped.{lines_have_width, rays_have_width}
-use Rattle.lra_sys.specs.Listed.{constraints}
+use Rattle.lra_systems.specs.LinearSystems.{constraints}
 use Rattle.lra_pair.proofs.ConstraintLists.{shows_valid}
 use Rattle.lra_pair.proofs.valid.valid_list.Goals as goal
 

@@ -2,7 +2,7 @@
 use Rattle.std.proofs.Common.{rules, ◌≡◌}
 use Rattle.lra_domain.specs.declared.Exactness.TheVariants as degree
 use Rattle.lra_linear_spec.specs.Kinds.{is_equality}
-use Rattle.lra_sys.specs.Listed.{constraints}
+use Rattle.lra_systems.specs.LinearSystems.{constraints}
 use Rattle.lra_widen.proofs.WideningLemmas.{seen_columns}
 use Rattle.lra_polydom.proofs.GrowthLemmas.{grown_by_widening, grown_up}
 use Rattle.lra_polydom.proofs.growth.grow_by_widening.Goals as goal

@@ -1,5 +1,5 @@
 -- Goals of `some_row_passes`: whether the product of one of the rows with one of the generators does.
-use Rattle.lra_sys.specs.Listed.{generators}
+use Rattle.lra_systems.specs.LinearSystems.{generators}
 use Rattle.lra_widen.proofs.TruthLists.{none_among}
 use Rattle.lra_polydom.specs.Growth.{row_passes}
 use Rattle.lra_polydom.proofs.lists.some_row_passes.Goals as goal

@@ -1,6 +1,6 @@
 -- Goals of `widen_by_tightest`: the widening limited by the tightest rows, by a polyhedron that the first lies in.
 use Rattle.lra_domain.specs.declared.Mode.TheVariants.{Tightest}
-use Rattle.lra_sys.specs.Listed.{constraints}
+use Rattle.lra_systems.specs.LinearSystems.{constraints}
 use Rattle.lra_polydom.proofs.GrowthLemmas.{is_widening, never_refused}
 use Rattle.lra_polydom.proofs.widening.widen_by_tightest.Goals as goal
 

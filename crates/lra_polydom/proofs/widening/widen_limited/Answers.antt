@@ -1,6 +1,6 @@
 -- Goals of `widen_limited`: the limited widening by a polyhedron that the first lies in.
 use Rattle.lra_domain.specs.declared.Mode.TheVariants.{Limited}
-use Rattle.lra_sys.specs.Listed.{constraints}
+use Rattle.lra_systems.specs.LinearSystems.{constraints}
 use Rattle.lra_polydom.proofs.GrowthLemmas.{is_widening, never_refused}
 use Rattle.lra_polydom.proofs.widening.widen_limited.Goals as goal
 

@@ -1,7 +1,7 @@
 -- Goals of `widen_standard`: the standard widening by a polyhedron that the first lies in.
 use Rattle.lra_domain.specs.declared.Mode.TheVariants.{Widen}
 use Rattle.lra_linear_spec.specs.Kinds.{is_equality}
-use Rattle.lra_sys.specs.Listed.{constraints}
+use Rattle.lra_systems.specs.LinearSystems.{constraints}
 use Rattle.lra_widen.proofs.WideningLemmas.{seen_columns}
 use Rattle.lra_polydom.proofs.GrowthLemmas.{is_widening, never_refused}
 use Rattle.lra_polydom.proofs.widening.widen_standard.Goals as goal

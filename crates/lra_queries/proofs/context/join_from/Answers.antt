@@ -1,6 +1,6 @@
 -- Goals of `join_from`: the constraints, then those of the list from the place on.
 use Rattle.std.proofs.Common.{◌∙◌, arith, sym}
-use Rattle.lra_sys.specs.Listed.{constraints}
+use Rattle.lra_systems.specs.LinearSystems.{constraints}
 use Rattle.lra_queries.proofs.SimplifiedRows.{all_pushed, one_pushed}
 use Rattle.lra_queries.proofs.TightenedRows.{one_counted}
 use Rattle.lra_queries.proofs.context.join_from.Goals as goal

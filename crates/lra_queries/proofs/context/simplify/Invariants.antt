@@ -1,5 +1,5 @@
 use Rattle.std.proofs.Common.{◌≡◌, drop, length}
-use Rattle.lra_sys.specs.Listed.{constraints}
+use Rattle.lra_systems.specs.LinearSystems.{constraints}
 use Rattle.lra_queries.proofs.SimplifiedRows.{IsSoFar}
 use Rattle.lra_queries.proofs.context.simplify.Given as goal
 

@@ -1,7 +1,7 @@
 -- Goals of `push_moved`: the constraints, then those of the list along these dimensions.
 use Rattle.std.proofs.Common.{◌∙◌, ap, arith, length, suc, sym}
 use Rattle.lra_linear_spec.specs.declared.ConKind.TheVariants.{Ge}
-use Rattle.lra_sys.specs.Listed.{constraints}
+use Rattle.lra_systems.specs.LinearSystems.{constraints}
 use Rattle.lra_queries.proofs.JoinedSets.{all_moved, one_moved}
 use Rattle.lra_queries.proofs.MovedSets.{chosen_width}
 use Rattle.lra_queries.proofs.TightenedRows.{one_counted}

@@ -1,6 +1,6 @@
 use Rattle.std.proofs.Common.{◌≡◌, ◌++◌, length, take}
 use Rattle.lra_linear_spec.specs.Kinds.{is_equality}
-use Rattle.lra_sys.specs.Listed.{constraints, given_by}
+use Rattle.lra_systems.specs.LinearSystems.{constraints, rows_by_kind}
 use Rattle.lra_queries.specs.Moved.{moved}
 use Rattle.lra_queries.proofs.joining.push_moved.Given as goal
 
@@ -8,6 +8,6 @@ abbrev pub invariant-loop-place : goal.invariant-loop-place
 invariant-loop-place l = record {
   dims : l.all.dims ≡ l.fn.own.dims;
   given : constraints l.all ≡ constraints l.fn.own ++
-      moved l.dims (given_by is_equality (take l.place l.rows) (take l.place l.kinds));
+      moved l.dims (rows_by_kind is_equality (take l.place l.rows) (take l.place l.kinds));
   count : length l.all.kinds ≡ length l.all.rows;
 }

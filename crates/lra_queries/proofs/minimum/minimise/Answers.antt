@@ -2,7 +2,7 @@
 use Rattle.std.proofs.Common.{rules, FitsSigned, ap, neg_ℤ, ◌∙◌}
 use Rattle.std.specs.Int.{w128}
 use Rattle.std.proofs.lemmas.Int.{to_z-of_z}
-use Rattle.lra_lin.specs.Form.{form_row}
+use Rattle.lra_linear_forms.specs.Form.{form_row}
 use Rattle.lra_queries.proofs.MinimumLemmas.{least_place, least_value, unbounded_below}
 use Rattle.lra_queries.proofs.minimum.minimise.Goals as goal
 

@@ -7,7 +7,7 @@ use Rattle.lra_linear_spec.specs.OperationStrain.{ProductsPass}
 use Rattle.lra_linear_spec.specs.declared.GenKind.TheVariants.{Point}
 use Rattle.lra_duality.specs.Maxima.{StaysInRange}
 use Rattle.lra_duality.proofs.InclusionLemmas.{seen_generators}
-use Rattle.lra_sys.proofs.FirstMembers.{one_more}
+use Rattle.lra_systems.proofs.FirstMembers.{one_more}
 use Rattle.lra_queries.proofs.MissedLists.{one_missed_more, one_passes}
 use Rattle.lra_queries.proofs.relation.missed_by.Goals as goal
 

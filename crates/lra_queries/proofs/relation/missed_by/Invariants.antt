@@ -1,7 +1,7 @@
 use Rattle.std.specs.List.{All}
 use Rattle.lra_linear_spec.specs.Kinds.{is_line}
 use Rattle.lra_duality.specs.Maxima.{StaysInRange}
-use Rattle.lra_sys.proofs.FirstMembers.{front}
+use Rattle.lra_systems.proofs.FirstMembers.{front}
 use Rattle.lra_queries.specs.Relations.{AreMissed}
 use Rattle.lra_queries.proofs.relation.missed_by.Given as goal
 

@@ -1,6 +1,6 @@
 use Rattle.std.proofs.Common.{◌≡◌, ◌++◌, drop, string_bytes}
 use Rattle.std.specs.List.{flat_map}
-use Rattle.lra_sys.specs.Listed.{FitKinds}
+use Rattle.lra_systems.specs.LinearSystems.{FitKinds}
 use Rattle.lra_show.specs.Lists.{shown_generators}
 use Rattle.lra_show.specs.Lines.{generator_line}
 use Rattle.lra_show.proofs.lines.push_generators.Given as goal

@@ -5,7 +5,7 @@ use Rattle.std.proofs.lemmas.Grind.{common_steps}
 use Rattle.lra_linear_spec.specs.Range.{InRange}
 use Rattle.lra_linear_spec.specs.declared.ConKind.{ConKind}
 use Rattle.lra_linear_spec.specs.declared.GenKind.{GenKind}
-use Rattle.lra_sys.specs.Listed.{Listed}
+use Rattle.lra_systems.specs.LinearSystems.{LinearSystem}
 use Rattle.lra_show.specs.Part.{Part}
 use Rattle.lra_show.specs.Lists.{shown_rows, shown_generators}
 use Rattle.lra_states.specs.Polyhedra.{shown_polyhedron, polyhedron_of}
@@ -34,8 +34,8 @@ returns-clause-shown c =
     let some : 0 < length gens.kinds = grind (arith, common_steps) in
     c.in_ok-push.ensures.items ∙ ap (λ (l : List Part). l ++ part ∷ []) c.new-state.ensures.items
     ∙ some_shown rows gens part c.requires.fit long some
-    (c.new-2.ensures.rows ∙ ap (λ (l : Listed ConKind). shown_rows l.rows l.kinds) c.in_ok-copy.ensures)
-    (c.new-2.ensures.generators ∙ ap (λ (l : Listed GenKind). shown_generators l.rows l.kinds) c.in_ok-copy-2.ensures)
+    (c.new-2.ensures.rows ∙ ap (λ (l : LinearSystem ConKind). shown_rows l.rows l.kinds) c.in_ok-copy.ensures)
+    (c.new-2.ensures.generators ∙ ap (λ (l : LinearSystem GenKind). shown_generators l.rows l.kinds) c.in_ok-copy-2.ensures)
 
 pub returns-clause-told : goal.returns-clause-told
 returns-clause-told c =
@@ -66,5 +66,5 @@ returns-clause-canonical c =
     let some : 0 < length gens.kinds = grind (arith, common_steps) in
     shown_canonical (polyhedron_of rows gens) _ c.requires.formed (c.in_ok-push.ensures.items ∙ ap (λ (l : List Part). l ++ part ∷ []) c.new-state.ensures.items
     ∙ some_shown rows gens part c.requires.fit long some
-    (c.new-2.ensures.rows ∙ ap (λ (l : Listed ConKind). shown_rows l.rows l.kinds) c.in_ok-copy.ensures)
-    (c.new-2.ensures.generators ∙ ap (λ (l : Listed GenKind). shown_generators l.rows l.kinds) c.in_ok-copy-2.ensures))
+    (c.new-2.ensures.rows ∙ ap (λ (l : LinearSystem ConKind). shown_rows l.rows l.kinds) c.in_ok-copy.ensures)
+    (c.new-2.ensures.generators ∙ ap (λ (l : LinearSystem GenKind). shown_generators l.rows l.kinds) c.in_ok-copy-2.ensures))

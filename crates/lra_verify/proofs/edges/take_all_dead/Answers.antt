@@ -2,7 +2,7 @@
 use Rattle.std.proofs.Common.{◌+◌, ◌∷◌, ◌∙◌, List, ap, sym, drop, arith, Some}
 use Rattle.std.specs.Borrow.{Bor}
 use Rattle.lra_domain.specs.declared.changes.Change.{Change}
-use Rattle.lra_sys.specs.Listed.{constraints}
+use Rattle.lra_systems.specs.LinearSystems.{constraints}
 use Rattle.lra_verify.specs.EdgeViews.{dead_by}
 use Rattle.lra_sides.specs.TableSides.{all_done, lists_done}
 use Rattle.lra_certificate.specs.Lines.{in_turn, left_at}

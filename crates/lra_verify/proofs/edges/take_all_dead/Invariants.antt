@@ -1,5 +1,5 @@
 use Rattle.std.proofs.Common.{◌≡◌, ◌≤◌, length, drop, Some}
-use Rattle.lra_sys.specs.Listed.{constraints}
+use Rattle.lra_systems.specs.LinearSystems.{constraints}
 use Rattle.lra_sides.specs.TableSides.{lists_done}
 use Rattle.lra_verify.specs.EdgeViews.{dead_by}
 use Rattle.lra_certificate.specs.Lines.{in_turn, left_at}

@@ -1,7 +1,7 @@
 -- Goals of `take_points`: what is said of each point, in order.
 use Rattle.std.proofs.Common.{◌≡◌, ◌++◌, ◌∷◌, ◌+◌, [], ℕ, List, Option, Some, length, map, drop, ap, sym, ◌∙◌, subst, arith, length-append, IfSome}
 use Rattle.lra_linear_spec.specs.declared.ConKind.{ConKind}
-use Rattle.lra_sys.specs.Listed.{Listed}
+use Rattle.lra_systems.specs.LinearSystems.{LinearSystem}
 use Rattle.lra_operations.specs.GraphViews.{site_view}
 use Rattle.lra_certificate.specs.Judged.{judged_states}
 use Rattle.lra_certificate.specs.Lines.{left_at}
@@ -20,17 +20,18 @@ loop-index-preserved c =
     let i = c.loop-index.index in
     let so_far = c.loop-index.invariant in
     let pushed : c.push.new.self.items ≡ states ++ p.state ∷ [] = c.in_ok-push.ensures.items in
-    let len = ap (λ (xs : List (Option (Listed ConKind))). length xs) pushed ∙ length-append states (p.state ∷ []) in
+    let len = ap (λ (xs : List (Option (LinearSystem ConKind))). length xs) pushed ∙ length-append states (p.state ∷ []) in
     let n = so_far.count in
     let whole = judged_states 1 (map site_view all) (left_at bytes 0) in
     record {
-      so_far = subst (λ (xs : List (Option (Listed ConKind))). states_after (map state_view xs) (judged_states (i + 1 + 1) (map site_view (drop (i + 1) all))
+      so_far = subst (λ (xs : List (Option (LinearSystem ConKind))). states_after (map state_view xs)
+          (judged_states (i + 1 + 1) (map site_view (drop (i + 1) all))
           (left_at bytes p.behind)) ≡ whole) (sym pushed)
           (points_more all i site states p.state (left_at bytes c.loop-index.at) (left_at bytes p.behind) whole c.loop-index-test.true c.index-sites-index.is
           so_far.so_far c.in_ok-state.ensures.told);
       within = c.in_ok-state.ensures.within;
       count = omega (arith, len, n);
-      dims = subst (λ (xs : List (Option (Listed ConKind))). HaveDims (map site_view all) xs) (sym pushed)
+      dims = subst (λ (xs : List (Option (LinearSystem ConKind))). HaveDims (map site_view all) xs) (sym pushed)
           (dims_pushed (map site_view all) states p.state i n so_far.dims
           (subst (λ (k : ℕ). IfSome p.state (λ rows. rows.dims ≡ k)) (sym (site_at all i site c.loop-index-test.true c.index-sites-index.is))
           c.in_ok-state.ensures.live));

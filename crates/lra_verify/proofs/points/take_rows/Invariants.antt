@@ -1,5 +1,5 @@
 use Rattle.std.proofs.Common.{◌≡◌, ◌≤◌, ◌-◌, length}
-use Rattle.lra_sys.specs.Listed.{constraints}
+use Rattle.lra_systems.specs.LinearSystems.{constraints}
 use Rattle.lra_certificate.specs.Judged.{judged_rows}
 use Rattle.lra_certificate.specs.Lines.{number_at, pieces_at}
 use Rattle.lra_lines.proofs.Told.{rows_after}

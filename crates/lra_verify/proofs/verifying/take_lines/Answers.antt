@@ -1,7 +1,7 @@
 -- Goals of `take_lines`: all lines behind the source.
 use Rattle.std.proofs.Common.{◌≡◌, List, Option, Ok, map, sym, subst}
 use Rattle.lra_linear_spec.specs.declared.ConKind.{ConKind}
-use Rattle.lra_sys.specs.Listed.{Listed}
+use Rattle.lra_systems.specs.LinearSystems.{LinearSystem}
 use Rattle.lra_operations.specs.GraphViews.{site_view}
 use Rattle.lra_certificate.specs.Judged.{judged, judged_states}
 use Rattle.lra_certificate.specs.Lines.{left_at}
@@ -21,7 +21,8 @@ returns c =
     let l = left_at bytes read.points.behind in
     let ways = ways_ready w read.points.states.items c.requires.start c.requires.dims said read.ensures.count read.ensures.dims c.requires.sources
     c.requires.many c.requires.live in
-    let took = subst (λ (x : List (Option (Listed ConKind))). judged_states 1 (map site_view c.args.sites.now) (left_at bytes 0) ≡ Ok (map state_view x, l))
+    let took = subst (λ (x : List (Option (LinearSystem ConKind))). judged_states 1 (map site_view c.args.sites.now) (left_at bytes 0)
+    ≡ Ok (map state_view x, l))
     (sym said) read.ensures.told in
     record {
       told = λ P g same lead. told_as (λ r. r) (rest_by w l) (judged P g bytes) c.take_rest.result (lines_are_judged P g w ways same lead bytes l took)

@@ -3,8 +3,8 @@ use Rattle.std.proofs.Common.{arith, ap, sym, ◌∙◌, ◌≡◌, ◌+◌, ◌
 use Rattle.std.specs.Prelude.{◌&&◌}
 use Rattle.lra_linear_spec.specs.declared.ConKind.TheVariants.{Ge}
 use Rattle.lra_linear_spec.specs.Kinds.{is_equality}
-use Rattle.lra_sys.proofs.FirstMembers.{front, member}
-use Rattle.lra_sys.specs.Listed.{constraints}
+use Rattle.lra_systems.proofs.FirstMembers.{front, member}
+use Rattle.lra_systems.specs.LinearSystems.{constraints}
 use Rattle.lra_widen.specs.Rank.{holds_in_range, kept}
 use Rattle.lra_widen.proofs.Loops.{front_seen, front_step, kept_step}
 use Rattle.lra_widen.proofs.lists.add_held.Goals as goal

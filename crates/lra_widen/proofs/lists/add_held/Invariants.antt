@@ -1,7 +1,7 @@
 use Rattle.std.proofs.Common.{◌≡◌, ◌++◌}
 use Rattle.lra_linear_spec.specs.Kinds.{is_equality}
-use Rattle.lra_sys.proofs.FirstMembers.{front}
-use Rattle.lra_sys.specs.Listed.{constraints}
+use Rattle.lra_systems.proofs.FirstMembers.{front}
+use Rattle.lra_systems.specs.LinearSystems.{constraints}
 use Rattle.lra_widen.specs.Rank.{kept}
 use Rattle.lra_widen.proofs.lists.add_held.Given as goal
 

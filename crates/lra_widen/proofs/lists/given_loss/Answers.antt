@@ -5,8 +5,8 @@ use Rattle.lra_linear_spec.specs.declared.ConKind.TheVariants.{Ge}
 use Rattle.lra_linear_spec.specs.Descriptions.{LinearRow}
 use Rattle.lra_linear_spec.specs.Kinds.{is_equality}
 use Rattle.lra_linear_spec.specs.OperationStrain.{valid_on}
-use Rattle.lra_sys.proofs.FirstMembers.{front, member}
-use Rattle.lra_sys.specs.Listed.{constraints}
+use Rattle.lra_systems.proofs.FirstMembers.{front, member}
+use Rattle.lra_systems.specs.LinearSystems.{constraints}
 use Rattle.lra_widen.specs.Rank.{kept}
 use Rattle.lra_widen.specs.Validity.{IsValidity}
 use Rattle.lra_widen.proofs.Loops.{front_seen, front_step}

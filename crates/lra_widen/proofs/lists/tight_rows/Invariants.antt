@@ -2,8 +2,8 @@ use Rattle.std.proofs.Common.{◌≡◌, ◌++◌, []}
 use Rattle.std.specs.List.{filter}
 use Rattle.lra_linear_spec.specs.Kinds.{is_equality}
 use Rattle.lra_linear_spec.specs.Widening.{is_tight}
-use Rattle.lra_sys.proofs.FirstMembers.{front}
-use Rattle.lra_sys.specs.Listed.{constraints}
+use Rattle.lra_systems.proofs.FirstMembers.{front}
+use Rattle.lra_systems.specs.LinearSystems.{constraints}
 use Rattle.lra_widen.proofs.lists.tight_rows.Given as goal
 
 abbrev pub invariant-loop-place : goal.invariant-loop-place

@@ -5,7 +5,7 @@ use Rattle.std.specs.List.{filter}
 use Rattle.lra_linear_spec.specs.declared.ConKind.TheVariants.{Ge}
 use Rattle.lra_linear_spec.specs.Descriptions.{LinearRow}
 use Rattle.lra_linear_spec.specs.Kinds.{is_equality}
-use Rattle.lra_sys.proofs.FirstMembers.{front, member}
+use Rattle.lra_systems.proofs.FirstMembers.{front, member}
 use Rattle.lra_widen.proofs.Loops.{count_few, count_step, front_seen, front_step}
 use Rattle.lra_widen.proofs.ranking.count_equalities.Goals as goal
 

@@ -2,7 +2,7 @@ use Rattle.std.proofs.Common.{◌≡◌, ◌≤◌, length}
 use Rattle.std.specs.List.{filter}
 use Rattle.lra_linear_spec.specs.Descriptions.{LinearRow}
 use Rattle.lra_linear_spec.specs.Kinds.{is_equality}
-use Rattle.lra_sys.proofs.FirstMembers.{front}
+use Rattle.lra_systems.proofs.FirstMembers.{front}
 use Rattle.lra_widen.proofs.ranking.count_equalities.Given as goal
 
 abbrev pub invariant-loop-place : goal.invariant-loop-place

@@ -7,8 +7,8 @@ use Rattle.lra_bits.specs.Matrix.{Matrix}
 use Rattle.lra_linear_spec.specs.declared.ConKind.TheVariants.{Ge}
 use Rattle.lra_linear_spec.specs.Descriptions.{LinearRow}
 use Rattle.lra_linear_spec.specs.Kinds.{is_equality}
-use Rattle.lra_sys.proofs.FirstMembers.{member}
-use Rattle.lra_sys.specs.Listed.{constraints, given_by}
+use Rattle.lra_systems.proofs.FirstMembers.{member}
+use Rattle.lra_systems.specs.LinearSystems.{constraints, rows_by_kind}
 use Rattle.lra_duality.proofs.SaturationLemmas.{given_length}
 use Rattle.lra_duality.specs.Saturations.{saturated}
 use Rattle.lra_widen.specs.Rank.{held, is_free}
@@ -39,7 +39,8 @@ loop-place-preserved c =
     let g : LinearRow = member is_equality kinds i r Ge in
     let inside : i < length rows = subst (λ (n : ℕ). i < n) (ap length c.rows-rows.ensures.rows) c.loop-place-test.true in
     let is : r ≡ get_or rows i r = get_or_default rows i [] r inside in
-    let own : p.rows ≡ given_by is_equality rows kinds = sym c.rows-list.ensures.rows ∙ ap (given_by is_equality rows) (sym c.kinds-kinds.ensures.kinds) in
+    let own : p.rows ≡ rows_by_kind is_equality rows kinds =
+    sym c.rows-list.ensures.rows ∙ ap (rows_by_kind is_equality rows) (sym c.kinds-kinds.ensures.kinds) in
     let bits : c.row.result.now ≡ saturated p.generators r =
     c.row.ensures.row ∙ ap (λ (m : Matrix). slice_index_or m.rows i []) c.saturation-matrix.ensures ∙
     ap (λ (l : List LinearRow). slice_index_or (map (λ (s : LinearRow). saturated p.generators s.row) l) i []) own

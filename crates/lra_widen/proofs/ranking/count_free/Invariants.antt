@@ -1,6 +1,6 @@
 use Rattle.std.proofs.Common.{◌≡◌, ◌≤◌, length, take}
 use Rattle.std.specs.List.{filter}
-use Rattle.lra_sys.specs.Listed.{constraints}
+use Rattle.lra_systems.specs.LinearSystems.{constraints}
 use Rattle.lra_widen.specs.Rank.{held, is_free}
 use Rattle.lra_widen.proofs.ranking.count_free.Given as goal
 

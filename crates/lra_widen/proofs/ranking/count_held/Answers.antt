@@ -2,7 +2,7 @@
 use Rattle.std.proofs.Common.{ap, sym, ◌∙◌, ◌≡◌, ◌+◌, length}
 use Rattle.lra_linear_spec.specs.declared.ConKind.TheVariants.{Ge}
 use Rattle.lra_linear_spec.specs.Kinds.{is_equality}
-use Rattle.lra_sys.proofs.FirstMembers.{front, member}
+use Rattle.lra_systems.proofs.FirstMembers.{front, member}
 use Rattle.lra_widen.specs.Rank.{holds_in_range}
 use Rattle.lra_widen.proofs.Loops.{count_few, count_step, front_step}
 use Rattle.lra_widen.proofs.ranking.count_held.Goals as goal

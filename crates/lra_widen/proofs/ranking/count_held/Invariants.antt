@@ -1,7 +1,7 @@
 use Rattle.std.proofs.Common.{◌≡◌, ◌≤◌, length}
 use Rattle.std.specs.List.{filter}
 use Rattle.lra_linear_spec.specs.Kinds.{is_equality}
-use Rattle.lra_sys.proofs.FirstMembers.{front}
+use Rattle.lra_systems.proofs.FirstMembers.{front}
 use Rattle.lra_widen.specs.Rank.{holds_in_range}
 use Rattle.lra_widen.proofs.ranking.count_held.Given as goal
 

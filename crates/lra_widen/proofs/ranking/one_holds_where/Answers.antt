@@ -3,8 +3,8 @@ use Rattle.std.proofs.Common.{ap, sym, ◌∙◌, ◌≡◌, ◌+◌, length}
 use Rattle.std.specs.Prelude.{◌&&◌}
 use Rattle.lra_linear_spec.specs.declared.ConKind.TheVariants.{Ge}
 use Rattle.lra_linear_spec.specs.Kinds.{is_equality}
-use Rattle.lra_sys.proofs.FirstMembers.{front, member}
-use Rattle.lra_sys.specs.Listed.{constraints}
+use Rattle.lra_systems.proofs.FirstMembers.{front, member}
+use Rattle.lra_systems.specs.LinearSystems.{constraints}
 use Rattle.lra_duality.specs.Saturations.{saturated}
 use Rattle.lra_widen.specs.Rank.{holds_in_range}
 use Rattle.lra_widen.specs.Saturated.{same_values}

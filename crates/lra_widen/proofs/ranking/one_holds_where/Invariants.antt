@@ -3,7 +3,7 @@ use Rattle.std.specs.List.{list_any}
 use Rattle.std.specs.Prelude.{◌&&◌}
 use Rattle.lra_linear_spec.specs.Kinds.{is_equality}
 use Rattle.lra_duality.specs.Saturations.{saturated}
-use Rattle.lra_sys.proofs.FirstMembers.{front}
+use Rattle.lra_systems.proofs.FirstMembers.{front}
 use Rattle.lra_widen.specs.Rank.{holds_in_range}
 use Rattle.lra_widen.specs.Saturated.{same_values}
 use Rattle.lra_widen.proofs.ranking.one_holds_where.Given as goal

@@ -1,7 +1,7 @@
 -- Goals of `all_saturated`: which of the generators each of the constraints saturates.
 use Rattle.std.proofs.Common.{arith}
 use Rattle.lra_linear_spec.specs.Kinds.{is_equality}
-use Rattle.lra_sys.specs.Listed.{generators}
+use Rattle.lra_systems.specs.LinearSystems.{generators}
 use Rattle.lra_widen.proofs.TightLists.{all_rows_saturate}
 use Rattle.lra_widen.proofs.saturation.all_saturated.Goals as goal
 

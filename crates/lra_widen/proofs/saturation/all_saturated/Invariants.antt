@@ -1,5 +1,5 @@
 use Rattle.std.proofs.Common.{◌≡◌, map, take}
-use Rattle.lra_sys.specs.Listed.{generators}
+use Rattle.lra_systems.specs.LinearSystems.{generators}
 use Rattle.lra_duality.specs.Saturations.{saturated}
 use Rattle.lra_widen.proofs.saturation.all_saturated.Given as goal
 

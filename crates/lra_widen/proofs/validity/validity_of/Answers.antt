@@ -8,7 +8,7 @@ use Rattle.lra_linear_spec.specs.Descriptions.{LinearRow}
 use Rattle.lra_linear_spec.specs.Kinds.{is_equality, is_line}
 use Rattle.lra_linear_spec.specs.declared.GenKind.TheVariants.{Point}
 use Rattle.lra_duality.specs.Inclusions.{Meets, Violates}
-use Rattle.lra_sys.proofs.FirstMembers.{member, first_at, one_more, all_gone_through, ok_of}
+use Rattle.lra_systems.proofs.FirstMembers.{member, first_at, one_more, all_gone_through, ok_of}
 use Rattle.lra_duality.proofs.InclusionLemmas.{has_member, seen_generators}
 use Rattle.lra_widen.proofs.validity.validity_of.Goals as goal
 

@@ -1,6 +1,6 @@
 -- Goals of `limited`: the standard widening met with each given constraint that is valid on both.
 use Rattle.lra_linear_spec.specs.Kinds.{is_equality}
-use Rattle.lra_sys.specs.Listed.{constraints}
+use Rattle.lra_systems.specs.LinearSystems.{constraints}
 use Rattle.lra_widen.proofs.WideningLemmas.{limited_falls, seen_columns}
 use Rattle.lra_widen.proofs.widening.limited.Goals as goal
 

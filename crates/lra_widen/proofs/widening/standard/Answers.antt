@@ -1,5 +1,5 @@
 -- Goals of `standard`: the standard widening of P by Q, which P lies in.
-use Rattle.lra_sys.specs.Listed.{constraints}
+use Rattle.lra_systems.specs.LinearSystems.{constraints}
 use Rattle.std.proofs.Common.{List, subst}
 use Rattle.lra_linear_spec.specs.Descriptions.{LinearRow}
 use Rattle.lra_widen.specs.StayingRows.{StaysOrIsGivenUp}

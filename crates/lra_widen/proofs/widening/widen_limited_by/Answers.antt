@@ -2,7 +2,7 @@
 use Rattle.std.proofs.Common.{subst, refl, inl, inr, ℕ, []}
 use Rattle.lra_linear_spec.specs.Descriptions.{Con}
 use Rattle.lra_linear_spec.specs.Polyhedra.{IsPolyhedronOf}
-use Rattle.lra_sys.specs.Listed.{constraints}
+use Rattle.lra_systems.specs.LinearSystems.{constraints}
 use Rattle.lra_widen.proofs.WideningLemmas.{wide_inside, widened_empty, widened_wide, yes_inside}
 use Rattle.lra_widen.proofs.StayingLemmas.{staying}
 use Rattle.lra_widen.proofs.widening.widen_limited_by.Goals as goal

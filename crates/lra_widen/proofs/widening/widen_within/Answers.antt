@@ -1,7 +1,7 @@
 -- Goals of `widen_within`: the widening of a polyhedron with a point by one that it lies in.
 use Rattle.std.proofs.Common.{ap, ◌∙◌, ◌++◌}
 use Rattle.lra_linear_spec.specs.Kinds.{is_equality}
-use Rattle.lra_sys.specs.Listed.{constraints}
+use Rattle.lra_systems.specs.LinearSystems.{constraints}
 use Rattle.lra_widen.specs.Rank.{kept}
 use Rattle.lra_widen.proofs.WideningLemmas.{not_exact, seen_columns, widened_made, widened_passed}
 use Rattle.lra_widen.proofs.StayingLemmas.{of_staying}

@@ -6,15 +6,15 @@ use Rattle.std.proofs.lemmas.Result.{err_from_is_err_and}
 use Rattle.std.proofs.lemmas.List.{length-map}
 use Rattle.lra_linear_spec.specs.Vectors.{product}
 use Rattle.lra_linear_spec.specs.Descriptions.{LinearRow}
-use Rattle.lra_sys.specs.Listed.{constraints, given_by}
+use Rattle.lra_systems.specs.LinearSystems.{constraints, rows_by_kind}
 use Rattle.lra_linear_spec.specs.Kinds.{is_equality}
 use Rattle.lra_linear_spec.specs.declared.ConKind.{ConKind}
 use Rattle.lra_linear_spec.specs.ConeStrain.{row_limit}
-use Rattle.lra_cone.specs.Cones.{Shape, IsCone, IsTakenIn, saturation_of}
+use Rattle.lra_cone.specs.Cones.{ConeContent, IsCone, IsTakenIn, cone_saturation}
 use Rattle.lra_cone.specs.Flat.{AreFlat}
 use Rattle.lra_cone.proofs.FlatCones.{flat_error}
 use Rattle.lra_cone.proofs.Stepped.{flatten_case, too_many_rays, cone_again, cone_of, line_met, line_canonical, line_matrix}
-use Rattle.lra_sys.proofs.GivenRows.{constraints_push}
+use Rattle.lra_systems.proofs.LinearRows.{constraints_push}
 use Rattle.lra_cone.proofs.cone.Cone.flatten.Goals as goal
 
 pub find_flat-requires-clause-inside : goal.find_flat-requires-clause-inside
@@ -44,48 +44,48 @@ returns-then-count-gt-RAY_LIMIT-clause-strained c =
 pub invariant_of-self-2 : goal.invariant_of-self-2
 invariant_of-self-2 c =
     let i = c.self.inside in
-    let s : Shape = record { dims = i.taken.dims; taken = constraints i.taken; lines = i.lines.items; rays = i.rays.items } in
+    let s : ConeContent = record { dims = i.taken.dims; taken = constraints i.taken; lines = i.lines.items; rays = i.rays.items } in
     let k : IsCone s = c.self.invariant.0 in
     let row = c.args.row.now in
     let g : LinearRow = record { row = row; equal = is_equality c.args.kind } in
     let lines = c.in_ok-flat.flat.lines.items in
     let rays = c.in_ok-flat.flat.rays.items in
-    let f = subst (λ (z : Shape). AreFlat g.equal z c.args.place c.args.of_lines.now c.args.of_rays.now lines rays c.in_ok-flat.flat.saturation) (sym c.self.view_is) c.in_ok-flat.ensures.flat in
-    let el = c.requires.of_lines ∙ ap (λ (x : Shape). map (product row) x.lines) (sym c.self.view_is) in
-    let er = c.requires.of_rays ∙ ap (λ (x : Shape). map (product row) x.rays) (sym c.self.view_is) in
+    let f = subst (λ (z : ConeContent). AreFlat g.equal z c.args.place c.args.of_lines.now c.args.of_rays.now lines rays c.in_ok-flat.flat.saturation) (sym c.self.view_is) c.in_ok-flat.ensures.flat in
+    let el = c.requires.of_lines ∙ ap (λ (x : ConeContent). map (product row) x.lines) (sym c.self.view_is) in
+    let er = c.requires.of_rays ∙ ap (λ (x : ConeContent). map (product row) x.rays) (sym c.self.view_is) in
     let x = flatten_case s g c.args.place f.line c.args.of_lines.now c.args.of_rays.now lines rays k el er c.requires.last f.turned f.are_lines f.are_rays in
-    let w : length row ≡ suc s.dims = c.requires.width ∙ ap (λ (x : Shape). suc x.dims) (sym c.self.view_is) in
+    let w : length row ≡ suc s.dims = c.requires.width ∙ ap (λ (x : ConeContent). suc x.dims) (sym c.self.view_is) in
     let many : c.len-count.result ≡ length rays = grind (arith, common_steps) in
     let few : length rays ≤ row_limit = omega (arith, c.if-count-gt-RAY_LIMIT.false, many) in
     let kinds = c.in_ok-push_copy.ensures.kinds in
     let rows = c.in_ok-push_copy.ensures.rows in
-    let taken = ap (λ (y : List (List ℤ)). given_by is_equality y c.push_copy.new.self.kinds) rows ∙ ap (λ (y : List ConKind). given_by is_equality (i.taken.rows ++ row ∷ []) y) kinds ∙
+    let taken = ap (λ (y : List (List ℤ)). rows_by_kind is_equality y c.push_copy.new.self.kinds) rows ∙ ap (λ (y : List ConKind). rows_by_kind is_equality (i.taken.rows ++ row ∷ []) y) kinds ∙
     constraints_push is_equality i.taken.rows i.taken.kinds row c.args.kind c.self.invariant.2 in (
       cone_again s g lines rays c.push_copy.new.self.dims (constraints c.push_copy.new.self) c.in_ok-push_copy.ensures.dims taken
           (cone_of s g lines rays k (line_met s g lines rays k w x) (line_canonical s g lines rays k x) few),
-      f.is_matrix ∙ line_matrix s g lines rays k x ∙ ap (λ (y : List LinearRow). saturation_of y rays) (sym taken),
+      f.is_matrix ∙ line_matrix s g lines rays k x ∙ ap (λ (y : List LinearRow). cone_saturation y rays) (sym taken),
       grind (arith, common_steps, ap length rows, ap length kinds, c.self.invariant.2),
     )
 
 pub returns-clause-ok : goal.returns-clause-ok
 returns-clause-ok c =
     let i = c.self.inside in
-    let s : Shape = record { dims = i.taken.dims; taken = constraints i.taken; lines = i.lines.items; rays = i.rays.items } in
+    let s : ConeContent = record { dims = i.taken.dims; taken = constraints i.taken; lines = i.lines.items; rays = i.rays.items } in
     let k : IsCone s = c.self.invariant.0 in
     let row = c.args.row.now in
     let g : LinearRow = record { row = row; equal = is_equality c.args.kind } in
     let lines = c.in_ok-flat.flat.lines.items in
     let rays = c.in_ok-flat.flat.rays.items in
-    let f = subst (λ (z : Shape). AreFlat g.equal z c.args.place c.args.of_lines.now c.args.of_rays.now lines rays c.in_ok-flat.flat.saturation) (sym c.self.view_is) c.in_ok-flat.ensures.flat in
-    let el = c.requires.of_lines ∙ ap (λ (x : Shape). map (product row) x.lines) (sym c.self.view_is) in
-    let er = c.requires.of_rays ∙ ap (λ (x : Shape). map (product row) x.rays) (sym c.self.view_is) in
+    let f = subst (λ (z : ConeContent). AreFlat g.equal z c.args.place c.args.of_lines.now c.args.of_rays.now lines rays c.in_ok-flat.flat.saturation) (sym c.self.view_is) c.in_ok-flat.ensures.flat in
+    let el = c.requires.of_lines ∙ ap (λ (x : ConeContent). map (product row) x.lines) (sym c.self.view_is) in
+    let er = c.requires.of_rays ∙ ap (λ (x : ConeContent). map (product row) x.rays) (sym c.self.view_is) in
     let x = flatten_case s g c.args.place f.line c.args.of_lines.now c.args.of_rays.now lines rays k el er c.requires.last f.turned f.are_lines f.are_rays in
-    let w : length row ≡ suc s.dims = c.requires.width ∙ ap (λ (x : Shape). suc x.dims) (sym c.self.view_is) in
+    let w : length row ≡ suc s.dims = c.requires.width ∙ ap (λ (x : ConeContent). suc x.dims) (sym c.self.view_is) in
     let kinds = c.in_ok-push_copy.ensures.kinds in
     let rows = c.in_ok-push_copy.ensures.rows in
-    let taken = ap (λ (y : List (List ℤ)). given_by is_equality y c.push_copy.new.self.kinds) rows ∙ ap (λ (y : List ConKind). given_by is_equality (i.taken.rows ++ row ∷ []) y) kinds ∙
+    let taken = ap (λ (y : List (List ℤ)). rows_by_kind is_equality y c.push_copy.new.self.kinds) rows ∙ ap (λ (y : List ConKind). rows_by_kind is_equality (i.taken.rows ++ row ∷ []) y) kinds ∙
     constraints_push is_equality i.taken.rows i.taken.kinds row c.args.kind c.self.invariant.2 in
-    subst (λ (z : Shape). IsTakenIn z g (record { dims = c.push_copy.new.self.dims; taken = constraints c.push_copy.new.self; lines = lines; rays = rays })) c.self.view_is
+    subst (λ (z : ConeContent). IsTakenIn z g (record { dims = c.push_copy.new.self.dims; taken = constraints c.push_copy.new.self; lines = lines; rays = rays })) c.self.view_is
     (record { dims = c.in_ok-push_copy.ensures.dims; taken = taken; met = line_met s g lines rays k w x })
 
 pub returns-in_err-flat-clause-strained : goal.returns-in_err-flat-clause-strained

@@ -1,9 +1,9 @@
 -- Goals of `Cone::whole`: all vectors of n + 1 columns.
 use Rattle.std.proofs.Common.{arith, sym, ◌∙◌, ap, subst, List, [], ℤ, length}
 use Rattle.lra_linear_spec.specs.Descriptions.{LinearRow}
-use Rattle.lra_sys.specs.Listed.{constraints, given_by}
+use Rattle.lra_systems.specs.LinearSystems.{constraints, rows_by_kind}
 use Rattle.lra_linear_spec.specs.Kinds.{is_equality}
-use Rattle.lra_cone.specs.Cones.{IsCone, saturation_of}
+use Rattle.lra_cone.specs.Cones.{IsCone, cone_saturation}
 use Rattle.lra_cone.proofs.WholeSpace.{columns_start, columns_step, columns_end, whole_cone, whole_made}
 use Rattle.lra_cone.proofs.cone.Cone.whole.Goals as goal
 
@@ -19,9 +19,9 @@ pub invariant_of-result : goal.invariant_of-result
 invariant_of-result c =
     let end = columns_end c.args.n c.loop-column.column c.loop-column.lines.items c.push-2.new.self.items c.in_ok-unit-2.field-0
     (omega (arith, c.loop-column-test.false, c.loop-column.auto.column-end)) c.in_ok-push-2.ensures.items c.in_ok-unit-2.ensures c.loop-column.invariant in
-    let none = ap (λ (r : List (List ℤ)). given_by is_equality r c.new.result.kinds) c.new.ensures.rows in
+    let none = ap (λ (r : List (List ℤ)). rows_by_kind is_equality r c.new.result.kinds) c.new.ensures.rows in
     let made = whole_made c.args.n c.new.result.dims (constraints c.new.result) c.push-2.new.self.items c.new-2.result.items c.new.ensures.dims none end c.new-2.ensures.items in (
       subst IsCone (sym made) (whole_cone c.args.n),
-      c.new-3.ensures ∙ sym (ap (saturation_of (constraints c.new.result)) c.new-2.ensures.items ∙ ap (λ (t : List LinearRow). saturation_of t []) none),
+      c.new-3.ensures ∙ sym (ap (cone_saturation (constraints c.new.result)) c.new-2.ensures.items ∙ ap (λ (t : List LinearRow). cone_saturation t []) none),
       ap length c.new.ensures.rows ∙ sym (ap length c.new.ensures.kinds),
     )

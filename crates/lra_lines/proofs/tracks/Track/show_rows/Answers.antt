@@ -3,7 +3,7 @@ use Rattle.std.proofs.Common.{◌+◌, drop, arith}
 use Rattle.std.proofs.lemmas.List.{drop_all}
 use Rattle.lra_linear_spec.specs.Kinds.{is_equality}
 use Rattle.lra_linear_spec.specs.Descriptions.{LinearRow}
-use Rattle.lra_sys.specs.Listed.{constraints}
+use Rattle.lra_systems.specs.LinearSystems.{constraints}
 use Rattle.lra_certificate.specs.Lines.{in_turn, left_at}
 use Rattle.lra_lines.specs.TrackViews.{row_by}
 use Rattle.lra_lines.proofs.TrackSteps.{constraints_few}

@@ -1,5 +1,5 @@
 use Rattle.std.proofs.Common.{◌≡◌, ◌≤◌, length, drop}
-use Rattle.lra_sys.specs.Listed.{constraints}
+use Rattle.lra_systems.specs.LinearSystems.{constraints}
 use Rattle.lra_certificate.specs.Lines.{in_turn, left_at}
 use Rattle.lra_lines.specs.TrackViews.{row_by}
 use Rattle.lra_lines.proofs.tracks.Track.show_rows.Given as goal

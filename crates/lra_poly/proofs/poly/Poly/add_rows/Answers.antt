@@ -3,7 +3,7 @@ use Rattle.std.proofs.Common.{refl, subst, sym, ◌++◌, inl, inr}
 use Rattle.lra_linear_spec.specs.Descriptions.{Con}
 use Rattle.lra_linear_spec.specs.OperationStrain.{FromRowsStrains}
 use Rattle.lra_linear_spec.specs.Polyhedra.{Polyhedron}
-use Rattle.lra_sys.specs.Listed.{constraints}
+use Rattle.lra_systems.specs.LinearSystems.{constraints}
 use Rattle.lra_poly.specs.Outcomes.{IsOfRows}
 use Rattle.lra_poly.proofs.MetRows.{never, settled_exact, settled_made, settled_old}
 use Rattle.lra_poly.proofs.PolyLemmas.{exactly, exact_inside, made_inside, old_inside, meet_inside, met_exact, stays_flagged}

@@ -1,7 +1,7 @@
 -- Goals of `Poly::empty`: no point, in n dimensions.
 use Rattle.lra_pair.proofs.ConstraintLists.{nothing_is}
 use Rattle.lra_pair.proofs.PairLists.{empty_lists}
-use Rattle.lra_sys.specs.Listed.{constraints}
+use Rattle.lra_systems.specs.LinearSystems.{constraints}
 use Rattle.lra_duality.proofs.PolyhedronLemmas.{falsity_is_empty}
 use Rattle.lra_poly.proofs.poly.Poly.empty.Goals as goal
 

@@ -3,8 +3,8 @@
 use Rattle.std.proofs.Common.{ap, subst, sym}
 use Rattle.lra_linear_spec.specs.Descriptions.{AreGenerators}
 use Rattle.lra_linear_spec.specs.Polyhedra.{IsPolyhedron, Polyhedron}
-use Rattle.lra_sys.specs.Listed.{constraints, generators}
-use Rattle.lra_sys.proofs.Generators.{fitting_are_generators}
+use Rattle.lra_systems.specs.LinearSystems.{constraints, generators}
+use Rattle.lra_systems.proofs.Generators.{fitting_are_generators}
 use Rattle.lra_poly.proofs.PolyLemmas.{some_more}
 use Rattle.lra_pair.proofs.PairLosses.{if_none}
 use Rattle.lra_poly.proofs.UnitedLists.{no_cone, strains_behind}

@@ -2,7 +2,7 @@
 use Rattle.std.proofs.Common.{[]}
 use Rattle.lra_linear_spec.specs.Descriptions.{Con}
 use Rattle.lra_linear_spec.specs.OperationStrain.{FromRowsStrains, with_positivity}
-use Rattle.lra_sys.specs.Listed.{constraints}
+use Rattle.lra_systems.specs.LinearSystems.{constraints}
 use Rattle.lra_poly.proofs.MetRows.{tried_of}
 use Rattle.lra_poly.proofs.PolyLemmas.{becomes_told}
 use Rattle.lra_poly.proofs.poly.Poly.from_rows.Goals as goal

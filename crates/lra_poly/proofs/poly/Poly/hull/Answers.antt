@@ -3,7 +3,7 @@ use Rattle.std.proofs.Common.{◌≡◌, ◌++◌, List, ap, refl, subst}
 use Rattle.lra_linear_spec.specs.Descriptions.{Con, LinearRow}
 use Rattle.lra_linear_spec.specs.OperationStrain.{HullStrains}
 use Rattle.lra_linear_spec.specs.SetOperations.{Union, Hull}
-use Rattle.lra_sys.specs.Listed.{generators}
+use Rattle.lra_systems.specs.LinearSystems.{generators}
 use Rattle.lra_poly.specs.Outcomes.{IfFlagged}
 use Rattle.lra_poly.specs.United.{UnitesAnew}
 use Rattle.lra_poly.proofs.MetRows.{never}

@@ -3,8 +3,8 @@ use Rattle.std.proofs.Common.{◌≡◌, ◌∙◌, ap, length, refl, suc, sym}
 use Rattle.lra_linear_spec.specs.Polyhedra.{Polyhedron}
 use Rattle.lra_linear_spec.specs.Vectors.{negated}
 use Rattle.lra_linear_spec.proofs.Products.{negated_length}
-use Rattle.lra_sys.specs.Listed.{constraints, generators}
-use Rattle.lra_lin.specs.Form.{form_row}
+use Rattle.lra_systems.specs.LinearSystems.{constraints, generators}
+use Rattle.lra_linear_forms.specs.Form.{form_row}
 use Rattle.lra_duality.proofs.GreatestValues.{maximum_tells, starts_with_point}
 use Rattle.lra_poly.proofs.poly.Poly.maximise_opposite.Goals as goal
 

@@ -1,7 +1,7 @@
 -- Goals of `Poly::meet_rows`: the same, where these are taken in after those, by the lists at hand.
 use Rattle.std.proofs.Common.{◌∙◌, ap, sym}
 use Rattle.lra_linear_spec.specs.Polyhedra.{Polyhedron}
-use Rattle.lra_sys.specs.Listed.{constraints, generators}
+use Rattle.lra_systems.specs.LinearSystems.{constraints, generators}
 use Rattle.lra_poly.specs.Narrowed.{IsMetWith}
 use Rattle.lra_poly.proofs.MetRows.{met_anew, met_becomes, met_onward}
 use Rattle.lra_poly.proofs.PolyLemmas.{kept_positive}

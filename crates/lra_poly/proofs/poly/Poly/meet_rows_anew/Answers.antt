@@ -3,7 +3,7 @@ use Rattle.std.proofs.Common.{◌≡◌, ◌++◌, ◌∙◌, ap, List, [], ℕ,
 use Rattle.lra_linear_spec.specs.Descriptions.{LinearRow}
 use Rattle.lra_linear_spec.specs.OperationStrain.{with_positivity}
 use Rattle.lra_linear_spec.specs.Polyhedra.{Polyhedron}
-use Rattle.lra_sys.specs.Listed.{constraints}
+use Rattle.lra_systems.specs.LinearSystems.{constraints}
 use Rattle.lra_poly.specs.Narrowed.{IsTried}
 use Rattle.lra_poly.proofs.poly.Poly.meet_rows_anew.Goals as goal
 

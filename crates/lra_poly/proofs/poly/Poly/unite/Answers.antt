@@ -2,7 +2,7 @@
 use Rattle.std.proofs.Common.{◌++◌}
 use Rattle.lra_linear_spec.specs.Descriptions.{Gen}
 use Rattle.lra_linear_spec.specs.OperationStrain.{FromGeneratorsStrains}
-use Rattle.lra_sys.specs.Listed.{generators}
+use Rattle.lra_systems.specs.LinearSystems.{generators}
 use Rattle.lra_poly.proofs.PolyLemmas.{exactly}
 use Rattle.lra_poly.proofs.UnitedLists.{unites_anew}
 use Rattle.lra_poly.proofs.poly.Poly.unite.Goals as goal

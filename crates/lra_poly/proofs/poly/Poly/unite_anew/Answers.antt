@@ -2,7 +2,7 @@
 use Rattle.std.proofs.Common.{◌≡◌, ◌++◌, ◌∙◌, List, ℕ, ap, refl, subst}
 use Rattle.lra_linear_spec.specs.Descriptions.{LinearRow}
 use Rattle.lra_linear_spec.specs.Polyhedra.{Polyhedron}
-use Rattle.lra_sys.specs.Listed.{generators}
+use Rattle.lra_systems.specs.LinearSystems.{generators}
 use Rattle.lra_poly.specs.Outcomes.{IfFlagged, IsOfGenerators}
 use Rattle.lra_poly.specs.United.{AreTriedPoints}
 use Rattle.lra_poly.proofs.PolyLemmas.{joined_seen}

@@ -1,6 +1,6 @@
 -- Goals of `PolyhedronHead::given_up`: what it becomes where it isn't decided whether next lies in its value.
 use Rattle.lra_linear_spec.specs.Kinds.{is_equality}
-use Rattle.lra_sys.specs.Listed.{constraints}
+use Rattle.lra_systems.specs.LinearSystems.{constraints}
 use Rattle.lra_widen.proofs.WideningLemmas.{seen_columns}
 use Rattle.lra_polydom.specs.Growth.{head}
 use Rattle.lra_polydom.proofs.GrowthLemmas.{grew_wide, wide_lower}

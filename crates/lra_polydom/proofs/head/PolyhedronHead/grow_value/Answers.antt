@@ -1,5 +1,5 @@
 -- Goals of `PolyhedronHead::grown`: what it becomes by next, which isn't in its value.
-use Rattle.lra_sys.specs.Listed.{constraints}
+use Rattle.lra_systems.specs.LinearSystems.{constraints}
 use Rattle.lra_polydom.specs.Growth.{head}
 use Rattle.lra_polydom.proofs.GrowthLemmas.{grew, grew_lower}
 use Rattle.lra_polydom.proofs.head.PolyhedronHead.grow_value.Goals as goal

@@ -3,7 +3,7 @@ use Rattle.std.proofs.Common.{◌≡◌, ◌∙◌, ◌∷◌, ◌++◌, [], Lis
 use Rattle.lra_domain.specs.Parts.{SomePartHolds}
 use Rattle.lra_linear_spec.specs.declared.ConKind.{ConKind}
 use Rattle.lra_polydom.specs.Content.{PolyhedronHas, polyhedron_parts}
-use Rattle.lra_sys.specs.Listed.{Listed}
+use Rattle.lra_systems.specs.LinearSystems.{LinearSystem}
 use Rattle.lra_polydom.proofs.PartLemmas.{no_parts, parts_hold, some_parts}
 use Rattle.lra_polydom.proofs.polyhedron.PolyhedronDomain.parts.Goals as goal
 
@@ -30,6 +30,6 @@ returns-clause-hold c =
     let list = c.rows-rows.result.now in
     let lengths : length list.kinds ≡ length list.rows = ap length (sym c.kinds-kinds.ensures.kinds) ∙ c.kinds-kinds.ensures.len in
     let is = some_parts p c.is_empty.result list c.is_empty.ensures c.if-is_empty.false c.rows-rows.ensures.dims c.rows-rows.ensures.rows lengths in
-    let told : c.push.new.self.items ≡ polyhedron_parts p = c.in_ok-push.ensures.items ∙ ap (λ (l : List (Listed ConKind)). l ++ c.in_ok-copy.field-0 ∷ []) c.new-parts.ensures.items ∙
-    ap (λ (x : Listed ConKind). x ∷ []) c.in_ok-copy.ensures ∙ is in
-    rw (← c.self.view_is) (subst (λ (l : List (Listed ConKind)). (s : List ℤ) → PolyhedronHas p s → SomePartHolds l s) (sym told) (parts_hold p))
+    let told : c.push.new.self.items ≡ polyhedron_parts p = c.in_ok-push.ensures.items ∙ ap (λ (l : List (LinearSystem ConKind)). l ++ c.in_ok-copy.field-0 ∷ []) c.new-parts.ensures.items ∙
+    ap (λ (x : LinearSystem ConKind). x ∷ []) c.in_ok-copy.ensures ∙ is in
+    rw (← c.self.view_is) (subst (λ (l : List (LinearSystem ConKind)). (s : List ℤ) → PolyhedronHas p s → SomePartHolds l s) (sym told) (parts_hold p))

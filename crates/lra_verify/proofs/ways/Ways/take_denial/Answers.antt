@@ -1,7 +1,7 @@
 -- Goals of `take_denial`: the paths from a source to where an assertion is false.
 use Rattle.std.proofs.Common.{Some, length, ap, sym, ◌∙◌, refl, arith}
 use Rattle.std.proofs.lemmas.Option.{slice_get_read}
-use Rattle.lra_sys.specs.Listed.{constraints}
+use Rattle.lra_systems.specs.LinearSystems.{constraints}
 use Rattle.lra_ways.specs.Ways.{denies}
 use Rattle.lra_paths.specs.Sources.{to_goal}
 use Rattle.lra_sides.specs.TableSides.{lists_done}

@@ -1,5 +1,0 @@
-use Rattle.lra_bits.proofs.Turning.{IsPartlyTurned}
-use Rattle.lra_bits.proofs.sat_matrix.SatMatrix.turned.Given as goal
-
-abbrev pub invariant-loop-k : goal.invariant-loop-k
-invariant-loop-k l = IsPartlyTurned l.self l.k l.columns.items

@@ -1,6 +1,0 @@
-use Rattle.std.proofs.Common.{take}
-use Rattle.lra_canon.specs.Echelons.{AreCleared}
-use Rattle.lra_canon.proofs.forms.clear_pivot.Given as goal
-
-abbrev pub invariant-loop-row : goal.invariant-loop-row
-invariant-loop-row l = AreCleared l.line (take l.row-index l.rows) l.out.items

@@ -1,5 +1,0 @@
-use Rattle.lra_bits.proofs.Removal.{IsPartlyKept}
-use Rattle.lra_canon.proofs.redundancy.remove_marked.Given as goal
-
-abbrev pub invariant-loop-k : goal.invariant-loop-k
-invariant-loop-k l = IsPartlyKept l.gone l.fn.rows.items l.rows.items l.kept l.k

@@ -1,5 +1,0 @@
-use Rattle.lra_steps.specs.Pairs.{ArePairs}
-use Rattle.lra_steps.proofs.pairs.adjacent_pairs.Given as goal
-
-abbrev pub invariant-loop-up : goal.invariant-loop-up
-invariant-loop-up l = ArePairs l.products l.saturation.rows l.up 0 l.pairs.items

@@ -1,7 +1,0 @@
-use Rattle.std.proofs.Common.{◌≡◌, ◌≤◌, take}
-use Rattle.lra_linear_spec.specs.Kinds.{is_equality}
-use Rattle.lra_steps.specs.Steps.{inside_count}
-use Rattle.lra_steps.proofs.ray_step.count_inside.Given as goal
-
-abbrev pub invariant-loop-k : goal.invariant-loop-k
-invariant-loop-k l = (l.count ≡ inside_count (is_equality l.kind) (take l.k l.products)) × (l.count ≤ l.k)

@@ -1,6 +1,0 @@
-use Rattle.std.proofs.Common.{◌≡◌, ◌++◌, take}
-use Rattle.lra_steps.specs.Steps.{lengthened_rows}
-use Rattle.lra_steps.proofs.saturation.push_lengthened.Given as goal
-
-abbrev pub invariant-loop-k : goal.invariant-loop-k
-invariant-loop-k l = l.wider ≡ record l.fn.wider { rows = l.fn.wider.rows ++ lengthened_rows (take l.k l.matrix.rows) (take l.k l.last) }

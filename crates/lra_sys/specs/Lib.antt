@@ -1,6 +1,0 @@
--- Lists of constraints and of generators, their comparisons, and membership of a point.
-pub mod Comparisons
-pub mod Dimensions
-pub mod Listed
-pub mod FirstPlaces
-pub mod Membership

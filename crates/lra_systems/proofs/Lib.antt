@@ -1,0 +1,7 @@
+pub mod FirstMembers
+pub mod Places
+pub mod Generators
+pub mod MembershipExamples
+pub mod LinearRows
+pub mod SameLists
+pub mod Popped
