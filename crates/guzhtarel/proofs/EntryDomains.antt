@@ -9,12 +9,12 @@ use Rattle.lra_linear_forms.specs.Form.{form_value}
 use Rattle.lra_linear_spec.specs.Vectors.{entry}
 use Rattle.lra_linear_spec.specs.declared.ConKind.TheVariants.{Ge}
 use Rattle.lra_domain.specs.Actions.{Action, ActionFits, Leads, assign, forget, test, embed, remove_last}
-use Rattle.lra_domain.specs.Laws.{PartsTell}
+use Rattle.lra_domain.specs.Laws.{PartsAreExact}
 use Rattle.lra_domain.specs.Parts.{SomePartHolds}
 use Rattle.lra_domain.specs.Rank.{RankBelow, RankFits}
 use Rattle.guzhtarel.specs.Entries.{AllHave, AllHold, join_each, rows_from, total}
 use Rattle.guzhtarel.specs.EntryDomains.{EachEntry, EntryFacts, Content, entries_after, lies_in, parts_of, one_if, of_entries}
-use Rattle.lra_domain.specs.Unstrained.{Facts, meaning_of}
+use Rattle.lra_domain.specs.ExactDomains.{Facts, abstraction_of}
 use Rattle.guzhtarel.proofs.EntryChanges.{have_length, have_all, have_set, have_append, have_take, have_within, each_covers, join_left, join_right, sum_most, sum_less, sum_falls}
 use Rattle.guzhtarel.proofs.RowValues.{rows_hold, hold_append}
 
@@ -55,14 +55,14 @@ partless p false es e none = cc
 pub facts_of : {E : Type 0} (p : EachEntry E) → EntryFacts p → Facts (of_entries p)
 facts_of p f = record {
   sized = λ v s h. have_length p.has v.entries s h.1;
-  whole_dims = λ n. length-replicate n p.whole;
-  whole_stores = λ n s long. (refl, have_all p.has p.whole f.whole_has n s long);
-  void_dims = λ n. length-replicate n p.void;
-  void_stores = λ n s h. cc;
+  top_dims = λ n. length-replicate n p.whole;
+  top_stores = λ n s long. (refl, have_all p.has p.whole f.whole_has n s long);
+  bottom_dims = λ n. length-replicate n p.void;
+  bottom_stores = λ n s h. cc;
   one_part = λ v. one_part p v.nothing v.entries;
   partless = λ v e s h. partless p v.nothing v.entries e h.0;
   reflexive = λ v. both_true (or-not_self v.nothing) (each_covers p.covered f.reflexive v.entries);
-  covered_stores = λ a b t s h. covers p f a.nothing b.nothing a.entries b.entries t s h;
+  leq_stores = λ a b t s h. covers p f a.nothing b.nothing a.entries b.entries t s h;
   moved = λ step v s t fits h l. (h.0, moved p f step v.entries s t fits h.1 l);
   left = λ a b e. both_true (in_both a.nothing b.nothing) (join_left p.covered p.join f.left a.entries b.entries e);
   right = λ a b e. both_true (in_both_too a.nothing b.nothing) (join_right p.covered p.join f.right a.entries b.entries e);
@@ -76,7 +76,7 @@ one_most : (m : Bool) → one_if m ≤ 1
 one_most true = omega arith
 one_most false = omega arith
 
-pub rank_fits : {E : Type 0} (p : EachEntry E) → EntryFacts p → (v : Content E) → length v.entries ≤ 2 ^ 30 → RankFits ((meaning_of (of_entries p)).rank v)
+pub rank_fits : {E : Type 0} (p : EachEntry E) → EntryFacts p → (v : Content E) → length v.entries ≤ 2 ^ 30 → RankFits ((abstraction_of (of_entries p)).rank v)
 rank_fits p f v few = record {
   fits_first = omega arith;
   fits_second = omega arith;
@@ -92,7 +92,7 @@ number_falls p f true true es ds e miss = let h = sum_falls p.number p.covered p
 number_falls p f true false es ds e miss = let h = sum_less p.number p.join f.less es ds in omega (arith, h)
 
 pub rank_falls : {E : Type 0} (p : EachEntry E) → EntryFacts p → (old next new : Content E) → length old.entries ≡ length next.entries → lies_in p next old ≡ false
-    → new ≡ (of_entries p).joined old next → RankBelow ((meaning_of (of_entries p)).rank new) ((meaning_of (of_entries p)).rank old)
+    → new ≡ (of_entries p).joined old next → RankBelow ((abstraction_of (of_entries p)).rank new) ((abstraction_of (of_entries p)).rank old)
 rank_falls p f old next new e miss is = rw is (inr (inr (inr (refl, refl, refl, number_falls p f old.nothing next.nothing old.entries next.entries e miss))))
 
 -- ---- rows
@@ -135,11 +135,11 @@ parts_mean_of p f false es s l =
     let g = from_column p f (length es) 1 es s (pos 1 ∷ s) (omega arith) l refl (λ j. subst (λ c. entry (pos 1 ∷ s) c ≡ entry s j) (one_more j) refl) in
     (λ h. inl (c.1 (g.1 h.1)), λ h. (refl, g.0 (c.0 (only h))))
 
-pub parts_mean : {E : Type 0} (p : EachEntry E) → EntryFacts p → (v : Content E) (s : List ℤ) → length s ≡ length v.entries → (of_entries p).has v s ↔ SomePartHolds ((of_entries p).parts v) s
+pub parts_mean : {E : Type 0} (p : EachEntry E) → EntryFacts p → (v : Content E) (s : List ℤ) → length s ≡ length v.entries → (of_entries p).gamma v s ↔ SomePartHolds ((of_entries p).parts v) s
 parts_mean p f v s l = parts_mean_of p f v.nothing v.entries s l
 
-pub parts_hold : {E : Type 0} (p : EachEntry E) → EntryFacts p → (v : Content E) (s : List ℤ) → (of_entries p).has v s → SomePartHolds ((of_entries p).parts v) s
+pub parts_hold : {E : Type 0} (p : EachEntry E) → EntryFacts p → (v : Content E) (s : List ℤ) → (of_entries p).gamma v s → SomePartHolds ((of_entries p).parts v) s
 parts_hold p f v s h = (parts_mean p f v s (have_length p.has v.entries s h.1)).0 h
 
-pub parts_tell : {E : Type 0} (p : EachEntry E) → EntryFacts p → (v : Content E) → PartsTell (meaning_of (of_entries p)) v
+pub parts_tell : {E : Type 0} (p : EachEntry E) → EntryFacts p → (v : Content E) → PartsAreExact (abstraction_of (of_entries p)) v
 parts_tell p f v = λ s l h. (parts_mean p f v s l).1 h

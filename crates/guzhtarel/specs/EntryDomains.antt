@@ -12,7 +12,7 @@ use Rattle.lra_linear_spec.specs.declared.ConKind.TheVariants.{Ge}
 use Rattle.lra_systems.specs.LinearSystems.{LinearSystem}
 use Rattle.lra_domain.specs.Actions.{Action, assign, forget, test, embed, remove_last}
 use Rattle.guzhtarel.specs.Entries.{AllHave, AllHold, join_each, rows_from, total}
-use Rattle.lra_domain.specs.Unstrained.{Unstrained}
+use Rattle.lra_domain.specs.ExactDomains.{ExactDomain}
 
 -- of an entry: which numbers it has, which other covers it, the join of two, the one that has all numbers, the one that
 -- stands in a value without a store, a number that falls, and its rows of n + 1 columns, of inequalities on a column;
@@ -74,15 +74,15 @@ abbrev pub one_if : Bool → ℕ
 one_if false = 0
 one_if true = 1
 
-abbrev pub of_entries : {E : Type 0} → EachEntry E → Unstrained (Content E)
+abbrev pub of_entries : {E : Type 0} → EachEntry E → ExactDomain (Content E)
 of_entries p = record {
-  has = λ v s. (v.nothing ≡ false) × AllHave p.has v.entries s;
+  gamma = λ v s. (v.nothing ≡ false) × AllHave p.has v.entries s;
   dims = λ v. length v.entries;
   parts = λ v. parts_of p v.nothing v.entries;
-  covered = λ a b. IsTrue (lies_in p a b);
-  whole = λ n. record { nothing = false; entries = replicate n p.whole };
-  void = λ n. record { nothing = true; entries = replicate n p.void };
-  after = λ step v. record v { entries = entries_after p step v.entries };
+  leq = λ a b. IsTrue (lies_in p a b);
+  top = λ n. record { nothing = false; entries = replicate n p.whole };
+  bottom = λ n. record { nothing = true; entries = replicate n p.void };
+  transfer = λ step v. record v { entries = entries_after p step v.entries };
   joined = λ a b. record { nothing = a.nothing && b.nothing; entries = join_each p.join a.entries b.entries };
   number = λ v. one_if v.nothing + total p.number v.entries;
 }

@@ -12,8 +12,8 @@ pub use lra_box as boxes;
 pub use lra_box::Boxes;
 pub use lra_domain as domain;
 pub use lra_domain::{
-    Backward, Change, Domain, Exactness, Grown, Included, Mode, Plain, Rank, Told, change_all,
-    worse,
+    Backward, BaseDomain, Change, Domain, ExactParts, Exactness, Grown, Included, Mode, Rank,
+    change_all, worse,
 };
 pub use lra_duality::{Inclusion, Maximum};
 pub use lra_images as images;
@@ -22,20 +22,20 @@ pub use lra_linear_forms as forms;
 pub use lra_linear_forms::{LinExpr, Test};
 pub use lra_maps as maps;
 pub use lra_maps::{embed, remove_last, time_elapse};
-pub use lra_oct as octagons;
-pub use lra_oct::Octagon;
+pub use lra_octagon as octagons;
+pub use lra_octagon::Octagon;
 pub use lra_poly as poly;
 pub use lra_poly::{Outcome, Poly};
 pub use lra_polydom as polyhedra;
 pub use lra_polydom::Polyhedron;
+pub use lra_powerset as sets;
+pub use lra_powerset::PowerSet;
 pub use lra_queries as queries;
 pub use lra_queries::{
     Extent, Fraction, Minimum, Relation, least_box, minimise, polyhedra_of, relate, simplify,
 };
 pub use lra_row as numbers;
 pub use lra_row::{Row, RowError};
-pub use lra_set as sets;
-pub use lra_set::PowerSet;
 pub use lra_show as texts;
 pub use lra_show::{Names, generator_text, generators_text, row_text, system_text, value_text};
 pub use lra_systems as lists;

@@ -10,10 +10,10 @@ use Rattle.lra_linear_spec.proofs.Membership.{contains_head, contains_tail}
 use Rattle.lra_systems.specs.LinearSystems.{LinearSystem}
 use Rattle.lra_linear_spec.specs.declared.ConKind.{ConKind}
 use Rattle.lra_domain.specs.Actions.{Within}
-use Rattle.lra_domain.specs.Meaning.{Meaning}
+use Rattle.lra_domain.specs.Abstraction.{Abstraction}
 use Rattle.lra_domain.specs.Laws.{Laws}
 use Rattle.lra_domain.specs.declared.Exactness.{Exactness}
-use Rattle.lra_others.specs.Others.{Others, Many, none}
+use Rattle.lra_interference.specs.Interference.{Interference, RelyClosure, none}
 use Rattle.lra_program.specs.Program.{Expr, Cond}
 use Rattle.lra_program.specs.Step.{State, Op, run_op, test}
 use Rattle.lra_program.specs.Trails.{Trail}
@@ -97,7 +97,7 @@ module _ {A : Type 0} (name : ℕ → A) (may : State → State → Type 0) wher
 
 -- what a part of a pass has, the whole has ------------------------------------------------------------------------------
 
-module _ {V H : Type 0} (m : Meaning V H) (may : State → State → Type 0) (n : ℕ) where
+module _ {V H : Type 0} (m : Abstraction V H) (may : State → State → Type 0) (n : ℕ) where
   owed_left : (x y : Result V) (v : V) (f : Option ℕ) (i : Moment) (s : State) → Owes m may n x i s → Owes m may n (in_turn x y v f) i s
   owed_left x y v f (stop (by_jump k)) s o = (o.0, left_jump k x y v f o.0 o.1, o.2)
   owed_left x y v f (stop (to_point p)) s o = λ t l. let r = o t l in (r.0, Contains-append_left x.entries y.entries (value p r.0) r.1, r.2)
@@ -139,8 +139,8 @@ module _ {V H : Type 0} (m : Meaning V H) (may : State → State → Type 0) (n 
 
 -- the pass ------------------------------------------------------------------------------------------------------------
 
-module _ {A V H : Type 0} (name : ℕ → A) (may : State → State → Type 0) (n : ℕ) (o : Others V) (m : Meaning V H) (laws : Laws m)
-    (changes : (s t : State) → may s t → Many o.may s.store t.store) (set : Plan) where
+module _ {A V H : Type 0} (name : ℕ → A) (may : State → State → Type 0) (n : ℕ) (o : Interference V) (m : Abstraction V H) (laws : Laws m)
+    (changes : (s t : State) → may s t → RelyClosure o.rely s.store t.store) (set : Plan) where
   abbrev Passed : Node → Through V
   Passed g = PassAmong V H (dropping m) (admitted o m) set g
 
@@ -465,6 +465,6 @@ module _ {A V H : Type 0} (name : ℕ → A) (may : State → State → Type 0) 
           ];
         })
 
-pub passes_cover : {V H : Type 0} (o : Others V) (m : Meaning V H) → Laws m → PassesCoverAmong o m
+pub passes_cover : {V H : Type 0} (o : Interference V) (m : Abstraction V H) → Laws m → PassesCoverAmong o m
 passes_cover {V} {H} o m laws set n g f v r pass a h =
-    covers_among (λ q. q) (MayBecome o.may) n o m laws (λ s t l. l.store) set g f v r pass a h
+    covers_among (λ q. q) (MayBecome o.rely) n o m laws (λ s t l. l.store) set g f v r pass a h

@@ -2,8 +2,8 @@
 use Rattle.std.specs.Prelude.{◌≡◌, ◌<◌, ℕ, ℤ, List, Option, Bool}
 use Rattle.std.specs.List.{Contains}
 use Rattle.lra_base.specs.declared.case_labels.CaseLabel.{CaseLabel}
-use Rattle.lra_domain.specs.Meaning.{Meaning}
-use Rattle.lra_others.specs.Others.{Others, Many}
+use Rattle.lra_domain.specs.Abstraction.{Abstraction}
+use Rattle.lra_interference.specs.Interference.{Interference, RelyClosure}
 use Rattle.lra_program.specs.Step.{State}
 use Rattle.lra_program.specs.Trails.{Trail}
 use Rattle.lra_operations.specs.Graph.{Node, Arms}
@@ -16,7 +16,7 @@ use Rattle.lra_flow.proofs.Covers.{Has, SomeHas}
 
 -- what others may do to a run's state: any number of changes of its store, and anything to what arrays hold
 pub record MayBecome (may : List ℤ → List ℤ → Type 0) (s t : State) : Type 0 where
-  pub store : Many may s.store t.store
+  pub store : RelyClosure may s.store t.store
   pub waiting : t.waiting ≡ s.waiting
   pub draws : t.draws ≡ s.draws
 
@@ -34,7 +34,7 @@ module _ {A : Type 0} (name : ℕ → A) (may : State → State → Type 0) wher
   ArmsHappen l met arms a (stop z) b = ArmsGo name may l met arms a (stopped z) b
   ArmsHappen l met arms a (gift p x) b = ArmsGive name may l met arms a p x b
 
-module _ {V H : Type 0} (m : Meaning V H) (may : State → State → Type 0) (n : ℕ) where
+module _ {V H : Type 0} (m : Abstraction V H) (may : State → State → Type 0) (n : ℕ) where
   -- what the result has of this state: at a point whatever becomes of it there; what the first n variables get is noted
   abbrev pub Owes : Result V → Moment → State → Type 0
   Owes r (stop (by_jump k)) s = SomeHas m (jumps_of k r) s.store
@@ -42,7 +42,7 @@ module _ {V H : Type 0} (m : Meaning V H) (may : State → State → Type 0) (n 
   Owes r (stop (to_failure p)) s = (w : V) × (t : State) × Contains r.entries (failing p w) × Has m w t.store
   Owes r (gift p x) s = x < n → (w : V) × Contains r.entries (given p x w) × Has m w s.store
 
-module _ {A V H : Type 0} (name : ℕ → A) (may : State → State → Type 0) (n : ℕ) (m : Meaning V H) where
+module _ {A V H : Type 0} (name : ℕ → A) (may : State → State → Type 0) (n : ℕ) (m : Abstraction V H) where
   pub record CoversAmong (g : Node) (a : Trail A) (r : Result V) : Type 0 where
     pub ends : (b : Trail A) → Goes name may g a to_end b → Has m r.normal b.state.store
     pub finds : (i : Moment) (b : Trail A) → Happens name may g a i b → Owes m may n r i b.state
@@ -59,7 +59,7 @@ module _ {A V H : Type 0} (name : ℕ → A) (may : State → State → Type 0) 
 
 -- a pass among others over a tree with their places in it, from a store of its value: each run of the tree among them;
 -- what the first n variables get is noted
-abbrev pub PassesCoverAmong : {V H : Type 0} → Others V → Meaning V H → Type 0
+abbrev pub PassesCoverAmong : {V H : Type 0} → Interference V → Abstraction V H → Type 0
 PassesCoverAmong {V} o m = (set : Plan) (n : ℕ) (g : Node) (f : Option ℕ) (v : V) (r : Result V)
     → DerivedPass o m set (opened n g) f v r → (a : Trail ℕ) → Has m v a.state.store
-    → CoversAmong (λ q. q) (MayBecome o.may) n m g a r
+    → CoversAmong (λ q. q) (MayBecome o.rely) n m g a r

@@ -3,11 +3,11 @@
 ghost use Rattle.lra_among.specs.CoversAmong.{PassesCoverAmong};
 
 use lra_domain::Domain;
-use lra_others::Disturb;
+use lra_interference::Interfere;
 
 /// A pass among others over a tree with their places in it has, from a value's stores, the stores of all runs of the
 /// tree among these others: behind it, at its jumps and points, where an assertion fails, and where a variable gets a
 /// value.
-pub fn passes_cover_among<D: Domain, F: Disturb<D>>()
-    ensures { (others : F) → PassesCoverAmong (F.others others) D.meaning }
+pub fn passes_cover_among<D: Domain, F: Interfere<D>>()
+    ensures { (others : F) → PassesCoverAmong (F.interference others) D.abstraction }
 {}

@@ -4,9 +4,9 @@ use Rattle.std.proofs.Common.{length, Option, None, Some, Bool, true, Contains, 
 use Rattle.std.proofs.Common.{refl, sym, ap, subst, ◌∙◌, arith, slice_get}
 use Rattle.std.proofs.lemmas.Option.{none-some}
 use Rattle.lra_domain.specs.Actions.{Action}
-use Rattle.lra_domain.specs.Changes.{AllCanBeMade, dims_behind}
-use Rattle.lra_domain.specs.Meaning.{Meaning}
-use Rattle.lra_domain.specs.Backward.{Retracing}
+use Rattle.lra_domain.specs.Changes.{AllCanBeMade, dims_after_actions}
+use Rattle.lra_domain.specs.Abstraction.{Abstraction}
+use Rattle.lra_domain.specs.Backward.{BackwardAbstraction}
 use Rattle.lra_domain.specs.declared.Exactness.{Exactness}
 use Rattle.lra_program.specs.Program.{Cond}
 use Rattle.lra_program.specs.declared.program.GlobalVariable.{GlobalVariable}
@@ -49,7 +49,7 @@ there_within (x ∷ xs) zero inside = (x, refl)
 there_within (x ∷ xs) (suc i) inside = there_within xs i (omega arith)
 
 -- paths that lead from the dimensions of the one to those of the head
-pub heads_fit : {V H : Type 0} (m : Meaning V H) (t : Task V) (p : ℕ) (s : Source) (x : V) (heads : List H) → IsTask m t → AreHeads m t.forward.now heads
+pub heads_fit : {V H : Type 0} (m : Abstraction V H) (t : Task V) (p : ℕ) (s : Source) (x : V) (heads : List H) → IsTask m t → AreHeads m t.forward.now heads
     → slice_get t.sources.items p ≡ Some s → slice_get t.forward.now p ≡ Some x → FitHeads m s (m.dims x) heads
 heads_fit m t p s x heads task are at there q h is path contains =
     let y = also_there heads t.forward.now q h (sym are.count) is in
@@ -57,7 +57,7 @@ heads_fit m t p s x heads task are at there q h is path contains =
     (fits.0, fits.1, fits.2 ∙ sym (are.dims q h y.0 is y.1))
 
 -- the seed has the dimensions of the assertion's forward value
-pub seed_has : {V H : Type 0} (m : Meaning V H) (t : Task V) (p : ℕ) (x : V) → IsTask m t → slice_get t.forward.now p ≡ Some x → p ≡ t.assertion
+pub seed_has : {V H : Type 0} (m : Abstraction V H) (t : Task V) (p : ℕ) (x : V) → IsTask m t → slice_get t.forward.now p ≡ Some x → p ≡ t.assertion
     → m.dims t.seed ≡ m.dims x
 seed_has m t p x task at here = task.seed x (subst (λ q. slice_get t.forward.now q ≡ Some x) here at)
 
@@ -79,7 +79,7 @@ is_source_of globals sites g p q s few inside is table leads =
 
 -- tasks ----------------------------------------------------------------------------------------------------------------
 
-module _ {V H : Type 0} (m : Meaning V H) (globals : List GlobalVariable) (sites : List Site) (ways : List Stretch) (p : ℕ) (tree : Node) (t : Task V) where
+module _ {V H : Type 0} (m : Abstraction V H) (globals : List GlobalVariable) (sites : List Site) (ways : List Stretch) (p : ℕ) (tree : Node) (t : Task V) where
   pub is_task : BackNeeds m globals sites ways t.forward.now p tree → AreSources globals sites tree t.sources.items
       → ((x : V) → slice_get t.forward.now t.assertion ≡ Some x → m.dims t.seed ≡ m.dims x) → IsTask m t
   is_task needs sources seed = record {
@@ -98,7 +98,7 @@ module _ {V H : Type 0} (m : Meaning V H) (globals : List GlobalVariable) (sites
         let fits = needs.fit q r from.0 to.0 path from.1 to.1 (subst (λ (xs : List (List Action)). Contains xs path) (source.leads r) contains) in (
           few_enough (m.dims x) from.0.live wide.0 wide.1,
           subst (λ n. AllCanBeMade path n) (sym wide.0) fits.0,
-          ap (dims_behind path) wide.0 ∙ fits.1 ∙ sym behind.0,
+          ap (dims_after_actions path) wide.0 ∙ fits.1 ∙ sym behind.0,
         );
     seed = seed;
   } where
@@ -107,7 +107,8 @@ module _ {V H : Type 0} (m : Meaning V H) (globals : List GlobalVariable) (sites
 
 -- what is given ----------------------------------------------------------------------------------------------------------
 
-module _ {V H : Type 0} (m : Meaning V H) (b : Retracing V) (globals : List GlobalVariable) (sites : List Site) (ways : List Stretch) (p : ℕ) (tree : Node)
+module _ {V H : Type 0} (m : Abstraction V H) (b : BackwardAbstraction V) (globals : List GlobalVariable) (sites : List Site) (ways : List Stretch) (p : ℕ)
+    (tree : Node)
     (t : Task V) where
   pub rounds_of : BackNeeds m globals sites ways t.forward.now p tree → AreSources globals sites tree t.sources.items → (n : ℕ) → n ≡ length t.forward.now
       → t.assertion ≡ p → (f : Option ℕ) (heads : List H) (g : Option ℕ) (last : List H) → Rounds (dropping m b) (task_view t) n f heads g last
@@ -161,7 +162,7 @@ asserted_found g p sites asserted asserts found are =
 -- what is left at the start --------------------------------------------------------------------------------------------
 
 -- of points before this number, to which paths lead from the start, nothing is left
-abbrev pub IsNothingBefore : {V H : Type 0} → Meaning V H → List GlobalVariable → List Site → Node → List V → ℕ → Type 0
+abbrev pub IsNothingBefore : {V H : Type 0} → Abstraction V H → List GlobalVariable → List Site → Node → List V → ℕ → Type 0
 IsNothingBefore {V} m globals sites g values i =
     (q : ℕ) (v : V) → q < i → slice_get values q ≡ Some v → leading_in globals sites g 0 (comes_to q) ≢ [] → IsUnreachable m v
 
@@ -175,14 +176,15 @@ pub asserts_is : (sites : List Site) (p : ℕ) → asserts_at sites p ≡ true �
 asserts_is sites p is = asserts_found sites p (slice_get sites p) refl is
 
 -- of the same globals and sites under other names
-module _ {V H : Type 0} (m : Meaning V H) (globals others : List GlobalVariable) (sites points : List Site) (tree : Node) where
+module _ {V H : Type 0} (m : Abstraction V H) (globals others : List GlobalVariable) (sites points : List Site) (tree : Node) where
   pub needs_over : others ≡ globals → points ≡ sites → (ways : List Stretch) (forward : List V) (p : ℕ)
       → BackNeeds m globals sites ways forward p tree → BackNeeds m others points ways forward p tree
   needs_over one two ways forward p needs =
       subst (λ (g : List GlobalVariable). BackNeeds m g points ways forward p tree) (sym one)
       (subst (λ (s : List Site). BackNeeds m globals s ways forward p tree) (sym two) needs)
 
-  pub backs_over : (b : Retracing V) → others ≡ globals → points ≡ sites → (forward : List V) (f : Option ℕ) (p : ℕ) (values : List V) (flag : Option ℕ)
+  pub backs_over : (b : BackwardAbstraction V) → others ≡ globals → points ≡ sites →
+      (forward : List V) (f : Option ℕ) (p : ℕ) (values : List V) (flag : Option ℕ)
       → Backs (dropping m b) others points tree forward f p values flag → Backs (dropping m b) globals sites tree forward f p values flag
   backs_over b one two forward f p values flag backs =
       subst (λ (g : List GlobalVariable). Backs (dropping m b) g sites tree forward f p values flag) one

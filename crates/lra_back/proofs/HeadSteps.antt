@@ -4,7 +4,7 @@ use Rattle.std.proofs.Common.{refl, sym, ap, subst, ◌∙◌, arith, slice_get,
 use Rattle.std.proofs.Math.Seq.{take-suc}
 use Rattle.std.proofs.lemmas.List.{take_all}
 use Rattle.std.proofs.lemmas.Option.{slice_get_within, get_or_from_slice_get, none-some}
-use Rattle.lra_domain.specs.Meaning.{Meaning}
+use Rattle.lra_domain.specs.Abstraction.{Abstraction}
 use Rattle.lra_domain.specs.Rank.{RankFits}
 use Rattle.lra_back.specs.Operations.{BackOperations}
 use Rattle.lra_back.specs.Rounds.{AreStarted, no_rows}
@@ -15,7 +15,7 @@ take_at xs j x at = take-suc xs j x (slice_get_within xs j x at) ∙ ap (λ y. t
 
 -- how they start -----------------------------------------------------------------------------------------------------
 
-module _ {V H : Type 0} (ops : BackOperations V H) (m : Meaning V H) where
+module _ {V H : Type 0} (ops : BackOperations V H) (m : Abstraction V H) where
   -- the head starts with an empty value of so many dimensions, and has them
   pub record IsFirst (n : ℕ) (h : H) : Type 0 where
     pub nothing : V
@@ -116,7 +116,7 @@ set_cases P (z ∷ xs) (suc p) x inside here all zero y at = all 0 y at
 set_cases P (z ∷ xs) (suc p) x inside here all (suc q) y at =
     set_cases (λ r a. P (suc r) a) xs p x (omega arith) here (λ r a there. all (suc r) a there) q y at
 
-module _ {V H : Type 0} (m : Meaning V H) (forward : List V) where
+module _ {V H : Type 0} (m : Abstraction V H) (forward : List V) where
   pub heads_set : (heads : List H) (p : ℕ) (h k : H) → AreHeads m forward heads → slice_get heads p ≡ Some h → m.head_dims k ≡ m.head_dims h
       → RankFits (m.rank k) → AreHeads m forward (slice_set heads p k)
   heads_set heads p h k are at same fits =

@@ -5,8 +5,8 @@ use Rattle.std.proofs.Math.Seq.{drop-cons}
 use Rattle.std.proofs.lemmas.List.{length-map}
 use Rattle.std.proofs.lemmas.Option.{slice_get_within, slice_get_read, slice_get-map, get_or_from_slice_get, none-some}
 use Rattle.lra_domain.specs.Actions.{Action, assign, forget, test, embed, remove_last, dims_after}
-use Rattle.lra_domain.specs.Changes.{AllCanBeMade, CanBeMade, dims_behind}
-use Rattle.lra_domain.specs.Meaning.{worse}
+use Rattle.lra_domain.specs.Changes.{AllCanBeMade, CanBeMade, dims_after_actions}
+use Rattle.lra_domain.specs.Abstraction.{worse}
 use Rattle.lra_domain.specs.declared.Exactness.{Exactness}
 use Rattle.lra_flow.proofs.Keeping.{some_is}
 use Rattle.lra_flow.proofs.Takes.{worse_worse}
@@ -33,7 +33,7 @@ record IsAlong (step : Action) (n m : ℕ) : Type 0 where
   pub after : m ≡ dims_after step n
 
 along : (path : List Action) (n j : ℕ) (step : Action) → slice_get path j ≡ Some step → n ≤ 2 ^ 30 → AllCanBeMade path n
-    → IsAlong step (dims_behind (take j path) n) (dims_behind (take (suc j) path) n)
+    → IsAlong step (dims_after_actions (take j path) n) (dims_after_actions (take (suc j) path) n)
 along [] n j step at few can = absurd (none-some step at)
 along (s ∷ path) n zero step at few can =
     let same : s ≡ step = cc in
@@ -50,23 +50,23 @@ turned_back (remove_last k) n can few = (omega arith, omega arith)
 
 -- the change at the place can be gone back over
 pub undo_fits : (path : List Action) (n behind j : ℕ) (step : Action) (d : ℕ) → slice_get path j ≡ Some step → Fits path n behind
-    → d ≡ dims_behind (take (suc j) path) n → CanBeMade (reversed step) d
+    → d ≡ dims_after_actions (take (suc j) path) n → CanBeMade (reversed step) d
 undo_fits path n behind j step d at fits here =
     let a = along path n j step at fits.0 fits.1 in
-    subst (λ k. CanBeMade (reversed step) k) (sym (here ∙ a.after)) (turned_back step (dims_behind (take j path) n) a.can a.few).0
+    subst (λ k. CanBeMade (reversed step) k) (sym (here ∙ a.after)) (turned_back step (dims_after_actions (take j path) n) a.can a.few).0
 
 pub undo_dims : (path : List Action) (n behind j : ℕ) (step : Action) (d e : ℕ) → slice_get path j ≡ Some step → Fits path n behind
-    → d ≡ dims_behind (take (suc j) path) n → e ≡ dims_after (reversed step) d → e ≡ dims_behind (take j path) n
+    → d ≡ dims_after_actions (take (suc j) path) n → e ≡ dims_after (reversed step) d → e ≡ dims_after_actions (take j path) n
 undo_dims path n behind j step d e at fits here made =
     let a = along path n j step at fits.0 fits.1 in
-    made ∙ ap (dims_after (reversed step)) (here ∙ a.after) ∙ (turned_back step (dims_behind (take j path) n) a.can a.few).1
+    made ∙ ap (dims_after (reversed step)) (here ∙ a.after) ∙ (turned_back step (dims_after_actions (take j path) n) a.can a.few).1
 
 -- the changes from a place on ----------------------------------------------------------------------------------------
 
 -- gone over from this place on
 pub record IsOverFrom {V H : Type 0} (ops : BackOperations V H) (dims : V → ℕ) (path : List Action) (n j : ℕ) (v : V) (e : Exactness) (w : V) : Type 0 where
   pub over : GoesOver ops (drop j path) v e w
-  pub has : dims w ≡ dims_behind (take j path) n
+  pub has : dims w ≡ dims_after_actions (take j path) n
 
 module _ {V H : Type 0} (ops : BackOperations V H) (dims : V → ℕ) (path : List Action) (n : ℕ) (v : V) where
   pub over_one : (behind i j : ℕ) (step : Action) (u : V) (c d : Exactness) (w : V) → i ≡ suc j → slice_get path j ≡ Some step → Fits path n behind

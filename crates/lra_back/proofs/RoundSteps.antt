@@ -2,7 +2,7 @@
 use Rattle.std.proofs.Common.{◌≡◌, ◌≢◌, ◌≤◌, ◌<◌, ℕ, zero, suc, List, Option, Bool, true, false, ◌&&◌, inl, inr}
 use Rattle.std.proofs.Common.{refl, sym, ap, subst, ◌∙◌, arith, slice_set}
 use Rattle.lra_domain.specs.Actions.{Action}
-use Rattle.lra_domain.specs.Meaning.{Meaning}
+use Rattle.lra_domain.specs.Abstraction.{Abstraction}
 use Rattle.lra_domain.specs.declared.Mode.{Mode}
 use Rattle.lra_domain.specs.declared.Mode.TheVariants.{Join, Widen}
 use Rattle.lra_back.specs.Operations.{BackOperations}
@@ -60,7 +60,7 @@ module _ {V H : Type 0} (ops : BackOperations V H) (task : Task V) where
 -- ranks ----------------------------------------------------------------------------------------------------------------
 
 -- where nothing joins, the ranks don't rise, and fall where something grew
-abbrev pub RanksFall : {V H : Type 0} → Meaning V H → Mode → List H → List H → Bool → Type 0
+abbrev pub RanksFall : {V H : Type 0} → Abstraction V H → Mode → List H → List H → Bool → Type 0
 RanksFall m mode before now stable = mode ≢ Join → (ranks_of m now ≤ ranks_of m before) × (stable ≡ false → ranks_of m now < ranks_of m before)
 
 le_then : (a b c : ℕ) → a ≤ b → b ≤ c → a ≤ c
@@ -72,7 +72,7 @@ le_then_lt a b c one two = omega arith
 lt_then_le : (a b c : ℕ) → a < b → b ≤ c → a < c
 lt_then_le a b c one two = omega arith
 
-pub ranks_next : {V H : Type 0} (m : Meaning V H) (mode : Mode) (first before now : List H) (all own both : Bool) → RanksFall m mode first before all
+pub ranks_next : {V H : Type 0} (m : Abstraction V H) (mode : Mode) (first before now : List H) (all own both : Bool) → RanksFall m mode first before all
     → RanksFall m mode before now own → both ≡ (all && own) → RanksFall m mode first now both
 ranks_next m mode first before now true own both one two is widens =
     let a = one widens in

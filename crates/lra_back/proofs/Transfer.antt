@@ -1,8 +1,8 @@
 -- What is found with drops says of what is defined: without a flag it is that, and what is flagged first strains there.
 use Rattle.std.proofs.Common.{◌≡◌, ℕ, List, Option, None}
-use Rattle.lra_domain.specs.Backward.{Retracing}
+use Rattle.lra_domain.specs.Backward.{BackwardAbstraction}
 use Rattle.lra_domain.specs.Laws.{Laws}
-use Rattle.lra_domain.specs.Meaning.{Meaning}
+use Rattle.lra_domain.specs.Abstraction.{Abstraction}
 use Rattle.lra_domain.specs.declared.Exactness.TheVariants.{Exact}
 use Rattle.lra_program.specs.declared.program.GlobalVariable.{GlobalVariable}
 use Rattle.lra_program.specs.Sites.{Site}
@@ -12,21 +12,22 @@ use Rattle.lra_back.specs.Operations.{defined, dropping, straining}
 use Rattle.lra_back.specs.Traced.{Backs, IsTraced}
 use Rattle.lra_back.proofs.Moved.{TransfersBack, backs}
 
-exact_back : {V H : Type 0} (m : Meaning V H) (b : Retracing V) → Laws m → TransfersBack (λ e. e ≡ Exact) (dropping m b) (defined m b)
+exact_back : {V H : Type 0} (m : Abstraction V H) (b : BackwardAbstraction V) → Laws m → TransfersBack (λ e. e ≡ Exact) (dropping m b) (defined m b)
 exact_back m b laws = record {
   forward = exact_ones m laws;
   undone = λ step v e w k h. (k, h.0.exact k);
   met = λ u v e w k h. (k, h.0.exact k);
 }
 
-strained_back : {V H : Type 0} (m : Meaning V H) (b : Retracing V) → Laws m → TransfersBack (λ e. Unit {0}) (dropping m b) (straining m b)
+strained_back : {V H : Type 0} (m : Abstraction V H) (b : BackwardAbstraction V) → Laws m → TransfersBack (λ e. Unit {0}) (dropping m b) (straining m b)
 strained_back m b laws = record {
   forward = strained_ones m laws;
   undone = λ step v e w k h. (h.0.exact, h.0.flagged);
   met = λ u v e w k h. (h.0.exact, h.0.flagged);
 }
 
-pub traced : {V H : Type 0} (m : Meaning V H) (b : Retracing V) → Laws m → (globals : List GlobalVariable) (sites : List Site) (g : Node) (forward : List V)
+pub traced : {V H : Type 0} (m : Abstraction V H) (b : BackwardAbstraction V) → Laws m →
+    (globals : List GlobalVariable) (sites : List Site) (g : Node) (forward : List V)
     (f : Option ℕ) (p : ℕ) (values : List V) (flag : Option ℕ) → Backs (dropping m b) globals sites g forward f p values flag
     → IsTraced m b globals sites g forward f p values flag
 traced {V} {H} m b laws globals sites g forward f p values flag found =

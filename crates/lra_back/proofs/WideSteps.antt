@@ -1,7 +1,7 @@
 -- Values with a dimension for each variable that lives at their points.
 use Rattle.std.proofs.Common.{◌≡◌, ◌≤◌, ◌<◌, ◌^◌, ℕ, List, length, Some, sym, subst, ◌∙◌, arith, slice_get}
 use Rattle.std.proofs.lemmas.Option.{slice_get_within}
-use Rattle.lra_domain.specs.Meaning.{Meaning}
+use Rattle.lra_domain.specs.Abstraction.{Abstraction}
 use Rattle.lra_program.specs.Sites.{Site}
 use Rattle.lra_flow.specs.Room.{most_live}
 use Rattle.lra_back.specs.Traced.{AreWide, IsAssertion}
@@ -10,7 +10,7 @@ use Rattle.lra_back.proofs.BackSteps.{also_there}
 few_enough : (n : ℕ) → n ≤ most_live → n ≤ 2 ^ 30
 few_enough n few = omega arith
 
-module _ {V H : Type 0} (m : Meaning V H) (sites : List Site) (forward : List V) where
+module _ {V H : Type 0} (m : Abstraction V H) (sites : List Site) (forward : List V) where
   pub wide_at : AreWide m sites forward → (q : ℕ) (x : V) → slice_get forward q ≡ Some x → m.dims x ≤ most_live
   wide_at wide q x at =
       let s = also_there forward sites q x (sym wide.0) at in

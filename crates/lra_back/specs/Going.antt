@@ -3,10 +3,10 @@ use Rattle.std.specs.Prelude.{◌≡◌, ◌≤◌, ◌^◌, ℕ, List, [], leng
 use Rattle.std.specs.Prelude.{Bool, false, ◌&&◌, suc, nat_eq}
 use Rattle.std.specs.List.{sum_by}
 use Rattle.lra_domain.specs.Actions.{Action, assign, forget, test, embed, remove_last}
-use Rattle.lra_domain.specs.Changes.{AllCanBeMade, dims_behind}
-use Rattle.lra_domain.specs.Backward.{Retracing}
-use Rattle.lra_domain.specs.Meaning.{Meaning}
-use Rattle.lra_domain.specs.Meaning.{worse}
+use Rattle.lra_domain.specs.Changes.{AllCanBeMade, dims_after_actions}
+use Rattle.lra_domain.specs.Backward.{BackwardAbstraction}
+use Rattle.lra_domain.specs.Abstraction.{Abstraction}
+use Rattle.lra_domain.specs.Abstraction.{worse}
 use Rattle.lra_domain.specs.Rank.{RankFits}
 use Rattle.lra_domain.proofs.RankNumbers.{digits}
 use Rattle.lra_domain.specs.declared.Exactness.{Exactness}
@@ -47,7 +47,7 @@ reversed (remove_last k) = embed k
 
 -- the path can be made of a value of n dimensions, and leaves k
 abbrev pub Fits : List Action → ℕ → ℕ → Type 0
-Fits path n k = (n ≤ 2 ^ 30) × AllCanBeMade path n × (dims_behind path n ≡ k)
+Fits path n k = (n ≤ 2 ^ 30) × AllCanBeMade path n × (dims_after_actions path n ≡ k)
 
 abbrev pub AllFit : List (List Action) → ℕ → ℕ → Type 0
 AllFit paths n k = (path : List Action) → Contains paths path → Fits path n k
@@ -58,7 +58,7 @@ ComesOver {V} ops forward v path e w =
     (u : V) × (d i : Exactness) × GoesOver ops path v d u × ops.met u forward i w × (e ≡ worse d i)
 
 -- a value that may be there has so many dimensions
-abbrev pub IfThereHas : {V H : Type 0} → Meaning V H → ℕ → Option V → Type 0
+abbrev pub IfThereHas : {V H : Type 0} → Abstraction V H → ℕ → Option V → Type 0
 IfThereHas m n None = Unit {0}
 IfThereHas m n (Some v) = m.dims v ≡ n
 
@@ -77,21 +77,21 @@ pub record IsWritable (s : Source) : Type 0 where
   pub few : (q : ℕ) → length (paths_from s q) ≤ greatest_paths
 
 -- the paths to each point lead from n dimensions to those of its head
-abbrev pub FitHeads : {V H : Type 0} → Meaning V H → Source → ℕ → List H → Type 0
+abbrev pub FitHeads : {V H : Type 0} → Abstraction V H → Source → ℕ → List H → Type 0
 FitHeads {V} {H} m s n heads = (q : ℕ) (h : H) → slice_get heads q ≡ Some h → AllFit (paths_from s q) n (m.head_dims h)
 
 -- heads have the dimensions of the forward values, and ranks that fit
-pub record AreHeads {V H : Type 0} (m : Meaning V H) (forward : List V) (heads : List H) : Type 0 where
+pub record AreHeads {V H : Type 0} (m : Abstraction V H) (forward : List V) (heads : List H) : Type 0 where
   pub count : length heads ≡ length forward
   pub dims : (q : ℕ) (h : H) (x : V) → slice_get heads q ≡ Some h → slice_get forward q ≡ Some x →
       m.head_dims h ≡ m.dims x
   pub ranks : (q : ℕ) (h : H) → slice_get heads q ≡ Some h → RankFits (m.rank h)
 
 -- the ranks as one number
-abbrev pub rank_of : {V H : Type 0} → Meaning V H → H → ℕ
+abbrev pub rank_of : {V H : Type 0} → Abstraction V H → H → ℕ
 rank_of m h = digits (2 ^ 64) (m.rank h)
 
-abbrev pub ranks_of : {V H : Type 0} → Meaning V H → List H → ℕ
+abbrev pub ranks_of : {V H : Type 0} → Abstraction V H → List H → ℕ
 ranks_of m heads = sum_by (rank_of m) heads
 
 -- tasks --------------------------------------------------------------------------------------------------------------
@@ -106,7 +106,7 @@ task_view t = record {
 }
 
 -- there is a source for each point, whose paths lead from the dimensions of its forward value to those of the others
-pub record IsTask {V H : Type 0} (m : Meaning V H) (t : Task V) : Type 0 where
+pub record IsTask {V H : Type 0} (m : Abstraction V H) (t : Task V) : Type 0 where
   pub count : length t.sources.items ≡ length t.forward.now
   pub few : (p : ℕ) (x : V) → slice_get t.forward.now p ≡ Some x → m.dims x ≤ 2 ^ 30
   pub writable : (p : ℕ) (s : Source) → slice_get t.sources.items p ≡ Some s → IsWritable s
@@ -169,7 +169,7 @@ pub record AreSources (globals : List GlobalVariable) (sites : List Site) (g : N
     pub are : (p : ℕ) (s : Source) → slice_get sources p ≡ Some s → IsSourceOf globals sites g p s
 
 -- what going back from the point asks of a tree of these ways
-pub record BackNeeds {V H : Type 0} (m : Meaning V H) (globals : List GlobalVariable) (sites : List Site)
+pub record BackNeeds {V H : Type 0} (m : Abstraction V H) (globals : List GlobalVariable) (sites : List Site)
     (ways : List Stretch) (forward : List V) (p : ℕ) (tree : Node) : Type 0 where
   pub is_tree : AreWays ways tree
   pub few : AreFewIn globals sites tree
@@ -179,7 +179,7 @@ pub record BackNeeds {V H : Type 0} (m : Meaning V H) (globals : List GlobalVari
   pub asserted : AreAsserted sites tree
 
 -- what is gone back over from the point, where the seed has this exactness
-pub record IsPrepared {V H : Type 0} (m : Meaning V H) (b : Retracing V) (globals : List GlobalVariable)
+pub record IsPrepared {V H : Type 0} (m : Abstraction V H) (b : BackwardAbstraction V) (globals : List GlobalVariable)
     (sites : List Site) (g : Node) (forward : List V) (p : ℕ) (t : Task V) (e : Exactness) : Type 0 where
   pub base : ℕ
   pub condition : Cond

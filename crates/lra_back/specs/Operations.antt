@@ -3,8 +3,8 @@
 -- written, for what drops something where it is flagged, and for where it strains.
 use Rattle.std.specs.Prelude.{◌≡◌}
 use Rattle.lra_domain.specs.Actions.{Action, assign, forget, test, embed, remove_last}
-use Rattle.lra_domain.specs.Backward.{Retracing, GoesBack, MeetsBoth}
-use Rattle.lra_domain.specs.Meaning.{Meaning}
+use Rattle.lra_domain.specs.Backward.{BackwardAbstraction, TransfersBackTo, MeetsBoth}
+use Rattle.lra_domain.specs.Abstraction.{Abstraction}
 use Rattle.lra_domain.specs.Parts.{CapsWithin}
 use Rattle.lra_domain.specs.declared.Exactness.{Exactness}
 use Rattle.lra_domain.specs.declared.Exactness.TheVariants.{Exact, Flagged}
@@ -18,29 +18,29 @@ pub record BackOperations (V H : Type 0) : Type 1 where
   pub met : V → V → Exactness → V → Type 0
 
 -- every operation is exact and gives its defined result
-abbrev pub defined : {V H : Type 0} → Meaning V H → Retracing V → BackOperations V H
+abbrev pub defined : {V H : Type 0} → Abstraction V H → BackwardAbstraction V → BackOperations V H
 defined m b = record {
   forward = forward.defined m;
-  undone = λ step v e w. (e ≡ Exact) × b.undone step v w;
+  undone = λ step v e w. (e ≡ Exact) × b.pre step v w;
   met = λ u v e w. (e ≡ Exact) × b.met u v w;
 }
 
 -- one that strains on the operands that it has may be flagged; its result then covers the defined one, and has all
 -- stores that it must have
-abbrev pub dropping : {V H : Type 0} → Meaning V H → Retracing V → BackOperations V H
+abbrev pub dropping : {V H : Type 0} → Abstraction V H → BackwardAbstraction V → BackOperations V H
 dropping m b = record {
   forward = forward.dropping m;
-  undone = λ step v e w. GoesBack m b step v e w × (m.dims w ≡ m.dims v) × CapsWithin (m.capped v) (m.capped w);
+  undone = λ step v e w. TransfersBackTo m b step v e w × (m.dims w ≡ m.dims v) × CapsWithin (m.capped v) (m.capped w);
   met = λ u v e w. MeetsBoth m b u v e w × (m.dims v ≡ m.dims u) × (m.dims w ≡ m.dims u) ×
       CapsWithin (λ c. m.capped u c × m.capped v c) (m.capped w);
 }
 
 -- one that strains may be flagged, and then gives anything: so what comes before the first flag is as it is defined, and
 -- the first flagged operation strains on the operands that the definition has there
-abbrev pub straining : {V H : Type 0} → Meaning V H → Retracing V → BackOperations V H
+abbrev pub straining : {V H : Type 0} → Abstraction V H → BackwardAbstraction V → BackOperations V H
 straining m b = record {
   forward = forward.straining m;
-  undone = λ step v e w. (e ≡ Exact → b.undone step v w) × (e ≡ Flagged → b.undo_strains step v);
+  undone = λ step v e w. (e ≡ Exact → b.pre step v w) × (e ≡ Flagged → b.pre_strains step v);
   met = λ u v e w. (e ≡ Exact → b.met u v w) × (e ≡ Flagged → b.meet_strains u v);
 }
 

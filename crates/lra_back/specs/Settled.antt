@@ -1,7 +1,7 @@
 -- Points that need no turn: what they would take is in their heads already.
 use Rattle.std.specs.Prelude.{◌≡◌, ◌≢◌, ◌⊎◌, ℕ, List, [], length, Option, Some, Bool, true, false, slice_get}
-use Rattle.lra_domain.specs.Backward.{Retracing}
-use Rattle.lra_domain.specs.Meaning.{Meaning}
+use Rattle.lra_domain.specs.Backward.{BackwardAbstraction}
+use Rattle.lra_domain.specs.Abstraction.{Abstraction}
 use Rattle.lra_domain.specs.declared.Exactness.{Exactness}
 use Rattle.lra_domain.specs.declared.Mode.{Mode}
 use Rattle.lra_domain.specs.declared.Mode.TheVariants.{Widen}
@@ -38,6 +38,7 @@ Settles task mode p false old new = (length new ≡ length old) × ((q : ℕ) �
     (slice_get old q ≡ Some true) × (q ≢ p) × (task.paths q p ≡ []))
 
 -- the heads are those of the task's points, and marked points are settled
-pub record IsGoing {V H : Type 0} (m : Meaning V H) (b : Retracing V) (t : Task V) (going : Going H) : Type 0 where
+pub record IsGoing {V H : Type 0} (m : Abstraction V H) (b : BackwardAbstraction V) (t : Task V)
+    (going : Going H) : Type 0 where
   pub heads : AreHeads m t.forward.now going.heads.items
   pub settled : AreSettled (dropping m b) (task_view t) going.heads.items going.flag going.settled.items

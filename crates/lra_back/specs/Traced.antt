@@ -2,10 +2,10 @@
 use Rattle.std.specs.Prelude.{◌≡◌, ◌≢◌, ◌≤◌, ℕ, suc, ℤ, List, [], ◌∷◌, length, Option, Some, None, true, false}
 use Rattle.std.specs.Prelude.{Contains, slice_get}
 use Rattle.lra_domain.specs.Actions.{Action}
-use Rattle.lra_domain.specs.Changes.{AllCanBeMade, dims_behind}
+use Rattle.lra_domain.specs.Changes.{AllCanBeMade, dims_after_actions}
 use Rattle.lra_flow.specs.Room.{most_live}
-use Rattle.lra_domain.specs.Backward.{Retracing}
-use Rattle.lra_domain.specs.Meaning.{Meaning}
+use Rattle.lra_domain.specs.Backward.{BackwardAbstraction}
+use Rattle.lra_domain.specs.Abstraction.{Abstraction}
 use Rattle.lra_domain.specs.declared.Exactness.{Exactness}
 use Rattle.lra_program.specs.Program.{Program, Cond}
 use Rattle.lra_program.specs.declared.program.GlobalVariable.{GlobalVariable}
@@ -44,11 +44,11 @@ AreAsserted sites g = (p : ℕ) → IsAssertion sites p → (base : ℕ) × (c :
 abbrev pub PathsFit : List GlobalVariable → List Site → Node → Type 0
 PathsFit globals sites g = (p q : ℕ) (s r : Site) (path : List Action) → slice_get sites p ≡ Some s →
     slice_get sites q ≡ Some r → Contains (leading_in globals sites g (suc p) (comes_to q)) path →
-    AllCanBeMade path s.live × (dims_behind path s.live ≡ r.live)
+    AllCanBeMade path s.live × (dims_after_actions path s.live ≡ r.live)
 
 -- each value has a dimension for each variable that lives at its point; nowhere live more than may live where moves are
 -- made
-abbrev pub AreWide : {V H : Type 0} → Meaning V H → List Site → List V → Type 0
+abbrev pub AreWide : {V H : Type 0} → Abstraction V H → List Site → List V → Type 0
 AreWide {V} m sites values = (length values ≡ length sites) ×
     ((p : ℕ) (s : Site) (v : V) → slice_get sites p ≡ Some s → slice_get values p ≡ Some v →
     (m.dims v ≡ s.live) × (s.live ≤ most_live))
@@ -87,14 +87,15 @@ pub record Backs {V H : Type 0} (ops : BackOperations V H) (globals : List Globa
 
 -- what is found, flagged or not: without a flag it is what is defined; where the forward values have none, the first
 -- flag stands where the definition strains
-pub record IsTraced {V H : Type 0} (m : Meaning V H) (b : Retracing V) (globals : List GlobalVariable) (sites : List Site)
+pub record IsTraced {V H : Type 0} (m : Abstraction V H) (b : BackwardAbstraction V) (globals : List GlobalVariable) (sites : List Site)
     (g : Node) (forward : List V) (f : Option ℕ) (p : ℕ) (values : List V) (flag : Option ℕ) : Type 0 where
   pub drops : Backs (dropping m b) globals sites g forward f p values flag
   pub written : flag ≡ None → Backs (defined m b) globals sites g forward f p values flag
   pub strained : Backs (straining m b) globals sites g forward f p values flag
 
 -- proved is an assertion where no path from the start leads to a point at which something is left
-abbrev pub NothingLeftAtStart : {V H : Type 0} → Meaning V H → List GlobalVariable → List Site → Node → List V → Type 0
+abbrev pub NothingLeftAtStart : {V H : Type 0} → Abstraction V H → List GlobalVariable → List Site → Node → List V →
+    Type 0
 NothingLeftAtStart {V} m globals sites g values = (q : ℕ) (v : V) → slice_get values q ≡ Some v →
     leading_in globals sites g 0 (comes_to q) ≢ [] → IsUnreachable m v
 

@@ -98,7 +98,7 @@ fn is_none_left<D: Backward>(start: &Source, point: usize, value: &D) -> bool
     requires { IsTable start.now.entries.items }
     ensures { result ≡ true ↔
         (to_goal start.now.entries.items start.now.ways.items (comes_to point) ≢ [] →
-        IsUnreachable D.meaning value.now) }
+        IsUnreachable D.abstraction value.now) }
 {
     start.count_to(Goal::ComesTo(point)) == 0 || value.is_empty()
 }
@@ -110,7 +110,7 @@ fn are_none_left<D: Backward>(
     values: &[D],
 ) -> Result<bool, AllocError>
     ensures { (g : Node) → AreWays (seen paths.now.ways.items) g → IfOk result (λ b. b ≡ true ↔
-        NothingLeftAtStart D.meaning paths.now.globals.now
+        NothingLeftAtStart D.abstraction paths.now.globals.now
         (map site_view paths.now.sites.now) g values.now) }
 {
     let start = paths.from(alloc, 0)?;
@@ -136,14 +136,14 @@ fn prepare<'f, D: Backward>(
     forward: &'f [D],
     point: usize,
 ) -> Result<Prepared<'f, D>, AllocError>
-    requires { (g : Node) × BackNeeds D.meaning paths.now.globals.now
+    requires { (g : Node) × BackNeeds D.abstraction paths.now.globals.now
         (map site_view paths.now.sites.now) (seen paths.now.ways.items) forward.now point g }
     ensures of { IfOk result (λ r.
         (r.task.forward.now ≡ forward.now) × (r.task.assertion ≡ point)) }
-    ensures task { IfOk result (λ r. IsTask D.meaning r.task) }
-    ensures prepared { (g : Node) → BackNeeds D.meaning paths.now.globals.now
+    ensures task { IfOk result (λ r. IsTask D.abstraction r.task) }
+    ensures prepared { (g : Node) → BackNeeds D.abstraction paths.now.globals.now
         (map site_view paths.now.sites.now) (seen paths.now.ways.items) forward.now point g →
-        IfOk result (λ r. IsPrepared D.meaning D.retracing paths.now.globals.now
+        IfOk result (λ r. IsPrepared D.abstraction D.backward_abstraction paths.now.globals.now
         (map site_view paths.now.sites.now) g forward.now point r.task r.exactness) }
 {
     let Some(asserted) = find_asserted(paths.ways.as_slice(), point) else {
@@ -172,7 +172,7 @@ fn finish<D: Backward>(
     ensures same { IfOk result (λ r.
         (r.values.items ≡ met.values.items) × (r.flagged ≡ met.flag)) }
     ensures proved { (g : Node) → AreWays (seen paths.now.ways.items) g → IfOk result (λ r.
-        r.is_proved ≡ true ↔ NothingLeftAtStart D.meaning paths.now.globals.now
+        r.is_proved ≡ true ↔ NothingLeftAtStart D.abstraction paths.now.globals.now
         (map site_view paths.now.sites.now) g r.values.items) }
 {
     let is_proved = are_none_left(alloc, paths, met.values.as_slice())?;
@@ -192,18 +192,18 @@ fn trace<D: Backward>(
     flagged: Option<usize>,
     point: usize,
 ) -> Result<Backs<D>, AllocError>
-    requires { (g : Node) × BackNeeds D.meaning paths.now.globals.now
+    requires { (g : Node) × BackNeeds D.abstraction paths.now.globals.now
         (map site_view paths.now.sites.now) (seen paths.now.ways.items) forward.now point g }
-    ensures traced { (g : Node) → BackNeeds D.meaning paths.now.globals.now
+    ensures traced { (g : Node) → BackNeeds D.abstraction paths.now.globals.now
         (map site_view paths.now.sites.now) (seen paths.now.ways.items) forward.now point g →
-        IfOk result (λ r. traced.Backs (operations.dropping D.meaning D.retracing)
+        IfOk result (λ r. traced.Backs (operations.dropping D.abstraction D.backward_abstraction)
         paths.now.globals.now (map site_view paths.now.sites.now) g
         forward.now flagged point r.values.items r.flagged) }
     ensures proved { (g : Node) → AreWays (seen paths.now.ways.items) g → IfOk result (λ r.
-        r.is_proved ≡ true ↔ NothingLeftAtStart D.meaning paths.now.globals.now
+        r.is_proved ≡ true ↔ NothingLeftAtStart D.abstraction paths.now.globals.now
         (map site_view paths.now.sites.now) g r.values.items) }
     ensures wide { IfOk result (λ r.
-        AreWide D.meaning (map site_view paths.now.sites.now) r.values.items) }
+        AreWide D.abstraction (map site_view paths.now.sites.now) r.values.items) }
 {
     let Prepared { task, exactness } = prepare(alloc, paths, forward, point)?;
     let met = task.go_back(note(point, exactness, flagged))?;
@@ -220,18 +220,19 @@ pub fn back<D: Backward>(
     flagged: Option<usize>,
     point: usize,
 ) -> Result<Backs<D>, BackFailure>
-    requires wide { AreWide D.meaning (map site_view graph.now.sites.items) forward.now }
+    requires wide { AreWide D.abstraction (map site_view graph.now.sites.items) forward.now }
     requires fit { PathsFit globals.now (map site_view graph.now.sites.items)
         (node_view graph.now.tree) }
     requires asserted { AreAsserted (map site_view graph.now.sites.items)
         (node_view graph.now.tree) }
-    ensures traced { IfOk result (λ r. IsTraced D.meaning D.retracing globals.now
+    ensures traced { IfOk result (λ r. IsTraced D.abstraction D.backward_abstraction globals.now
         (map site_view graph.now.sites.items) (node_view graph.now.tree)
         forward.now flagged point r.values.items r.flagged) }
-    ensures proved { IfOk result (λ r. r.is_proved ≡ true ↔ NothingLeftAtStart D.meaning globals.now
+    ensures proved { IfOk result
+        (λ r. r.is_proved ≡ true ↔ NothingLeftAtStart D.abstraction globals.now
         (map site_view graph.now.sites.items) (node_view graph.now.tree) r.values.items) }
     ensures wide { IfOk result (λ r.
-        AreWide D.meaning (map site_view graph.now.sites.items) r.values.items) }
+        AreWide D.abstraction (map site_view graph.now.sites.items) r.values.items) }
     ensures few { IfOk result (λ r. AreFewIn globals.now (map site_view graph.now.sites.items)
         (node_view graph.now.tree)) }
     ensures asks { IfOk result (λ r.

@@ -12,11 +12,11 @@ use std::alloc::AllocError;
 /// From the value behind the change to the one before it: what was forgotten may have been anything, what was embedded
 /// goes, what was removed comes again with any value.
 pub fn undo<D: Backward>(value: &mut D, change: &Change) -> Result<Exactness, AllocError>
-    requires { CanBeMade (reversed (action_of change.now)) (D.meaning.dims value.old) }
-    ensures undoes { IfOk result (λ e. Undoes (dropping D.meaning D.retracing)
+    requires { CanBeMade (reversed (action_of change.now)) (D.abstraction.dims value.old) }
+    ensures undoes { IfOk result (λ e. Undoes (dropping D.abstraction D.backward_abstraction)
         (action_of change.now) value.old e value.new) }
-    ensures dims { OnOk result (D.meaning.dims value.new ≡
-        dims_after (reversed (action_of change.now)) (D.meaning.dims value.old)) }
+    ensures dims { OnOk result (D.abstraction.dims value.new ≡
+        dims_after (reversed (action_of change.now)) (D.abstraction.dims value.old)) }
 {
     match change {
         Change::Assign(place, form) => value.before_assign(*place, form),

@@ -22,10 +22,10 @@ pub struct Growth {
 fn start<D: Backward>(alloc: Global, dims: usize) -> Result<D::Head, AllocError>
     requires { dims ≤ 2 ^ 30 }
     ensures starts { IfOk result (λ h. (v : D) ×
-        (dropping D.meaning D.retracing).forward.void dims 1 v ×
-        (dropping D.meaning D.retracing).forward.started v (no_rows dims) h) }
-    ensures dims { IfOk result (λ h. D.meaning.head_dims h ≡ dims) }
-    ensures fits { IfOk result (λ h. RankFits (D.meaning.rank h)) }
+        (dropping D.abstraction D.backward_abstraction).forward.void dims 1 v ×
+        (dropping D.abstraction D.backward_abstraction).forward.started v (no_rows dims) h) }
+    ensures dims { IfOk result (λ h. D.abstraction.head_dims h ≡ dims) }
+    ensures fits { IfOk result (λ h. RankFits (D.abstraction.rank h)) }
 {
     let nothing = D::empty(alloc, dims, 1)?;
     let given = ConSys::new(alloc, dims);
@@ -35,10 +35,10 @@ fn start<D: Backward>(alloc: Global, dims: usize) -> Result<D::Head, AllocError>
 
 /// The heads of all points.
 pub fn start_all<D: Backward>(alloc: Global, forward: &[D]) -> Result<Vec<D::Head>, AllocError>
-    requires { (p : ℕ) (x : D) → slice_get forward.now p ≡ Some x → D.meaning.dims x ≤ 2 ^ 30 }
+    requires { (p : ℕ) (x : D) → slice_get forward.now p ≡ Some x → D.abstraction.dims x ≤ 2 ^ 30 }
     ensures started { IfOk result (λ heads.
-        AreStarted (dropping D.meaning D.retracing) forward.now heads.items) }
-    ensures heads { IfOk result (λ heads. AreHeads D.meaning forward.now heads.items) }
+        AreStarted (dropping D.abstraction D.backward_abstraction) forward.now heads.items) }
+    ensures heads { IfOk result (λ heads. AreHeads D.abstraction forward.now heads.items) }
 {
     let mut heads = Vec::new(alloc);
     'points: for value in forward {
@@ -50,14 +50,14 @@ pub fn start_all<D: Backward>(alloc: Global, forward: &[D]) -> Result<Vec<D::Hea
 
 /// The head grows by the value, unless it is stable under it.
 pub fn grow<D: Backward>(head: &mut D::Head, next: &D, mode: Mode) -> Result<Growth, AllocError>
-    requires { D.meaning.dims next.now ≡ D.meaning.head_dims head.old }
-    ensures grows { IfOk result (λ g. StaysOrGrows (dropping D.meaning D.retracing)
+    requires { D.abstraction.dims next.now ≡ D.abstraction.head_dims head.old }
+    ensures grows { IfOk result (λ g. StaysOrGrows (dropping D.abstraction D.backward_abstraction)
         mode head.old next.now g.exactness g.is_stable head.new) }
-    ensures dims { D.meaning.head_dims head.new ≡ D.meaning.head_dims head.old }
-    ensures fits { OnOk result (RankFits (D.meaning.rank head.new)) }
+    ensures dims { D.abstraction.head_dims head.new ≡ D.abstraction.head_dims head.old }
+    ensures fits { OnOk result (RankFits (D.abstraction.rank head.new)) }
     ensures stable { IfOk result (λ g. g.is_stable ≡ true → head.new ≡ head.old) }
     ensures falls { IfOk result (λ g. g.is_stable ≡ false → mode ≢ Join →
-        rank_of D.meaning head.new < rank_of D.meaning head.old) }
+        rank_of D.abstraction head.new < rank_of D.abstraction head.old) }
 {
     match D::grow(head, next, mode)? {
         Grown::Stable => Ok(Growth {

@@ -2,7 +2,7 @@
 
 ghost use Rattle.std.specs.Prelude.{◌≡◌, ◌≢◌, ℕ, true, length, Some, slice_get, IfOk};
 ghost use Rattle.lra_domain.specs.declared.Exactness.{Exactness};
-ghost use Rattle.lra_domain.specs.Meaning.{worse};
+ghost use Rattle.lra_domain.specs.Abstraction.{worse};
 ghost use Rattle.lra_back.specs.Operations.{dropping};
 ghost use Rattle.lra_back.specs.Rounds.{AreMet};
 ghost use Rattle.lra_back.specs.Going.{AreHeads, IsGoneOver, IsTask, task_view};
@@ -24,11 +24,12 @@ pub struct Met<D> {
 
 /// The head's value, met with the forward value.
 fn meet_one<D: Backward>(alloc: Global, head: &D::Head, forward: &D) -> Result<Found<D>, AllocError>
-    requires { D.meaning.head_dims head.now ≡ D.meaning.dims forward.now }
+    requires { D.abstraction.head_dims head.now ≡ D.abstraction.dims forward.now }
     ensures met { IfOk result (λ r. (v : D) × (c d : Exactness) ×
-        (dropping D.meaning D.retracing).forward.valued head.now c v ×
-        (dropping D.meaning D.retracing).met v forward.now d r.value × (r.exactness ≡ worse c d)) }
-    ensures dims { IfOk result (λ r. D.meaning.dims r.value ≡ D.meaning.dims forward.now) }
+        (dropping D.abstraction D.backward_abstraction).forward.valued head.now c v ×
+        (dropping D.abstraction D.backward_abstraction).met v forward.now d r.value
+        × (r.exactness ≡ worse c d)) }
+    ensures dims { IfOk result (λ r. D.abstraction.dims r.value ≡ D.abstraction.dims forward.now) }
 {
     let (mut value, valued) = D::value(alloc, head)?;
     let met = value.meet(forward)?;
@@ -44,12 +45,13 @@ pub fn meet_all<D: Backward>(
     going: &Going<D::Head>,
     forward: &[D],
 ) -> Result<Met<D>, AllocError>
-    requires { AreHeads D.meaning forward.now going.now.heads.items }
-    ensures met { IfOk result (λ r. AreMet (dropping D.meaning D.retracing) 0 going.now.flag
+    requires { AreHeads D.abstraction forward.now going.now.heads.items }
+    ensures met { IfOk result
+        (λ r. AreMet (dropping D.abstraction D.backward_abstraction) 0 going.now.flag
         going.now.heads.items forward.now r.flag r.values.items) }
     ensures count { IfOk result (λ r. length r.values.items ≡ length forward.now) }
     ensures dims { IfOk result (λ r. (p : ℕ) (x v : D) → slice_get forward.now p ≡ Some x →
-        slice_get r.values.items p ≡ Some v → D.meaning.dims v ≡ D.meaning.dims x) }
+        slice_get r.values.items p ≡ Some v → D.abstraction.dims v ≡ D.abstraction.dims x) }
 {
     let mut values = Vec::new(alloc);
     let mut flag = going.flag;
@@ -76,14 +78,14 @@ fn none_settled(alloc: Global, count: usize) -> Result<Vec<bool>, AllocError>
 impl<D: Backward> Task<'_, D> {
     /// All rounds, and then the meets, from heads that start with nothing.
     pub fn go_back(&self, flag: Option<usize>) -> Result<Met<D>, AllocError>
-        requires { IsTask D.meaning self.now }
-        ensures gone { IfOk result (λ r. IsGoneOver (dropping D.meaning D.retracing)
+        requires { IsTask D.abstraction self.now }
+        ensures gone { IfOk result (λ r. IsGoneOver (dropping D.abstraction D.backward_abstraction)
             (task_view self.now) flag r.values.items r.flag) }
         ensures count { IfOk result (λ r.
             length r.values.items ≡ length self.now.forward.now) }
         ensures dims { IfOk result (λ r. (p : ℕ) (x v : D) →
             slice_get self.now.forward.now p ≡ Some x →
-            slice_get r.values.items p ≡ Some v → D.meaning.dims v ≡ D.meaning.dims x) }
+            slice_get r.values.items p ≡ Some v → D.abstraction.dims v ≡ D.abstraction.dims x) }
     {
         let mut going = Going {
             heads: start_all(self.alloc, self.forward)?,

@@ -2,7 +2,7 @@
 
 ghost use Rattle.std.specs.Prelude.{◌≡◌, Some, IfOk, OnOk};
 ghost use Rattle.lra_domain.specs.declared.Exactness.{Exactness};
-ghost use Rattle.lra_domain.specs.Meaning.{worse};
+ghost use Rattle.lra_domain.specs.Abstraction.{worse};
 ghost use Rattle.lra_flow.specs.Pass.{JoinsRunning};
 ghost use Rattle.lra_sides.specs.TableSides.{all_done, lists_done};
 ghost use Rattle.lra_back.specs.Operations.{dropping};
@@ -35,10 +35,11 @@ fn go_over<D: Backward>(
     path: &[&Change],
     forward: &D,
 ) -> Result<Exactness, AllocError>
-    requires { Fits (all_done path.now) (D.meaning.dims forward.now) (D.meaning.dims value.old) }
-    ensures comes { IfOk result (λ e. ComesOver (dropping D.meaning D.retracing)
+    requires { Fits (all_done path.now) (D.abstraction.dims forward.now)
+        (D.abstraction.dims value.old) }
+    ensures comes { IfOk result (λ e. ComesOver (dropping D.abstraction D.backward_abstraction)
         forward.now value.old (all_done path.now) e value.new) }
-    ensures dims { OnOk result (D.meaning.dims value.new ≡ D.meaning.dims forward.now) }
+    ensures dims { OnOk result (D.abstraction.dims value.new ≡ D.abstraction.dims forward.now) }
 {
     let mut all = Exactness::Exact;
     'changes: for index in (0..path.len()).rev() {
@@ -56,11 +57,11 @@ fn come_back<D: Backward>(
     path: &[&Change],
     forward: &D,
 ) -> Result<Found<D>, AllocError>
-    requires { Fits (all_done path.now) (D.meaning.dims forward.now)
-        (D.meaning.head_dims target.now) }
-    ensures comes { IfOk result (λ r. ComesBack (dropping D.meaning D.retracing)
+    requires { Fits (all_done path.now) (D.abstraction.dims forward.now)
+        (D.abstraction.head_dims target.now) }
+    ensures comes { IfOk result (λ r. ComesBack (dropping D.abstraction D.backward_abstraction)
         forward.now target.now (all_done path.now) r.exactness r.value) }
-    ensures dims { IfOk result (λ r. D.meaning.dims r.value ≡ D.meaning.dims forward.now) }
+    ensures dims { IfOk result (λ r. D.abstraction.dims r.value ≡ D.abstraction.dims forward.now) }
 {
     let (mut value, valued) = D::value(alloc, target)?;
     let gone = go_over(&mut value, path, forward)?;
@@ -72,10 +73,11 @@ fn come_back<D: Backward>(
 
 /// Joined to what came before, where something did.
 pub fn join_to<D: Backward>(so_far: Option<D>, value: D) -> Result<Found<D>, AllocError>
-    requires { IfThereHas D.meaning (D.meaning.dims value) so_far }
-    ensures joins { IfOk result (λ r. JoinsRunning (dropping D.meaning D.retracing).forward
+    requires { IfThereHas D.abstraction (D.abstraction.dims value) so_far }
+    ensures joins { IfOk result
+        (λ r. JoinsRunning (dropping D.abstraction D.backward_abstraction).forward
         so_far value r.exactness r.value) }
-    ensures dims { IfOk result (λ r. D.meaning.dims r.value ≡ D.meaning.dims value) }
+    ensures dims { IfOk result (λ r. D.abstraction.dims r.value ≡ D.abstraction.dims value) }
 {
     match so_far {
         None => Ok(Found {
@@ -100,14 +102,16 @@ fn join_path<D: Backward>(
     forward: &D,
     so_far: Joined<D>,
 ) -> Result<Joined<D>, AllocError>
-    requires fits { Fits (all_done path.now) (D.meaning.dims forward.now)
-        (D.meaning.head_dims target.now) }
-    requires so_far { IfThereHas D.meaning (D.meaning.dims forward.now) so_far.value }
+    requires fits { Fits (all_done path.now) (D.abstraction.dims forward.now)
+        (D.abstraction.head_dims target.now) }
+    requires so_far { IfThereHas D.abstraction (D.abstraction.dims forward.now) so_far.value }
     ensures joins { IfOk result (λ r. (u w : D) × (c d : Exactness) ×
-        ComesBack (dropping D.meaning D.retracing) forward.now target.now (all_done path.now) c u ×
-        JoinsRunning (dropping D.meaning D.retracing).forward so_far.value u d w ×
+        ComesBack (dropping D.abstraction D.backward_abstraction) forward.now target.now
+        (all_done path.now) c u ×
+        JoinsRunning (dropping D.abstraction D.backward_abstraction).forward so_far.value u d w ×
         (r.value ≡ Some w) × (r.exactness ≡ worse so_far.exactness (worse c d))) }
-    ensures dims { IfOk result (λ r. IfThereHas D.meaning (D.meaning.dims forward.now) r.value) }
+    ensures dims { IfOk result
+        (λ r. IfThereHas D.abstraction (D.abstraction.dims forward.now) r.value) }
 {
     let found = come_back(alloc, target, path, forward)?;
     let Joined { value, exactness } = so_far;
@@ -126,13 +130,15 @@ fn join_paths<D: Backward>(
     forward: &D,
     so_far: Joined<D>,
 ) -> Result<Joined<D>, AllocError>
-    requires fit { AllFit (lists_done paths.now) (D.meaning.dims forward.now)
-        (D.meaning.head_dims target.now) }
-    requires so_far { IfThereHas D.meaning (D.meaning.dims forward.now) so_far.value }
-    ensures joins { IfOk result (λ r. (e : Exactness) × AllComeBack (dropping D.meaning D.retracing)
+    requires fit { AllFit (lists_done paths.now) (D.abstraction.dims forward.now)
+        (D.abstraction.head_dims target.now) }
+    requires so_far { IfThereHas D.abstraction (D.abstraction.dims forward.now) so_far.value }
+    ensures joins { IfOk result
+        (λ r. (e : Exactness) × AllComeBack (dropping D.abstraction D.backward_abstraction)
         forward.now target.now (lists_done paths.now) so_far.value e r.value ×
         (r.exactness ≡ worse so_far.exactness e)) }
-    ensures dims { IfOk result (λ r. IfThereHas D.meaning (D.meaning.dims forward.now) r.value) }
+    ensures dims { IfOk result
+        (λ r. IfThereHas D.abstraction (D.abstraction.dims forward.now) r.value) }
 {
     let mut joined = so_far;
     'paths: for path in paths {
@@ -149,10 +155,11 @@ pub fn come_from_all<D: Backward>(
     forward: &D,
 ) -> Result<Joined<D>, AllocError>
     requires writable { IsWritable source.now }
-    requires fit { FitHeads D.meaning source.now (D.meaning.dims forward.now) heads.now }
-    ensures comes { IfOk result (λ r. ComesFromAll (dropping D.meaning D.retracing)
+    requires fit { FitHeads D.abstraction source.now (D.abstraction.dims forward.now) heads.now }
+    ensures comes { IfOk result (λ r. ComesFromAll (dropping D.abstraction D.backward_abstraction)
         (paths_from source.now) forward.now 0 heads.now None r.exactness r.value) }
-    ensures dims { IfOk result (λ r. IfThereHas D.meaning (D.meaning.dims forward.now) r.value) }
+    ensures dims { IfOk result
+        (λ r. IfThereHas D.abstraction (D.abstraction.dims forward.now) r.value) }
 {
     let mut joined = Joined {
         value: None,

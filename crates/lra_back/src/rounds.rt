@@ -62,20 +62,22 @@ fn leads_to(source: &Source, point: usize) -> bool
 impl<D: Backward> Task<'_, D> {
     /// The point's head grows by the point's next value: whether it is stable.
     fn turn(&self, mode: Mode, point: usize, going: &mut Going<D::Head>) -> Result<bool, AllocError>
-        requires task { IsTask D.meaning self.now }
-        requires heads { AreHeads D.meaning self.now.forward.now going.old.heads.items }
+        requires task { IsTask D.abstraction self.now }
+        requires heads { AreHeads D.abstraction self.now.forward.now going.old.heads.items }
         requires point { point < length self.now.forward.now }
         ensures turns { IfOk result (λ stable. (k : D.Head) ×
-            IsTurned (dropping D.meaning D.retracing) (task_view self.now) mode point
+            IsTurned (dropping D.abstraction D.backward_abstraction) (task_view self.now) mode point
             going.old.flag going.old.heads.items going.new.flag stable k ×
             (going.new.heads.items ≡ slice_set going.old.heads.items point k)) }
         ensures heads { OnOk result
-            (AreHeads D.meaning self.now.forward.now going.new.heads.items) }
+            (AreHeads D.abstraction self.now.forward.now going.new.heads.items) }
         ensures settled { going.new.settled ≡ going.old.settled }
         ensures falls { IfOk result (λ stable. mode ≢ Join →
-            (ranks_of D.meaning going.new.heads.items ≤ ranks_of D.meaning going.old.heads.items) ×
+            (ranks_of D.abstraction going.new.heads.items ≤ ranks_of D.abstraction
+            going.old.heads.items) ×
             (stable ≡ false →
-            ranks_of D.meaning going.new.heads.items < ranks_of D.meaning going.old.heads.items)) }
+            ranks_of D.abstraction going.new.heads.items < ranks_of D.abstraction
+            going.old.heads.items)) }
     {
         let next = self.next(point, going.heads.as_slice())?;
         let growth = grow(&mut going.heads[point], &next.value, mode)?;
@@ -86,7 +88,7 @@ impl<D: Backward> Task<'_, D> {
 
     /// The point is settled no longer, nor is any point from which paths lead to it.
     fn unsettle(&self, point: usize, settled: &mut Vec<bool>)
-        requires task { IsTask D.meaning self.now }
+        requires task { IsTask D.abstraction self.now }
         requires count { length settled.old.items ≡ length self.now.sources.items }
         ensures { Settles (task_view self.now) Widen point false
             settled.old.items settled.new.items }
@@ -100,7 +102,7 @@ impl<D: Backward> Task<'_, D> {
 
     /// Behind a turn of the point, which left its head stable or not.
     fn settle(&self, mode: Mode, point: usize, stable: bool, settled: &mut Vec<bool>)
-        requires task { IsTask D.meaning self.now }
+        requires task { IsTask D.abstraction self.now }
         requires count { length settled.old.items ≡ length self.now.sources.items }
         requires point { point < length settled.old.items }
         ensures { Settles (task_view self.now) mode point stable
@@ -120,18 +122,21 @@ impl<D: Backward> Task<'_, D> {
         point: usize,
         going: &mut Going<D::Head>,
     ) -> Result<bool, AllocError>
-        requires task { IsTask D.meaning self.now }
-        requires going { IsGoing D.meaning D.retracing self.now going.old }
+        requires task { IsTask D.abstraction self.now }
+        requires going { IsGoing D.abstraction D.backward_abstraction self.now going.old }
         requires point { point < length self.now.forward.now }
         ensures turns { IfOk result (λ stable. (k : D.Head) ×
-            IsTurned (dropping D.meaning D.retracing) (task_view self.now) mode point
+            IsTurned (dropping D.abstraction D.backward_abstraction) (task_view self.now) mode point
             going.old.flag going.old.heads.items going.new.flag stable k ×
             (going.new.heads.items ≡ slice_set going.old.heads.items point k)) }
-        ensures going { OnOk result (IsGoing D.meaning D.retracing self.now going.new) }
+        ensures going { OnOk result
+            (IsGoing D.abstraction D.backward_abstraction self.now going.new) }
         ensures falls { IfOk result (λ stable. mode ≢ Join →
-            (ranks_of D.meaning going.new.heads.items ≤ ranks_of D.meaning going.old.heads.items) ×
+            (ranks_of D.abstraction going.new.heads.items ≤ ranks_of D.abstraction
+            going.old.heads.items) ×
             (stable ≡ false →
-            ranks_of D.meaning going.new.heads.items < ranks_of D.meaning going.old.heads.items)) }
+            ranks_of D.abstraction going.new.heads.items < ranks_of D.abstraction
+            going.old.heads.items)) }
     {
         if is_settled(mode, point, going.settled.as_slice()) {
             return Ok(true);
@@ -143,15 +148,17 @@ impl<D: Backward> Task<'_, D> {
 
     /// All heads grow, from the last point to the first: whether all are stable.
     fn round(&self, mode: Mode, going: &mut Going<D::Head>) -> Result<bool, AllocError>
-        requires task { IsTask D.meaning self.now }
-        requires going { IsGoing D.meaning D.retracing self.now going.old }
+        requires task { IsTask D.abstraction self.now }
+        requires going { IsGoing D.abstraction D.backward_abstraction self.now going.old }
         ensures round { IfOk result (λ stable.
-            Round (dropping D.meaning D.retracing) (task_view self.now) mode
+            Round (dropping D.abstraction D.backward_abstraction) (task_view self.now) mode
             (length self.now.forward.now) going.old.flag going.old.heads.items
             going.new.flag stable going.new.heads.items) }
-        ensures going { OnOk result (IsGoing D.meaning D.retracing self.now going.new) }
+        ensures going { OnOk result
+            (IsGoing D.abstraction D.backward_abstraction self.now going.new) }
         ensures falls { IfOk result (λ stable. mode ≢ Join → stable ≡ false →
-            ranks_of D.meaning going.new.heads.items < ranks_of D.meaning going.old.heads.items) }
+            ranks_of D.abstraction going.new.heads.items < ranks_of D.abstraction
+            going.old.heads.items) }
     {
         let mut all = true;
         'points: for point in (0..self.forward.len()).rev() {
@@ -163,13 +170,14 @@ impl<D: Backward> Task<'_, D> {
 
     /// Rounds that widen, until all heads are stable in one.
     fn widen(&self, going: &mut Going<D::Head>) -> Result<(), AllocError>
-        requires task { IsTask D.meaning self.now }
-        requires going { IsGoing D.meaning D.retracing self.now going.old }
+        requires task { IsTask D.abstraction self.now }
+        requires going { IsGoing D.abstraction D.backward_abstraction self.now going.old }
         ensures widens { OnOk result ((more : ℕ) ×
-            Widens (dropping D.meaning D.retracing) (task_view self.now)
+            Widens (dropping D.abstraction D.backward_abstraction) (task_view self.now)
             (length self.now.forward.now) more going.old.flag going.old.heads.items
             going.new.flag going.new.heads.items) }
-        ensures going { OnOk result (IsGoing D.meaning D.retracing self.now going.new) }
+        ensures going { OnOk result
+            (IsGoing D.abstraction D.backward_abstraction self.now going.new) }
     {
         'rounds: loop {
             if self.round(Mode::Widen, going)? {
@@ -180,12 +188,14 @@ impl<D: Backward> Task<'_, D> {
 
     /// A round that joins, and then such that widen, until all heads are stable.
     pub fn turn_heads(&self, going: &mut Going<D::Head>) -> Result<(), AllocError>
-        requires task { IsTask D.meaning self.now }
-        requires going { IsGoing D.meaning D.retracing self.now going.old }
-        ensures rounds { OnOk result (Rounds (dropping D.meaning D.retracing) (task_view self.now)
+        requires task { IsTask D.abstraction self.now }
+        requires going { IsGoing D.abstraction D.backward_abstraction self.now going.old }
+        ensures rounds { OnOk result
+            (Rounds (dropping D.abstraction D.backward_abstraction) (task_view self.now)
             (length self.now.forward.now) going.old.flag going.old.heads.items
             going.new.flag going.new.heads.items) }
-        ensures going { OnOk result (IsGoing D.meaning D.retracing self.now going.new) }
+        ensures going { OnOk result
+            (IsGoing D.abstraction D.backward_abstraction self.now going.new) }
     {
         if self.round(Mode::Join, going)? {
             Ok(())

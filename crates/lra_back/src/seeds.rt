@@ -89,11 +89,12 @@ pub fn deny<D: Backward>(
     asserted: Asserted<'_>,
     value: &D,
 ) -> Result<Found<D>, AllocError>
-    requires { D.meaning.dims value.now ≤ most_live }
-    ensures leaves { IfOk result (λ r. Leaves (dropping D.meaning D.retracing).forward
+    requires { D.abstraction.dims value.now ≤ most_live }
+    ensures leaves { IfOk result
+        (λ r. Leaves (dropping D.abstraction D.backward_abstraction).forward
         asserted.entry.base (cond_view asserted.entry.condition.now) false
         value.now r.exactness r.value) }
-    ensures dims { IfOk result (λ r. D.meaning.dims r.value ≡ D.meaning.dims value.now) }
+    ensures dims { IfOk result (λ r. D.abstraction.dims r.value ≡ D.abstraction.dims value.now) }
 {
     let Asserted { base, condition } = asserted;
     let mut seed = value.copy(alloc)?;

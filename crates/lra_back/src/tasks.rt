@@ -2,7 +2,7 @@
 
 ghost use Rattle.std.specs.Prelude.{◌≡◌, ◌≤◌, ◌<◌, ◌^◌, ℕ, length, Some, None, slice_get, IfOk};
 ghost use Rattle.lra_domain.specs.declared.Exactness.{Exactness};
-ghost use Rattle.lra_domain.specs.Meaning.{worse};
+ghost use Rattle.lra_domain.specs.Abstraction.{worse};
 ghost use Rattle.lra_flow.specs.Pass.{RunsFrom};
 ghost use Rattle.lra_back.specs.Operations.{dropping};
 ghost use Rattle.lra_back.specs.GoingBack.{JoinsSeed};
@@ -28,10 +28,10 @@ pub struct Task<'g, D> {
 /// What was found, or the empty value of so many dimensions where nothing was.
 fn or_empty<D: Backward>(alloc: Global, dims: usize, found: Option<D>) -> Result<D, AllocError>
     requires few { dims ≤ 2 ^ 30 }
-    requires has { IfThereHas D.meaning dims found }
+    requires has { IfThereHas D.abstraction dims found }
     ensures runs { IfOk result (λ v.
-        RunsFrom (dropping D.meaning D.retracing).forward dims 1 found v) }
-    ensures dims { IfOk result (λ v. D.meaning.dims v ≡ dims) }
+        RunsFrom (dropping D.abstraction D.backward_abstraction).forward dims 1 found v) }
+    ensures dims { IfOk result (λ v. D.abstraction.dims v ≡ dims) }
 {
     match found {
         None => D::empty(alloc, dims, 1),
@@ -43,14 +43,15 @@ impl<D: Backward> Task<'_, D> {
     /// At the assertion the seed comes last.
     fn join_seed(&self, point: usize, so_far: Joined<D>) -> Result<Joined<D>, AllocError>
         requires { point ≡ self.now.assertion →
-            IfThereHas D.meaning (D.meaning.dims self.now.seed) so_far.value }
+            IfThereHas D.abstraction (D.abstraction.dims self.now.seed) so_far.value }
         ensures joins { IfOk result (λ r. (e : Exactness) ×
-            JoinsSeed (dropping D.meaning D.retracing) (seed_at (task_view self.now) point)
+            JoinsSeed (dropping D.abstraction D.backward_abstraction)
+            (seed_at (task_view self.now) point)
             so_far.value e r.value ×
             (r.exactness ≡ worse so_far.exactness e)) }
-        ensures dims { (n : ℕ) → IfThereHas D.meaning n so_far.value →
-            (point ≡ self.now.assertion → D.meaning.dims self.now.seed ≡ n) →
-            IfOk result (λ r. IfThereHas D.meaning n r.value) }
+        ensures dims { (n : ℕ) → IfThereHas D.abstraction n so_far.value →
+            (point ≡ self.now.assertion → D.abstraction.dims self.now.seed ≡ n) →
+            IfOk result (λ r. IfThereHas D.abstraction n r.value) }
     {
         if point != self.assertion {
             return Ok(so_far);
@@ -67,13 +68,13 @@ impl<D: Backward> Task<'_, D> {
     /// The next value of the point, over the heads as they are: what its paths bring back, and last the seed; where
     /// there is none of both, it is empty.
     pub fn next(&self, point: usize, heads: &[D::Head]) -> Result<Found<D>, AllocError>
-        requires task { IsTask D.meaning self.now }
-        requires heads { AreHeads D.meaning self.now.forward.now heads.now }
+        requires task { IsTask D.abstraction self.now }
+        requires heads { AreHeads D.abstraction self.now.forward.now heads.now }
         requires point { point < length self.now.forward.now }
-        ensures next { IfOk result (λ r. IsNextAt (dropping D.meaning D.retracing)
+        ensures next { IfOk result (λ r. IsNextAt (dropping D.abstraction D.backward_abstraction)
             (task_view self.now) point heads.now r.exactness r.value) }
         ensures dims { (h : D.Head) → slice_get heads.now point ≡ Some h → IfOk result (λ r.
-            D.meaning.dims r.value ≡ D.meaning.head_dims h) }
+            D.abstraction.dims r.value ≡ D.abstraction.head_dims h) }
     {
         let forward = &self.forward[point];
         let joined = come_from_all(self.alloc, &self.sources[point], heads, forward)?;

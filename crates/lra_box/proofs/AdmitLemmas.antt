@@ -4,10 +4,10 @@ use Rattle.std.specs.Prelude.{slice_get, slice_set, slice_index_or}
 use Rattle.std.proofs.Math.ListN.{length-set}
 use Rattle.std.proofs.lemmas.Option.{same_Some}
 use Rattle.lra_box.specs.declared.interval.Interval.{Interval}
-use Rattle.lra_box.specs.Bounds.{InInterval, InBounds, open_interval, EndsInRange, IsSound}
-use Rattle.lra_box.specs.Content.{Content, BoxFormed, BoundsFit, BoundsSound}
+use Rattle.lra_box.specs.Bounds.{InInterval, InBounds, full_interval, EndsInRange, IsValidInterval}
+use Rattle.lra_box.specs.Content.{BoxContent, WellFormedBox, BoundsFit, BoundsAreValid}
 use Rattle.lra_box.specs.Tables.{has_bounds, on_bounds, joined_interval, bound_at, admitting, admitted}
-use Rattle.lra_box.specs.Meaning.{BoxHas}
+use Rattle.lra_box.specs.Abstraction.{BoxGamma}
 use Rattle.lra_box.proofs.BoxLemmas.{low_left, low_right, high_left, high_right, in_set}
 use Rattle.lra_box.proofs.SoundLemmas.{at_sound, set_sound, some_store, interval_sound}
 use Rattle.lra_box.proofs.StepLemmas.{has_length}
@@ -25,13 +25,13 @@ admitting_fit : (n x : ℕ) (i : Interval) (b : Option (List Interval)) → Boun
 admitting_fit n x i None f = tt
 admitting_fit n x i (Some is) f = length-set {A = Interval} is x _ ∙ f
 
-admitting_sound : (x : ℕ) (i : Interval) (b : Option (List Interval)) → EndsInRange i → BoundsSound b →
-    BoundsSound (on_bounds (admitting x i) b)
+admitting_sound : (x : ℕ) (i : Interval) (b : Option (List Interval)) → EndsInRange i → BoundsAreValid b →
+    BoundsAreValid (on_bounds (admitting x i) b)
 admitting_sound x i None e h = tt
 admitting_sound x i (Some is) e h =
-    set_sound is x _ h (interval_sound (slice_index_or is x open_interval) i (at_sound is x h) e)
+    set_sound is x _ h (interval_sound (slice_index_or is x full_interval) i (at_sound is x h) e)
 
-pub admitted_formed : (x : ℕ) (i : Interval) (b : Content) → EndsInRange i → BoxFormed b → BoxFormed (admitted x i b)
+pub admitted_formed : (x : ℕ) (i : Interval) (b : BoxContent) → EndsInRange i → WellFormedBox b → WellFormedBox (admitted x i b)
 admitted_formed x i b e h = (admitting_fit b.dims x i b.bounds h.0, admitting_sound x i b.bounds e h.1)
 
 in_admitting : (is : List Interval) (s : List ℤ) (x : ℕ) (i : Interval) → InBounds is s → InBounds (admitting x i is) s
@@ -49,25 +49,25 @@ stays_in x i (Some is) s h = in_admitting is s x i h
 comes_in : (x : ℕ) (i : Interval) (b : Option (List Interval)) (s : List ℤ) (z : ℤ) → has_bounds b s →
     InInterval i z → has_bounds (on_bounds (admitting x i) b) (slice_set s x z)
 comes_in x i None s z h k = h
-comes_in x i (Some is) s z h k = in_set is s x _ z h (joined_second (slice_index_or is x open_interval) i z k)
+comes_in x i (Some is) s z h k = in_set is s x _ z h (joined_second (slice_index_or is x full_interval) i z k)
 
 -- the box keeps its stores
-pub admitted_stays : (x : ℕ) (i : Interval) (b : Content) (s : List ℤ) → BoxHas b s → BoxHas (admitted x i b) s
+pub admitted_stays : (x : ℕ) (i : Interval) (b : BoxContent) (s : List ℤ) → BoxGamma b s → BoxGamma (admitted x i b) s
 admitted_stays x i b s h = (h.0, stays_in x i b.bounds s h.1)
 
 -- and has each of them with a number of the interval at the place
-pub admitted_comes : (x : ℕ) (i : Interval) (b : Content) (s : List ℤ) (z : ℤ) → BoxHas b s → InInterval i z →
-    BoxHas (admitted x i b) (slice_set s x z)
+pub admitted_comes : (x : ℕ) (i : Interval) (b : BoxContent) (s : List ℤ) (z : ℤ) → BoxGamma b s → InInterval i z →
+    BoxGamma (admitted x i b) (slice_set s x z)
 admitted_comes x i b s z h k = (length-set {A = ℤ} s x z ∙ h.0, comes_in x i b.bounds s z h.1 k)
 
 -- the bounds of a place ---------------------------------------------------------------------------
 
 -- there are none exactly where there is no store
-pub bound_empty : (x : ℕ) (b : Content) → BoxFormed b → (bound_at x b.bounds ≡ None) ↔ ((s : List ℤ) → ¬ BoxHas b s)
+pub bound_empty : (x : ℕ) (b : BoxContent) → WellFormedBox b → (bound_at x b.bounds ≡ None) ↔ ((s : List ℤ) → ¬ BoxGamma b s)
 bound_empty x b h = by_bounds b.bounds h.0 h.1
   where
-    by_bounds : (o : Option (List Interval)) → BoundsFit b.dims o → BoundsSound o
-        → (bound_at x o ≡ None) ↔ ((s : List ℤ) → ¬ BoxHas (record b { bounds = o }) s)
+    by_bounds : (o : Option (List Interval)) → BoundsFit b.dims o → BoundsAreValid o
+        → (bound_at x o ≡ None) ↔ ((s : List ℤ) → ¬ BoxGamma (record b { bounds = o }) s)
     by_bounds None f g = (λ e s k. k.1, λ none. refl)
     by_bounds (Some is) f g = (
       λ e. absurd (cc),
@@ -75,7 +75,7 @@ bound_empty x b h = by_bounds b.bounds h.0 h.1
     )
 
 in_place : (is : List Interval) (s : List ℤ) (x : ℕ) (z : ℤ) → InBounds is s → slice_get s x ≡ Some z →
-    InInterval (slice_index_or is x open_interval) z
+    InInterval (slice_index_or is x full_interval) z
 in_place [] [] x z h e = (tt, tt)
 in_place [] (v ∷ s) x z h e = absurd h
 in_place (j ∷ js) [] x z h e = absurd h

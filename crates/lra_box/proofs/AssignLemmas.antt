@@ -10,7 +10,7 @@ use Rattle.lra_domain.specs.Bounds.{AtMost}
 use Rattle.lra_box.specs.declared.interval.Interval.{Interval}
 use Rattle.lra_box.specs.declared.interval.Side.TheVariants.{Low, High}
 use Rattle.lra_box.specs.declared.ends.Bound.{Bound}
-use Rattle.lra_box.specs.Bounds.{InInterval, AllSound, end_sum, SumPasses, IsBound, open_interval}
+use Rattle.lra_box.specs.Bounds.{InInterval, AllValidIntervals, end_sum, SumPasses, IsBound, full_interval}
 use Rattle.lra_box.specs.Tables.{LowWithin}
 use Rattle.lra_box.specs.Answers.{AssignedTo}
 use Rattle.lra_box.specs.Sums.{end_sum_holds}
@@ -20,7 +20,7 @@ use Rattle.lra_box.proofs.ExtremeLemmas.{end_is_extreme}
 use Rattle.lra_box.specs.Covering.{intervals_within_refl, low_within_refl, high_within_refl}
 use Rattle.lra_box.proofs.WithinLemmas.{set_within}
 
-read_set : (is : List Interval) (k : ℕ) (i : Interval) → k < length is → slice_index_or (slice_set is k i) k open_interval ≡ i
+read_set : (is : List Interval) (k : ℕ) (i : Interval) → k < length is → slice_index_or (slice_set is k i) k full_interval ≡ i
 read_set [] k i h = absurd (omega arith)
 read_set (j ∷ js) zero i h = refl
 read_set (j ∷ js) (suc k) i h = read_set js k i (omega arith)
@@ -44,7 +44,8 @@ pub high_covers : (table : Option ℤ) (passes : Type 0) (b : Bound) (e : Exactn
 high_covers table passes b Exact e is = rw (is.exact e) (high_within_refl table)
 high_covers table passes b Flagged e is = rw (is.flagged e).1 tt
 
-pub assigned_to : (is : List Interval) (x : ℕ) (f : Form) (low high : Bound) (e : Exactness) → x < length is → length f.coefficients ≡ length is → AllSound is
+pub assigned_to : (is : List Interval) (x : ℕ) (f : Form) (low high : Bound) (e : Exactness) → x < length is → length f.coefficients ≡ length is →
+    AllValidIntervals is
     → IsBound (end_sum Low f.constant f.coefficients is) (SumPasses Low f.constant f.coefficients is) low
     → IsBound (end_sum High f.constant f.coefficients is) (SumPasses High f.constant f.coefficients is) high
     → IfSome low.value InRange → IfSome high.value InRange → Worse low.exactness high.exactness e
@@ -56,7 +57,7 @@ assigned_to is x f low high e place width sound is_low is_high low_in high_in wo
       bound_holds Low _ _ low _ is_low (end_sum_holds Low f.constant f.coefficients is s.0 s.1 width),
       bound_holds High _ _ high _ is_high (end_sum_holds High f.constant f.coefficients is s.0 s.1 width),
     ) in
-    let is_new : slice_index_or (slice_set is x new) x open_interval ≡ new = read_set is x new place in
+    let is_new : slice_index_or (slice_set is x new) x full_interval ≡ new = read_set is x new place in
     record {
       exact = λ k. let w = worse.exact k in rw (is_low.exact w.0, is_high.exact w.1) refl;
       extremes = λ k. let w = worse.exact k in rw (is_new, is_low.exact w.0, is_high.exact w.1) (end_is_extreme Low f is sound width, end_is_extreme High f is sound width);

@@ -11,8 +11,8 @@ use Rattle.lra_domain.specs.Bounds.{AtMost, finite, greater, stable, lesser_low}
 use Rattle.lra_box.specs.declared.interval.Interval.{Interval}
 use Rattle.lra_box.specs.declared.interval.Side.{Side}
 use Rattle.lra_box.specs.declared.interval.Side.TheVariants.{Low, High}
-use Rattle.lra_box.specs.Bounds.{BoundHolds, InBounds, open_interval}
-use Rattle.lra_box.specs.Content.{Content, BoundsFit}
+use Rattle.lra_box.specs.Bounds.{BoundHolds, InBounds, full_interval}
+use Rattle.lra_box.specs.Content.{BoxContent, BoundsFit}
 use Rattle.lra_box.specs.Tables.{has_bounds, on_bounds, joined_intervals, joined_bounds, widened_low, widened_intervals, widened_bounds, grown_bounds, LowWithin}
 use Rattle.lra_box.specs.Tables.{IntervalsWithin, BoundsWithin, finite_bounds, rank_number, rank_of}
 use Rattle.lra_box.proofs.BoxLemmas.{in_joined_left, in_joined_right, in_set}
@@ -120,7 +120,7 @@ pub finite_bound : (is : List Interval) → finite_bounds is ≤ 2 * length is
 finite_bound [] = omega arith
 finite_bound (i ∷ is) = omega (arith, finite_few i.low, finite_few i.high, finite_bound is)
 
-pub rank_fits : (b : Content) → b.dims ≤ 2 ^ 30 → BoundsFit b.dims b.bounds → RankFits (rank_of b)
+pub rank_fits : (b : BoxContent) → b.dims ≤ 2 ^ 30 → BoundsFit b.dims b.bounds → RankFits (rank_of b)
 rank_fits b few fit = record {
   fits_first = omega arith;
   fits_second = omega arith;
@@ -191,6 +191,6 @@ joined_same (Some ks) None same is js e f = ap length (same_Some is ks (sym e) �
 joined_same (Some ks) (Some ls) same is js e f =
     sym (ap length (sym (same_Some _ js f)) ∙ length_joined ks ls (same ks ls refl refl) ∙ ap length (same_Some ks is e))
 
-pub has_forgotten : (x : ℕ) (b : Option (List Interval)) (s : List ℤ) (v : ℤ) → has_bounds b s → has_bounds (on_bounds (λ is. slice_set is x open_interval) b) (slice_set s x v)
+pub has_forgotten : (x : ℕ) (b : Option (List Interval)) (s : List ℤ) (v : ℤ) → has_bounds b s → has_bounds (on_bounds (λ is. slice_set is x full_interval) b) (slice_set s x v)
 has_forgotten x None s v h = h
-has_forgotten x (Some is) s v h = in_set is s x open_interval v h (tt, tt)
+has_forgotten x (Some is) s v h = in_set is s x full_interval v h (tt, tt)

@@ -3,20 +3,20 @@ use Rattle.std.proofs.Common.{◌≡◌, ℤ, pos, negsuc, [], ◌∷◌, None, 
 use Rattle.lra_linear_spec.specs.declared.ConKind.TheVariants.{Ge, Eq}
 use Rattle.lra_domain.specs.declared.Mode.TheVariants.{Widen}
 use Rattle.lra_box.specs.declared.interval.Interval.{Interval}
-use Rattle.lra_box.specs.Bounds.{open_interval, form}
+use Rattle.lra_box.specs.Bounds.{full_interval, form}
 use Rattle.lra_box.specs.Refine.{tested}
-use Rattle.lra_box.specs.Tables.{assigned, grown_bounds, joined_bounds}
+use Rattle.lra_box.specs.Tables.{assigned_bounds, grown_bounds, joined_bounds}
 
 abbrev between : ℤ → ℤ → Interval
 between l h = record { low = Some l; high = Some h }
 
 -- x - y of x in 0..3 and y in 1..5 lies in -5..2
-assign_example : assigned 0 (form (pos 0) (pos 1 ∷ negsuc 0 ∷ []))
+assign_example : assigned_bounds 0 (form (pos 0) (pos 1 ∷ negsuc 0 ∷ []))
     (between (pos 0) (pos 3) ∷ between (pos 1) (pos 5) ∷ []) ≡ between (negsuc 4) (pos 2) ∷ between (pos 1) (pos 5) ∷ []
 assign_example = refl
 
 -- 2x - 7 >= 0 makes x at least 4
-test_example : tested Ge (form (negsuc 6) (pos 2 ∷ [])) (Some (open_interval ∷ [])) ≡
+test_example : tested Ge (form (negsuc 6) (pos 2 ∷ [])) (Some (full_interval ∷ [])) ≡
     Some (record { low = Some (pos 4); high = None } ∷ [])
 test_example = refl
 
@@ -29,7 +29,7 @@ crossed_example : tested Eq (form (negsuc 0) (pos 1 ∷ [])) (Some (between (pos
 crossed_example = refl
 
 -- where no variable occurs the constant decides
-constant_example : tested Ge (form (negsuc 0) (pos 0 ∷ [])) (Some (open_interval ∷ [])) ≡ None
+constant_example : tested Ge (form (negsuc 0) (pos 0 ∷ [])) (Some (full_interval ∷ [])) ≡ None
 constant_example = refl
 
 -- 0..0 widened by 1..1 loses its upper bound

@@ -5,7 +5,7 @@ use Rattle.lra_linear_spec.specs.Range.{InRange}
 use Rattle.lra_box.specs.declared.interval.Interval.{Interval}
 use Rattle.lra_box.specs.declared.interval.Side.{Side}
 use Rattle.lra_box.specs.declared.interval.Side.TheVariants.{Low, High}
-use Rattle.lra_box.specs.Bounds.{ProductPasses, SumPasses, TimesPasses, end_product, end_sum, times}
+use Rattle.lra_box.specs.Bounds.{EndProductPasses, SumPasses, TimesPasses, end_product, end_sum, times}
 use Rattle.lra_box.specs.Ends.{HasProduct, IsEndFrom, PlusEnd}
 
 -- no product is left
@@ -14,7 +14,7 @@ ends_here side a is = inl (λ x. x, refl)
 
 -- what passes behind a product that fits
 passes_on : (side : Side) (a b c p : ℤ) (i : Interval) (cs : List ℤ) (is : List Interval) → end_product side c i ≡ Some p
-    → ¬ ProductPasses side c i → b ≡ a +ℤ p → InRange b → SumPasses side a (c ∷ cs) (i ∷ is) → SumPasses side b cs is
+    → ¬ EndProductPasses side c i → b ≡ a +ℤ p → InRange b → SumPasses side a (c ∷ cs) (i ∷ is) → SumPasses side b cs is
 passes_on side a b c p i cs is product fits sum inside (inl x) = absurd (fits x)
 passes_on side a b c p i cs is product fits sum inside (inr x) =
     elim (subst (λ (o : Option ℤ). IsSomeAnd o (λ q. (¬ InRange (a +ℤ q)) ⊎ SumPasses side (a +ℤ q) cs is)) product x) [
@@ -65,7 +65,7 @@ times_fit : (c : ℤ) (o : Option ℤ) → times c o ≡ None → ¬ TimesPasses
 times_fit c None e passes = passes
 times_fit c (Some b) e passes = let wrong : ⊥ = cc in wrong
 
-pub absent_fits : (side : Side) (c : ℤ) (i : Interval) → end_product side c i ≡ None → ¬ ProductPasses side c i
+pub absent_fits : (side : Side) (c : ℤ) (i : Interval) → end_product side c i ≡ None → ¬ EndProductPasses side c i
 absent_fits side (pos zero) i e passes = passes
 absent_fits Low (pos (suc n)) i e passes = times_fit (pos (suc n)) i.low e passes
 absent_fits High (pos (suc n)) i e passes = times_fit (pos (suc n)) i.high e passes

@@ -9,7 +9,7 @@ use Rattle.lra_linear_forms.specs.Form.{Form}
 use Rattle.lra_box.specs.declared.interval.Interval.{Interval}
 use Rattle.lra_box.specs.declared.interval.Side.{Side}
 use Rattle.lra_box.specs.declared.interval.Side.TheVariants.{Low, High}
-use Rattle.lra_box.specs.Bounds.{BoundHolds, InInterval, InBounds, crossed, crossed_ends, AllSound, times, end_product, end_sum, IsExtreme}
+use Rattle.lra_box.specs.Bounds.{BoundHolds, InInterval, InBounds, crossed, crossed_ends, AllValidIntervals, times, end_product, end_sum, IsExtreme}
 use Rattle.lra_box.specs.Sums.{end_sum_holds}
 use Rattle.lra_box.proofs.SoundLemmas.{some_number, some_store}
 
@@ -117,7 +117,7 @@ product_endless High (negsuc n) i b h e =
     (x.0, (x.1.0, λ k. omega (arith, ints, clamps)))
 
 -- the sum's end is a value of the form
-sum_reached : (side : Side) (a : ℤ) (cs : List ℤ) (is : List Interval) (b : ℤ) → AllSound is → length cs ≡ length is → end_sum side a cs is ≡ Some b → (s : List ℤ) ×
+sum_reached : (side : Side) (a : ℤ) (cs : List ℤ) (is : List Interval) (b : ℤ) → AllValidIntervals is → length cs ≡ length is → end_sum side a cs is ≡ Some b → (s : List ℤ) ×
     (InBounds is s × (a +ℤ product cs s ≡ b))
 sum_reached side a [] [] b h l e = let k = same_Some a b e in ([], (tt, omega (arith, ints)))
 sum_reached side a [] (i ∷ is) b h l e = absurd (omega arith)
@@ -144,7 +144,7 @@ carried Low a p q r b e h = λ k. h (omega (arith, ints))
 carried High a p q r b e h = λ k. h (omega (arith, ints))
 
 -- without an end there is a value beyond each number
-sum_endless : (side : Side) (a : ℤ) (cs : List ℤ) (is : List Interval) (b : ℤ) → AllSound is → length cs ≡ length is → end_sum side a cs is ≡ None → (s : List ℤ) ×
+sum_endless : (side : Side) (a : ℤ) (cs : List ℤ) (is : List Interval) (b : ℤ) → AllValidIntervals is → length cs ≡ length is → end_sum side a cs is ≡ None → (s : List ℤ) ×
     (InBounds is s × (¬ BoundHolds side (Some b) (a +ℤ product cs s)))
 sum_endless side a [] is b h l e = cc
 sum_endless side a (c ∷ cs) [] b h l e = absurd (omega arith)
@@ -162,7 +162,7 @@ sum_endless side a (c ∷ cs) (i ∷ is) b h l e = by_product (λ p. sum_endless
         (x.0 ∷ rest.0, ((x.1.0, rest.1.0), carried side a p (c *ℤ x.0) (product cs rest.0) b x.1.1 rest.1.1))
 
 -- the end of a form's values over intervals in order is the least, or the greatest
-pub end_is_extreme : (side : Side) (e : Form) (is : List Interval) → AllSound is → length e.coefficients ≡ length is → IsExtreme side is e (end_sum side e.constant e.coefficients is)
+pub end_is_extreme : (side : Side) (e : Form) (is : List Interval) → AllValidIntervals is → length e.coefficients ≡ length is → IsExtreme side is e (end_sum side e.constant e.coefficients is)
 end_is_extreme side e is h l = record {
   bounds = λ s k. end_sum_holds side e.constant e.coefficients is s k l;
   reached = λ b o. let r = sum_reached side e.constant e.coefficients is b h l o in (r.0, r.1.0, r.1.1);

@@ -21,7 +21,7 @@ use Rattle.lra_box.specs.declared.interval.Side.TheVariants.{Low, High}
 use Rattle.lra_box.specs.Bounds.{BoundHolds, InInterval, InBounds}
 use Rattle.lra_box.specs.Content.{BoundsFit}
 use Rattle.lra_box.specs.Tables.{has_bounds}
-use Rattle.lra_box.specs.Parts.{bound_row, is_single, is_single_ends, low_rows, high_rows, equal_rows, unequal_rows, box_parts}
+use Rattle.lra_box.specs.Parts.{bound_row, is_single, is_single_ends, low_rows, high_rows, box_equalities, box_inequalities, box_parts}
 
 -- ---- what goes into the row
 
@@ -148,7 +148,7 @@ drop_done [] = refl
 drop_done (x ∷ xs) = drop_done xs
 
 from_place : (n k : ℕ) (is : List Interval) (s : List ℤ) → k + length is ≡ n → length s ≡ n
-    → (AllHold Eq (equal_rows n k is) s × AllHold Ge (unequal_rows n k is) s) ↔ InBounds is (drop k s)
+    → (AllHold Eq (box_equalities n k is) s × AllHold Ge (box_inequalities n k is) s) ↔ InBounds is (drop k s)
 from_place n k [] s e l =
     let done : k ≡ length s = omega arith in
     let none : drop k s ≡ [] = rw done (drop_done s) in
@@ -156,8 +156,8 @@ from_place n k [] s e l =
 from_place n k (i ∷ is) s e l =
     let place : k < length s = omega arith in
     let next : drop k s ≡ slice_index_or s k (pos 0) ∷ drop (suc k) s = drop-cons s k (pos 0) place in
-    let a = hold_append Eq (cond (is_single i) (low_rows n k i.low) []) (equal_rows n (suc k) is) s in
-    let b = hold_append Ge (cond (is_single i) [] (low_rows n k i.low ++ high_rows n k i.high)) (unequal_rows n (suc k) is) s in
+    let a = hold_append Eq (cond (is_single i) (low_rows n k i.low) []) (box_equalities n (suc k) is) s in
+    let b = hold_append Ge (cond (is_single i) [] (low_rows n k i.low ++ high_rows n k i.high)) (box_inequalities n (suc k) is) s in
     let one = interval_holds n k i s (omega arith) l in
     let rest = from_place n (suc k) is s (omega arith) l in
     rw next (
@@ -169,7 +169,7 @@ from_place n k (i ∷ is) s e l =
 pub parts_mean : (n : ℕ) (b : Option (List Interval)) (s : List ℤ) → BoundsFit n b → length s ≡ n → has_bounds b s ↔ SomePartHolds (box_parts n b) s
 parts_mean n None s f l = (λ h. h, λ h. h)
 parts_mean n (Some is) s f l =
-    let e = rows_hold (equal_rows n 0 is) (unequal_rows n 0 is) s in
+    let e = rows_hold (box_equalities n 0 is) (box_inequalities n 0 is) s in
     let g = from_place n 0 is s (omega arith) l in
     (λ h. inl (e.1 (g.1 h)), λ h. g.0 (e.0 (only h)))
   where

@@ -7,7 +7,7 @@ use Rattle.std.proofs.lemmas.Int.{ints, clamps}
 use Rattle.std.proofs.Math.Nat.{le-div_iff_mul-le, div-lt_iff_lt-mul, mul_comm}
 use Rattle.lra_box.specs.declared.interval.Interval.{Interval}
 use Rattle.lra_box.specs.declared.interval.Side.TheVariants.{Low, High}
-use Rattle.lra_box.specs.Bounds.{open_interval, BoundHolds, InInterval, InBounds}
+use Rattle.lra_box.specs.Bounds.{full_interval, BoundHolds, InInterval, InBounds}
 use Rattle.lra_box.specs.Sums.{end_sum_holds}
 use Rattle.lra_box.proofs.BoxLemmas.{in_length}
 use Rattle.std.proofs.Math.ListN.{length-set}
@@ -76,7 +76,7 @@ set_back [] k v w e h = absurd (omega arith)
 set_back (x ∷ xs) zero v w e h = ap (λ y. y ∷ xs) e
 set_back (x ∷ xs) (suc k) v w e h = ap (λ ys. x ∷ ys) (set_back xs k v w e (omega arith))
 
-pub in_at : (is : List Interval) (s : List ℤ) (k : ℕ) → InBounds is s → k < length is → InInterval (slice_index_or is k open_interval) (slice_index_or s k (pos 0))
+pub in_at : (is : List Interval) (s : List ℤ) (k : ℕ) → InBounds is s → k < length is → InInterval (slice_index_or is k full_interval) (slice_index_or s k (pos 0))
 in_at [] s k h p = absurd (omega arith)
 in_at (i ∷ is) [] k h p = absurd h
 in_at (i ∷ is) (x ∷ xs) zero h p = h.0
@@ -89,12 +89,12 @@ either_holds o p r (inr e) h = rw e h
 -- the tightened interval of a place keeps the store's number there, where the form passes
 pub place_holds : (a : ℤ) (cs : List ℤ) (k : ℕ) (is : List Interval) (s : List ℤ) (o : Option ℤ) → k < length cs → length cs ≡ length is → InBounds is s
     → pos 0 ≤ℤ (a +ℤ product cs s) → (o ≡ None) ⊎ (o ≡ others_most a cs k is)
-    → InInterval (tightened (slice_index_or cs k (pos 0)) o (slice_index_or is k open_interval)) (slice_index_or s k (pos 0))
+    → InInterval (tightened (slice_index_or cs k (pos 0)) o (slice_index_or is k full_interval)) (slice_index_or s k (pos 0))
 place_holds a cs k is s o h e inside passes either =
     let long : length s ≡ length is = in_length is s inside in
     let set_long : length (slice_set cs k (pos 0)) ≡ length is = length-set {A = ℤ} cs k (pos 0) ∙ e in
     let apart = product_apart cs s k h (omega arith) in
-    tightened_holds (slice_index_or cs k (pos 0)) o (slice_index_or is k open_interval) (slice_index_or s k (pos 0)) (a +ℤ product (slice_set cs k (pos 0)) s)
+    tightened_holds (slice_index_or cs k (pos 0)) o (slice_index_or is k full_interval) (slice_index_or s k (pos 0)) (a +ℤ product (slice_set cs k (pos 0)) s)
     (in_at is s k inside (omega arith))
     (either_holds o _ _ either (end_sum_holds High a (slice_set cs k (pos 0)) is s inside set_long))
     (omega (arith, ints))

@@ -7,7 +7,7 @@ use Rattle.lra_domain.specs.declared.Exactness.{Exactness}
 use Rattle.lra_domain.specs.declared.Exactness.TheVariants.{Exact, Flagged}
 use Rattle.lra_box.specs.declared.interval.Interval.{Interval}
 use Rattle.lra_box.specs.declared.interval.Side.TheVariants.{High}
-use Rattle.lra_box.specs.Bounds.{open_interval, crossed, InInterval, InBounds, EndsInRange, AllSound, SumPasses, IsBound}
+use Rattle.lra_box.specs.Bounds.{full_interval, crossed, InInterval, InBounds, EndsInRange, AllValidIntervals, SumPasses, IsBound}
 use Rattle.lra_box.specs.declared.ends.Bound.{Bound}
 use Rattle.lra_box.specs.Tables.{BoundsWithin, IntervalWithin}
 use Rattle.lra_box.specs.Answers.{TestedTo}
@@ -20,7 +20,7 @@ use Rattle.lra_box.proofs.MonotoneLemmas.{tightened_in, put_within, refine_place
 
 -- a place tightened by a computed bound of the others
 pub tight_of : (a : ℤ) (cs : List ℤ) (k : ℕ) (is : List Interval) (m : Bound) (i : Interval) → IsBound (others_most a cs k is) (SumPasses High a (slice_set cs k (pos 0)) is) m
-    → slice_index_or cs k (pos 0) ≢ pos 0 → i ≡ tightened (slice_index_or cs k (pos 0)) m.value (slice_index_or is k open_interval) → EndsInRange i → TightAt a cs k is i m.exactness
+    → slice_index_or cs k (pos 0) ≢ pos 0 → i ≡ tightened (slice_index_or cs k (pos 0)) m.value (slice_index_or is k full_interval) → EndsInRange i → TightAt a cs k is i m.exactness
 tight_of a cs k is m i bound occurs same range = record {
   exact = λ e. rw (← bound.exact e) same;
   flagged = λ e. (occurs, (bound.flagged e).0);
@@ -37,7 +37,7 @@ pub record RefineState (a : ℤ) (cs : List ℤ) (k : ℕ) (start is : List Inte
   pub flagged : e ≡ Flagged → RefinePasses a cs k (Some start)
   pub covers : BoundsWithin (refined a cs k (Some start)) (Some is)
   pub stores : (s : List ℤ) → InBounds start s → pos 0 ≤ℤ (a +ℤ product cs s) → InBounds is s
-  pub sound : AllSound is
+  pub sound : AllValidIntervals is
 
 set_read : (s : List ℤ) (k : ℕ) → slice_set s k (slice_index_or s k (pos 0)) ≡ s
 set_read [] k = refl
@@ -71,9 +71,9 @@ module _ (a : ℤ) (cs : List ℤ) (k : ℕ) (start is : List Interval) (i : Int
       same : (j : Interval) → IntervalWithin j j
       same j = (low_within_refl j.low, high_within_refl j.high)
 
-      by_either : (o : Option ℤ) → (o ≡ None) ⊎ (o ≡ others_most a cs k is) → IntervalWithin (place_refined a cs k is) (tightened (slice_index_or cs k (pos 0)) o (slice_index_or is k open_interval))
-      by_either o (inl e) = rw e (tightened_in (slice_index_or cs k (pos 0)) (others_most a cs k is) (slice_index_or is k open_interval) (slice_index_or is k open_interval)
-          (same (slice_index_or is k open_interval)))
+      by_either : (o : Option ℤ) → (o ≡ None) ⊎ (o ≡ others_most a cs k is) → IntervalWithin (place_refined a cs k is) (tightened (slice_index_or cs k (pos 0)) o (slice_index_or is k full_interval))
+      by_either o (inl e) = rw e (tightened_in (slice_index_or cs k (pos 0)) (others_most a cs k is) (slice_index_or is k full_interval) (slice_index_or is k full_interval)
+          (same (slice_index_or is k full_interval)))
       by_either o (inr e) = rw e (same (place_refined a cs k is))
 
   covered : BoundsWithin (refined a cs (suc k) (Some start)) (cond (crossed i) None (Some (slice_set is k i)))
@@ -121,7 +121,7 @@ refine_ends a cs start is e long state = record {
 }
 
 -- no place done yet
-pub refine_starts : (a : ℤ) (cs : List ℤ) (start : List Interval) → AllSound start → RefineState a cs 0 start start Exact
+pub refine_starts : (a : ℤ) (cs : List ℤ) (start : List Interval) → AllValidIntervals start → RefineState a cs 0 start start Exact
 refine_starts a cs start sound = record {
   exact = λ e. refl;
   flagged = λ e. cc;

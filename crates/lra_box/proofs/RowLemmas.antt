@@ -21,7 +21,7 @@ use Rattle.lra_linear_spec.proofs.Membership.{contains_cases, contains_head, con
 use Rattle.lra_linear_spec.proofs.Products.{entry_set_other, entry_set_same}
 use Rattle.lra_box.specs.declared.interval.Interval.{Interval}
 use Rattle.lra_box.specs.ExactRows.{IsEqualityRow, IsInequalityRow, IsOfEnd}
-use Rattle.lra_box.specs.Parts.{bound_row, equal_rows, high_rows, is_single, low_rows, unequal_rows}
+use Rattle.lra_box.specs.Parts.{bound_row, box_equalities, high_rows, is_single, low_rows, box_inequalities}
 
 -- ---- the entries of a bound's row
 
@@ -194,20 +194,20 @@ place_later : (Q : ℕ → Interval → Type 0) (k : ℕ) (i : Interval) (is : L
     → SomePlace Q k (i ∷ is)
 place_later Q k i is w = (suc w.0, w.1, w.2, subst (λ (m : ℕ). Q m w.1) (omega arith) w.3)
 
-of_equals : (n k : ℕ) (is : List Interval) (r : List ℤ) → Contains (equal_rows n k is) r
+of_equals : (n k : ℕ) (is : List Interval) (r : List ℤ) → Contains (box_equalities n k is) r
     → SomePlace (EqualAt n r) k is
 of_equals n k [] r c = absurd (contains_none r c)
 of_equals n k (i ∷ is) r c =
-    elim (Contains-append_cases (own_equal n k (is_single i) i) (equal_rows n (suc k) is) r c) [
+    elim (Contains-append_cases (own_equal n k (is_single i) i) (box_equalities n (suc k) is) r c) [
       | inl d ↦ place_here (EqualAt n r) k i is (of_equal n k (is_single i) i r d)
       | inr d ↦ place_later (EqualAt n r) k i is (of_equals n (suc k) is r d)
     ]
 
-of_unequals : (n k : ℕ) (is : List Interval) (r : List ℤ) → Contains (unequal_rows n k is) r
+of_unequals : (n k : ℕ) (is : List Interval) (r : List ℤ) → Contains (box_inequalities n k is) r
     → SomePlace (UnequalAt n r) k is
 of_unequals n k [] r c = absurd (contains_none r c)
 of_unequals n k (i ∷ is) r c =
-    elim (Contains-append_cases (own_unequal n k (is_single i) i) (unequal_rows n (suc k) is) r c) [
+    elim (Contains-append_cases (own_unequal n k (is_single i) i) (box_inequalities n (suc k) is) r c) [
       | inl d ↦ place_here (UnequalAt n r) k i is (of_unequal n k (is_single i) i r d)
       | inr d ↦ place_later (UnequalAt n r) k i is (of_unequals n (suc k) is r d)
     ]
@@ -224,22 +224,22 @@ no_place : (Q : ℕ → Interval → Type 0) (k : ℕ) → SomePlace Q k [] → 
 no_place Q k (p, i, there, q) = let wrong : ⊥ = cc in wrong
 
 has_equals : (n k : ℕ) (is : List Interval) (r : List ℤ) → SomePlace (EqualAt n r) k is
-    → Contains (equal_rows n k is) r
+    → Contains (box_equalities n k is) r
 has_equals n k [] r w = absurd (no_place (EqualAt n r) k w)
 has_equals n k (i ∷ is) r w = elim (first_or_later (EqualAt n r) k i is w) [
-  | inl q ↦ Contains-append_left (own_equal n k (is_single i) i) (equal_rows n (suc k) is) r
+  | inl q ↦ Contains-append_left (own_equal n k (is_single i) i) (box_equalities n (suc k) is) r
       (has_equal n k (is_single i) i r q.0 q.1)
-  | inr q ↦ Contains-append_right (own_equal n k (is_single i) i) (equal_rows n (suc k) is) r
+  | inr q ↦ Contains-append_right (own_equal n k (is_single i) i) (box_equalities n (suc k) is) r
       (has_equals n (suc k) is r q)
 ]
 
 has_unequals : (n k : ℕ) (is : List Interval) (r : List ℤ) → SomePlace (UnequalAt n r) k is
-    → Contains (unequal_rows n k is) r
+    → Contains (box_inequalities n k is) r
 has_unequals n k [] r w = absurd (no_place (UnequalAt n r) k w)
 has_unequals n k (i ∷ is) r w = elim (first_or_later (UnequalAt n r) k i is w) [
-  | inl q ↦ Contains-append_left (own_unequal n k (is_single i) i) (unequal_rows n (suc k) is) r
+  | inl q ↦ Contains-append_left (own_unequal n k (is_single i) i) (box_inequalities n (suc k) is) r
       (has_unequal n k (is_single i) i r q.0 q.1)
-  | inr q ↦ Contains-append_right (own_unequal n k (is_single i) i) (unequal_rows n (suc k) is) r
+  | inr q ↦ Contains-append_right (own_unequal n k (is_single i) i) (box_inequalities n (suc k) is) r
       (has_unequals n (suc k) is r q)
 ]
 
@@ -262,10 +262,10 @@ own_ascends : (n k : ℕ) (t : Bool) (i : Interval) → k < n → Ascends inequa
 own_ascends n k true i h = tt
 own_ascends n k false i h = ends_ascend n k i.low i.high h
 
-pub unequal_ascend : (n k : ℕ) (is : List Interval) → k + length is ≡ n → Ascends inequality_cmp (unequal_rows n k is)
+pub unequal_ascend : (n k : ℕ) (is : List Interval) → k + length is ≡ n → Ascends inequality_cmp (box_inequalities n k is)
 unequal_ascend n k [] l = tt
 unequal_ascend n k (i ∷ is) l = ascends_append inequality_cmp (own_unequal n k (is_single i) i)
-    (unequal_rows n (suc k) is) (own_ascends n k (is_single i) i (omega (arith, l)))
+    (box_inequalities n (suc k) is) (own_ascends n k (is_single i) i (omega (arith, l)))
     (unequal_ascend n (suc k) is (omega (arith, l)))
     (λ x y c d. apart x y (of_unequal n k (is_single i) i x c) (of_unequals n (suc k) is y d))
   where
@@ -305,7 +305,7 @@ pivots_past k (i ∷ is) q c =
     ]
 
 -- a row of a later place is 0 up to this place's pivot
-later_zero : (n k : ℕ) (is : List Interval) (t : List ℤ) (j : ℕ) → Contains (equal_rows n (suc k) is) t
+later_zero : (n k : ℕ) (is : List Interval) (t : List ℤ) (j : ℕ) → Contains (box_equalities n (suc k) is) t
     → Before j (suc k) ⊎ (j ≡ suc k) → entry t j ≡ pos 0
 later_zero n k is t j c b = by_place (of_equals n (suc k) is t c)
   where
@@ -321,8 +321,8 @@ later_zero n k is t j c b = by_place (of_equals n (suc k) is t c)
         entry_elsewhere n (suc k + p) j (neg_ℤ l) (pos 1) g.0 (λ e. omega (arith, g.1, e))
 
 equal_step : (n k : ℕ) (t : Bool) (o : Option ℤ) (is : List Interval) → k < n
-    → IsEchelon (equal_rows n (suc k) is) (pivots_from (suc k) is)
-    → IsEchelon (cond t (low_rows n k o) [] ++ equal_rows n (suc k) is)
+    → IsEchelon (box_equalities n (suc k) is) (pivots_from (suc k) is)
+    → IsEchelon (cond t (low_rows n k o) [] ++ box_equalities n (suc k) is)
     (cond t (low_pivots k o) [] ++ pivots_from (suc k) is)
 equal_step n k false o is h e = e
 equal_step n k true None is h e = e
@@ -336,7 +336,7 @@ equal_step n k true (Some l) is h e = (
 )
 
 pub equal_echelon : (n k : ℕ) (is : List Interval) → k + length is ≡ n
-    → IsEchelon (equal_rows n k is) (pivots_from k is)
+    → IsEchelon (box_equalities n k is) (pivots_from k is)
 equal_echelon n k [] l = tt
 equal_echelon n k (i ∷ is) l = equal_step n k (is_single i) i.low is (omega (arith, l))
     (equal_echelon n (suc k) is (omega (arith, l)))
@@ -348,7 +348,7 @@ from_start Q p i =
     let same : 0 + p ≡ p = omega arith in
     (λ q. subst (λ (m : ℕ). Q m i) same q, λ q. subst (λ (m : ℕ). Q m i) (sym same) q)
 
-pub equal_exact : (n : ℕ) (is : List Interval) (r : List ℤ) → Contains (equal_rows n 0 is) r ↔ IsEqualityRow n is r
+pub equal_exact : (n : ℕ) (is : List Interval) (r : List ℤ) → Contains (box_equalities n 0 is) r ↔ IsEqualityRow n is r
 equal_exact n is r = (λ c. named (of_equals n 0 is r c), λ e. has_equals n 0 is r (placed e))
   where
     named : SomePlace (EqualAt n r) 0 is → IsEqualityRow n is r
@@ -373,7 +373,7 @@ equal_exact n is r = (λ c. named (of_equals n 0 is r c), λ e. has_equals n 0 i
     )
 
 pub unequal_exact : (n : ℕ) (is : List Interval) (r : List ℤ)
-    → Contains (unequal_rows n 0 is) r ↔ IsInequalityRow n is r
+    → Contains (box_inequalities n 0 is) r ↔ IsInequalityRow n is r
 unequal_exact n is r = (λ c. named (of_unequals n 0 is r c), λ e. has_unequals n 0 is r (placed e))
   where
     named : SomePlace (UnequalAt n r) 0 is → IsInequalityRow n is r

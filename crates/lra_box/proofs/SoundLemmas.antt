@@ -9,8 +9,8 @@ use Rattle.lra_domain.specs.declared.Mode.TheVariants.{Join, Widen, Limited, Tig
 use Rattle.lra_domain.specs.Bounds.{greater, stable, lesser_low}
 use Rattle.lra_box.specs.declared.interval.Interval.{Interval}
 use Rattle.lra_box.specs.declared.interval.Side.TheVariants.{Low, High}
-use Rattle.lra_box.specs.Bounds.{BoundHolds, InInterval, InBounds, open_interval, crossed, crossed_ends, EndsInRange, IsSound, AllSound}
-use Rattle.lra_box.specs.Content.{BoundsSound, seen}
+use Rattle.lra_box.specs.Bounds.{BoundHolds, InInterval, InBounds, full_interval, crossed, crossed_ends, EndsInRange, IsValidInterval, AllValidIntervals}
+use Rattle.lra_box.specs.Content.{BoundsAreValid, bounds_view}
 use Rattle.lra_box.specs.Tables.{has_bounds, joined_interval, joined_intervals, joined_bounds, widened_low, widened_intervals, widened_bounds, grown_bounds}
 use Rattle.lra_box.proofs.BoxLemmas.{low_left, high_left}
 use Rattle.lra_box.proofs.BoundLemmas.{widen_low_old, widen_high_old}
@@ -26,7 +26,7 @@ some_number i h = ends i.low i.high h
     ends (Some a) (Some b) h = (a, (omega (arith, ints), grind (arith, ints)))
 
 -- a box of intervals in order has a store
-pub some_store : (is : List Interval) → AllSound is → (s : List ℤ) × InBounds is s
+pub some_store : (is : List Interval) → AllValidIntervals is → (s : List ℤ) × InBounds is s
 some_store [] h = ([], tt)
 some_store (i ∷ is) h = let x = some_number i h.0.1 in let s = some_store is h.1 in (x.0 ∷ s.0, (x.1, s.1))
 
@@ -39,29 +39,29 @@ not_crossed i x h = ends i.low i.high h.0 h.1
     ends (Some a) None l h = refl
     ends (Some a) (Some b) l h = grind (arith, ints)
 
-pub open_sound : IsSound open_interval
+pub open_sound : IsValidInterval full_interval
 open_sound = ((tt, tt), refl)
 
-pub set_sound : (is : List Interval) (k : ℕ) (i : Interval) → AllSound is → IsSound i → AllSound (slice_set is k i)
+pub set_sound : (is : List Interval) (k : ℕ) (i : Interval) → AllValidIntervals is → IsValidInterval i → AllValidIntervals (slice_set is k i)
 set_sound [] k i h p = tt
 set_sound (j ∷ js) zero i h p = (p, h.1)
 set_sound (j ∷ js) (suc k) i h p = (h.0, set_sound js k i h.1 p)
 
-pub at_sound : (is : List Interval) (k : ℕ) → AllSound is → IsSound (slice_index_or is k open_interval)
+pub at_sound : (is : List Interval) (k : ℕ) → AllValidIntervals is → IsValidInterval (slice_index_or is k full_interval)
 at_sound [] k h = open_sound
 at_sound (i ∷ is) zero h = h.0
 at_sound (i ∷ is) (suc k) h = at_sound is k h.1
 
-pub take_sound : (n : ℕ) (is : List Interval) → AllSound is → AllSound (take n is)
+pub take_sound : (n : ℕ) (is : List Interval) → AllValidIntervals is → AllValidIntervals (take n is)
 take_sound zero is h = tt
 take_sound (suc n) [] h = tt
 take_sound (suc n) (i ∷ is) h = (h.0, take_sound n is h.1)
 
-pub open_all_sound : (n : ℕ) → AllSound (replicate n open_interval)
+pub open_all_sound : (n : ℕ) → AllValidIntervals (replicate n full_interval)
 open_all_sound zero = tt
 open_all_sound (suc n) = (open_sound, open_all_sound n)
 
-pub append_sound : (is js : List Interval) → AllSound is → AllSound js → AllSound (is ++ js)
+pub append_sound : (is js : List Interval) → AllValidIntervals is → AllValidIntervals js → AllValidIntervals (is ++ js)
 append_sound [] js h k = k
 append_sound (i ∷ is) js h k = (h.0, append_sound is js h.1 k)
 
@@ -76,14 +76,14 @@ high_range (Some a) None p q = tt
 high_range (Some a) (Some b) p q = grind (arith, ints, clamps)
 
 -- joined with an interval whose bounds lie in the range, a sound one stays sound
-pub interval_sound : (i j : Interval) → IsSound i → EndsInRange j → IsSound (joined_interval i j)
+pub interval_sound : (i j : Interval) → IsValidInterval i → EndsInRange j → IsValidInterval (joined_interval i j)
 interval_sound i j h k =
     let x = some_number i h.1 in (
       (low_range i.low j.low h.0.0 k.0, high_range i.high j.high h.0.1 k.1),
       not_crossed (joined_interval i j) x.0 (low_left i.low j.low x.0 x.1.0, high_left i.high j.high x.0 x.1.1),
     )
 
-joined_all_sound : (is js : List Interval) → AllSound is → AllSound js → AllSound (joined_intervals is js)
+joined_all_sound : (is js : List Interval) → AllValidIntervals is → AllValidIntervals js → AllValidIntervals (joined_intervals is js)
 joined_all_sound [] js h k = tt
 joined_all_sound (i ∷ is) [] h k = tt
 joined_all_sound (i ∷ is) (j ∷ js) h k = (interval_sound i j h.0 k.0.0, joined_all_sound is js h.1 k.1)
@@ -102,7 +102,7 @@ widen_high_range None b p = tt
 widen_high_range (Some a) None p = tt
 widen_high_range (Some a) (Some b) p = by_test (int_lt a b) a p
 
-widened_all_sound : (is js : List Interval) → AllSound is → AllSound (widened_intervals is js)
+widened_all_sound : (is js : List Interval) → AllValidIntervals is → AllValidIntervals (widened_intervals is js)
 widened_all_sound [] js h = tt
 widened_all_sound (i ∷ is) [] h = tt
 widened_all_sound (i ∷ is) (j ∷ js) h =
@@ -115,24 +115,24 @@ widened_all_sound (i ∷ is) (j ∷ js) h =
       widened_all_sound is js h.1,
     )
 
-pub joined_sound : (a b : Option (List Interval)) → BoundsSound a → BoundsSound b → BoundsSound (joined_bounds a b)
+pub joined_sound : (a b : Option (List Interval)) → BoundsAreValid a → BoundsAreValid b → BoundsAreValid (joined_bounds a b)
 joined_sound None b h k = k
 joined_sound (Some is) None h k = h
 joined_sound (Some is) (Some js) h k = joined_all_sound is js h k
 
-widened_sound : (a b : Option (List Interval)) → BoundsSound a → BoundsSound b → BoundsSound (widened_bounds a b)
+widened_sound : (a b : Option (List Interval)) → BoundsAreValid a → BoundsAreValid b → BoundsAreValid (widened_bounds a b)
 widened_sound None b h k = k
 widened_sound (Some is) None h k = h
 widened_sound (Some is) (Some js) h k = widened_all_sound is js h
 
-pub grown_sound : (mode : Mode) (a b : Option (List Interval)) → BoundsSound a → BoundsSound b → BoundsSound (grown_bounds mode a b)
+pub grown_sound : (mode : Mode) (a b : Option (List Interval)) → BoundsAreValid a → BoundsAreValid b → BoundsAreValid (grown_bounds mode a b)
 grown_sound Join a b h k = joined_sound a b h k
 grown_sound Widen a b h k = widened_sound a _ h (joined_sound a b h k)
 grown_sound Limited a b h k = widened_sound a _ h (joined_sound a b h k)
 grown_sound Tightest a b h k = widened_sound a _ h (joined_sound a b h k)
 
 -- the bounds are absent exactly where there is no store
-pub none_stores : (b : Option (Vec Interval Global)) (answer : Bool) → is_some b ≡ not answer → BoundsSound (seen b) → IsTrue answer ↔ ((s : List ℤ) → ¬ has_bounds (seen b) s)
+pub none_stores : (b : Option (Vec Interval Global)) (answer : Bool) → is_some b ≡ not answer → BoundsAreValid (bounds_view b) → IsTrue answer ↔ ((s : List ℤ) → ¬ has_bounds (bounds_view b) s)
 none_stores None true e h = (λ t s k. k, λ none. refl)
 none_stores None false e h = absurd (let no : false ≡ true = e in cc)
 none_stores (Some v) true e h = absurd (let no : true ≡ false = e in cc)

@@ -3,8 +3,8 @@ use Rattle.std.proofs.Common.{◌≡◌, ℕ, zero, suc, ◌+◌, ◌-◌, ◌�
 use Rattle.std.specs.Prelude.{slice_set}
 use Rattle.std.proofs.Math.ListN.{length-set}
 use Rattle.lra_box.specs.declared.interval.Interval.{Interval}
-use Rattle.lra_box.specs.Bounds.{InBounds, open_interval}
-use Rattle.lra_box.specs.Content.{BoundsFit, BoundsSound}
+use Rattle.lra_box.specs.Bounds.{InBounds, full_interval}
+use Rattle.lra_box.specs.Content.{BoundsFit, BoundsAreValid}
 use Rattle.lra_box.specs.Tables.{has_bounds, on_bounds}
 use Rattle.lra_box.specs.Covering.{in_open}
 use Rattle.lra_box.proofs.BoxLemmas.{in_length}
@@ -14,21 +14,21 @@ pub set_fit : (n x : ℕ) (i : Interval) (b : Option (List Interval)) → Bounds
 set_fit n x i None f = tt
 set_fit n x i (Some is) f = length-set {A = Interval} is x i ∙ f
 
-pub forgotten_sound : (x : ℕ) (b : Option (List Interval)) → BoundsSound b → BoundsSound (on_bounds (λ is. slice_set is x open_interval) b)
+pub forgotten_sound : (x : ℕ) (b : Option (List Interval)) → BoundsAreValid b → BoundsAreValid (on_bounds (λ is. slice_set is x full_interval) b)
 forgotten_sound x None h = tt
-forgotten_sound x (Some is) h = set_sound is x open_interval h open_sound
+forgotten_sound x (Some is) h = set_sound is x full_interval h open_sound
 
-pub length_copies : (n : ℕ) → length (replicate n open_interval) ≡ n
+pub length_copies : (n : ℕ) → length (replicate n full_interval) ≡ n
 length_copies zero = refl
 length_copies (suc n) = omega (arith, length_copies n)
 
-pub embedded_fit : (n k : ℕ) (b : Option (List Interval)) → BoundsFit n b → BoundsFit (n + k) (on_bounds (λ is. is ++ replicate k open_interval) b)
+pub embedded_fit : (n k : ℕ) (b : Option (List Interval)) → BoundsFit n b → BoundsFit (n + k) (on_bounds (λ is. is ++ replicate k full_interval) b)
 embedded_fit n k None f = tt
-embedded_fit n k (Some is) f = let l = length-append is (replicate k open_interval) in let c = length_copies k in omega arith
+embedded_fit n k (Some is) f = let l = length-append is (replicate k full_interval) in let c = length_copies k in omega arith
 
-pub embedded_sound : (k : ℕ) (b : Option (List Interval)) → BoundsSound b → BoundsSound (on_bounds (λ is. is ++ replicate k open_interval) b)
+pub embedded_sound : (k : ℕ) (b : Option (List Interval)) → BoundsAreValid b → BoundsAreValid (on_bounds (λ is. is ++ replicate k full_interval) b)
 embedded_sound k None h = tt
-embedded_sound k (Some is) h = append_sound is (replicate k open_interval) h (open_all_sound k)
+embedded_sound k (Some is) h = append_sound is (replicate k full_interval) h (open_all_sound k)
 
 in_append : (is js : List Interval) (s t : List ℤ) → InBounds is s → InBounds js t → InBounds (is ++ js) (s ++ t)
 in_append [] js [] t h k = k
@@ -36,9 +36,9 @@ in_append [] js (x ∷ xs) t h k = absurd h
 in_append (i ∷ is) js [] t h k = absurd h
 in_append (i ∷ is) js (x ∷ xs) t h k = (h.0, in_append is js xs t h.1 k)
 
-pub has_embedded : (k : ℕ) (b : Option (List Interval)) (s added : List ℤ) → length added ≡ k → has_bounds b s → has_bounds (on_bounds (λ is. is ++ replicate k open_interval) b) (s ++ added)
+pub has_embedded : (k : ℕ) (b : Option (List Interval)) (s added : List ℤ) → length added ≡ k → has_bounds b s → has_bounds (on_bounds (λ is. is ++ replicate k full_interval) b) (s ++ added)
 has_embedded k None s added e h = h
-has_embedded k (Some is) s added e h = in_append is (replicate k open_interval) s added h (in_open added k e)
+has_embedded k (Some is) s added e h = in_append is (replicate k full_interval) s added h (in_open added k e)
 
 length_taken : (m : ℕ) (is : List Interval) → m ≤ length is → length (take m is) ≡ m
 length_taken zero is h = refl
@@ -49,7 +49,7 @@ pub taken_fit : (n m : ℕ) (b : Option (List Interval)) → m ≤ n → BoundsF
 taken_fit n m None l f = tt
 taken_fit n m (Some is) l f = length_taken m is (omega arith)
 
-pub taken_sound : (m : ℕ) (b : Option (List Interval)) → BoundsSound b → BoundsSound (on_bounds (λ is. take m is) b)
+pub taken_sound : (m : ℕ) (b : Option (List Interval)) → BoundsAreValid b → BoundsAreValid (on_bounds (λ is. take m is) b)
 taken_sound m None h = tt
 taken_sound m (Some is) h = take_sound m is h
 

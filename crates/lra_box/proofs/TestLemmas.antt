@@ -10,7 +10,7 @@ use Rattle.lra_linear_forms.proofs.FormLemmas.{product_negated}
 use Rattle.lra_domain.specs.declared.Exactness.{Exactness}
 use Rattle.lra_domain.specs.declared.Exactness.TheVariants.{Exact, Flagged}
 use Rattle.lra_box.specs.declared.interval.Interval.{Interval}
-use Rattle.lra_box.specs.Content.{BoundsSound}
+use Rattle.lra_box.specs.Content.{BoundsAreValid}
 use Rattle.lra_box.specs.Refine.{refined, some_occurs, ge_tested, tested, RefinePasses, TestPasses}
 use Rattle.lra_box.specs.Answers.{TestedTo}
 use Rattle.lra_box.specs.Covering.{within_refl, within_trans}
@@ -69,7 +69,7 @@ constant_fails a cs b passes o h = record {
 }
 
 pub constant_holds : (a : ℤ) (cs : List ℤ) (b : Option (List Interval)) (passes : Type 0) (keeps : List ℤ → Type 0) → some_occurs cs ≡ false → int_lt a (pos 0) ≡ false
-    → BoundsSound b → TestedTo (ge_tested a cs b) passes keeps b b Exact
+    → BoundsAreValid b → TestedTo (ge_tested a cs b) passes keeps b b Exact
 constant_holds a cs b passes keeps o h sound = record {
   exact = λ e. rw (o, h) refl;
   flagged = λ e. cc;

@@ -4,7 +4,7 @@ use Rattle.std.specs.Prelude.{slice_set, slice_index_or}
 use Rattle.std.proofs.lemmas.Int.{ints, clamps}
 use Rattle.std.proofs.lemmas.Bool.{false≢true}
 use Rattle.lra_box.specs.declared.interval.Interval.{Interval}
-use Rattle.lra_box.specs.Bounds.{open_interval, crossed, crossed_ends}
+use Rattle.lra_box.specs.Bounds.{full_interval, crossed, crossed_ends}
 use Rattle.lra_box.specs.Content.{BoundsFit}
 use Rattle.lra_box.specs.Tables.{joined_intervals, joined_bounds, LowWithin, IntervalWithin, IntervalsWithin, BoundsWithin}
 use Rattle.lra_box.specs.Covering.{low_within_refl, high_within_refl, intervals_within_refl, within_refl}
@@ -17,14 +17,14 @@ set_within (a ∷ is) [] k i j h w = absurd h
 set_within (a ∷ is) (b ∷ js) zero i j h w = (w, h.1)
 set_within (a ∷ is) (b ∷ js) (suc k) i j h w = (h.0, set_within is js k i j h.1 w)
 
-pub at_within : (is js : List Interval) (k : ℕ) → IntervalsWithin is js → IntervalWithin (slice_index_or is k open_interval) (slice_index_or js k open_interval)
+pub at_within : (is js : List Interval) (k : ℕ) → IntervalsWithin is js → IntervalWithin (slice_index_or is k full_interval) (slice_index_or js k full_interval)
 at_within [] [] k h = (tt, tt)
 at_within [] (b ∷ js) k h = absurd h
 at_within (a ∷ is) [] k h = absurd h
 at_within (a ∷ is) (b ∷ js) zero h = h.0
 at_within (a ∷ is) (b ∷ js) (suc k) h = at_within is js k h.1
 
-pub set_one : (is : List Interval) (k : ℕ) (i : Interval) → IntervalWithin i (slice_index_or is k open_interval) → IntervalsWithin (slice_set is k i) is
+pub set_one : (is : List Interval) (k : ℕ) (i : Interval) → IntervalWithin i (slice_index_or is k full_interval) → IntervalsWithin (slice_set is k i) is
 set_one [] k i w = tt
 set_one (a ∷ is) zero i w = (w, intervals_within_refl is)
 set_one (a ∷ is) (suc k) i w = ((low_within_refl a.low, high_within_refl a.high), set_one is k i w)

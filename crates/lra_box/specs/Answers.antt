@@ -5,8 +5,8 @@ use Rattle.lra_domain.specs.declared.Exactness.{Exactness}
 use Rattle.lra_domain.specs.declared.Exactness.TheVariants.{Exact, Flagged}
 use Rattle.lra_domain.specs.Actions.{assign}
 use Rattle.lra_box.specs.declared.interval.Interval.{Interval}
-use Rattle.lra_box.specs.Content.{BoundsFit, BoundsSound}
-use Rattle.lra_box.specs.Tables.{has_bounds, on_bounds, assigned, AssignPasses, BoundsWithin}
+use Rattle.lra_box.specs.Content.{BoundsFit, BoundsAreValid}
+use Rattle.lra_box.specs.Tables.{has_bounds, on_bounds, assigned_bounds, AssignPasses, BoundsWithin}
 use Rattle.lra_box.specs.Extremes.{AssignsExtremes}
 
 -- bounds tested to new ones: the table's unless flagged, and wider ones with each store that passes then
@@ -16,15 +16,15 @@ pub record TestedTo (table : Option (List Interval)) (passes : Type 0) (keeps : 
   pub flagged : e ≡ Flagged → passes
   pub covers : BoundsWithin table new
   pub stores : (s : List ℤ) → has_bounds old s → keeps s → has_bounds new s
-  pub sound : BoundsSound new
+  pub sound : BoundsAreValid new
   pub fit : (n : ℕ) → BoundsFit n old → BoundsFit n new
 
 -- bounds to which a form was assigned at a place
 pub record AssignedTo (x : ℕ) (f : Form) (old new : Option (List Interval)) (e : Exactness) : Type 0 where
-  pub exact : e ≡ Exact → new ≡ on_bounds (assigned x f) old
+  pub exact : e ≡ Exact → new ≡ on_bounds (assigned_bounds x f) old
   pub extremes : e ≡ Exact → AssignsExtremes (assign x f) old new
   pub flagged : e ≡ Flagged → AssignPasses f old
-  pub covers : BoundsWithin (on_bounds (assigned x f) old) new
+  pub covers : BoundsWithin (on_bounds (assigned_bounds x f) old) new
   pub stores : (s : List ℤ) → has_bounds old s → has_bounds new (slice_set s x (form_value f s))
-  pub sound : BoundsSound new
+  pub sound : BoundsAreValid new
   pub fit : (n : ℕ) → BoundsFit n old → BoundsFit n new

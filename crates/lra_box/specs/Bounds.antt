@@ -26,8 +26,8 @@ InBounds (i ∷ is) [] = ⊥
 InBounds (i ∷ is) (x ∷ xs) = InInterval i x × InBounds is xs
 
 -- the interval of all numbers
-abbrev pub open_interval : Interval
-open_interval = record { low = None; high = None }
+abbrev pub full_interval : Interval
+full_interval = record { low = None; high = None }
 
 abbrev pub crossed_ends : Option ℤ → Option ℤ → Bool
 crossed_ends None b = false
@@ -43,12 +43,12 @@ abbrev pub EndsInRange : Interval → Type 0
 EndsInRange i = IfSome i.low InRange × IfSome i.high InRange
 
 -- the bounds lie in the range, the lower one at most the upper one
-abbrev pub IsSound : Interval → Type 0
-IsSound i = EndsInRange i × (crossed i ≡ false)
+abbrev pub IsValidInterval : Interval → Type 0
+IsValidInterval i = EndsInRange i × (crossed i ≡ false)
 
-abbrev pub AllSound : List Interval → Type 0
-AllSound [] = Unit {0}
-AllSound (i ∷ is) = IsSound i × AllSound is
+abbrev pub AllValidIntervals : List Interval → Type 0
+AllValidIntervals [] = Unit {0}
+AllValidIntervals (i ∷ is) = IsValidInterval i × AllValidIntervals is
 
 -- the product of a coefficient and a bound, if there is a bound
 abbrev pub times : ℤ → Option ℤ → Option ℤ
@@ -74,19 +74,19 @@ abbrev pub TimesPasses : ℤ → Option ℤ → Type 0
 TimesPasses c None = ⊥
 TimesPasses c (Some b) = ¬ InRange (c *ℤ b)
 
-abbrev pub ProductPasses : Side → ℤ → Interval → Type 0
-ProductPasses side (pos zero) i = ⊥
-ProductPasses Low (pos (suc n)) i = TimesPasses (pos (suc n)) i.low
-ProductPasses High (pos (suc n)) i = TimesPasses (pos (suc n)) i.high
-ProductPasses Low (negsuc n) i = TimesPasses (negsuc n) i.high
-ProductPasses High (negsuc n) i = TimesPasses (negsuc n) i.low
+abbrev pub EndProductPasses : Side → ℤ → Interval → Type 0
+EndProductPasses side (pos zero) i = ⊥
+EndProductPasses Low (pos (suc n)) i = TimesPasses (pos (suc n)) i.low
+EndProductPasses High (pos (suc n)) i = TimesPasses (pos (suc n)) i.high
+EndProductPasses Low (negsuc n) i = TimesPasses (negsuc n) i.high
+EndProductPasses High (negsuc n) i = TimesPasses (negsuc n) i.low
 
 -- a product or a partial sum passes the range; the sum ends at its first absent term, and nothing passes behind it
 abbrev pub SumPasses : Side → ℤ → List ℤ → List Interval → Type 0
 SumPasses side a [] is = ⊥
 SumPasses side a (c ∷ cs) [] = ⊥
 SumPasses side a (c ∷ cs) (i ∷ is) =
-    ProductPasses side c i ⊎ IsSomeAnd (end_product side c i)
+    EndProductPasses side c i ⊎ IsSomeAnd (end_product side c i)
     (λ p. (¬ InRange (a +ℤ p)) ⊎ SumPasses side (a +ℤ p) cs is)
 
 -- a computed bound is the table's, where nothing passes; it is absent and flagged only where something passes

@@ -4,13 +4,13 @@ use Rattle.std.proofs.Common.{◌≡◌, ℕ, zero, suc, ℤ, List, [], ◌∷�
 use Rattle.std.proofs.lemmas.Int.{ints, clamps}
 use Rattle.lra_box.specs.declared.interval.Interval.{Interval}
 use Rattle.lra_box.specs.declared.interval.Side.TheVariants.{Low, High}
-use Rattle.lra_box.specs.Bounds.{BoundHolds, InBounds, open_interval}
+use Rattle.lra_box.specs.Bounds.{BoundHolds, InBounds, full_interval}
 use Rattle.lra_box.specs.Tables.{has_bounds, joined_interval, joined_intervals, joined_bounds, LowWithin}
 use Rattle.lra_box.specs.Tables.{IntervalWithin, IntervalsWithin, BoundsWithin}
 use Rattle.lra_domain.specs.Bounds.{AtMost, greater, lesser_low}
 
 -- bounds that are all absent hold of every number
-pub in_open : (s : List ℤ) (n : ℕ) → length s ≡ n → InBounds (replicate n open_interval) s
+pub in_open : (s : List ℤ) (n : ℕ) → length s ≡ n → InBounds (replicate n full_interval) s
 in_open [] zero e = tt
 in_open [] (suc n) e = absurd (omega arith)
 in_open (x ∷ xs) zero e = absurd (omega arith)

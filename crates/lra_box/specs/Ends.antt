@@ -6,7 +6,7 @@ use Rattle.lra_linear_forms.specs.Form.{Form}
 use Rattle.lra_box.specs.declared.interval.Interval.{Interval}
 use Rattle.lra_box.specs.declared.interval.Side.{Side}
 use Rattle.lra_box.specs.declared.interval.Side.TheVariants.{Low, High}
-use Rattle.lra_box.specs.Bounds.{ProductPasses, SumPasses, end_product, end_sum}
+use Rattle.lra_box.specs.Bounds.{EndProductPasses, SumPasses, end_product, end_sum}
 
 -- the end of a sum that begins with a number: the table's, or none where a product or a partial sum passes
 abbrev pub IsEndFrom : Side → ℤ → List ℤ → List Interval → Option ℤ → Type 0
@@ -26,12 +26,12 @@ BoundsTell (Some is) f l h = IsEnd Low f is l × IsEnd High f is h
 pub record HasProduct (side : Side) (a c : ℤ) (i : Interval) (b : ℤ) : Type 0 where
   pub product : ℤ
   pub is : end_product side c i ≡ Some product
-  pub fits : ¬ ProductPasses side c i
+  pub fits : ¬ EndProductPasses side c i
   pub sum : b ≡ a +ℤ product
   pub in_range : InRange b
 
 abbrev pub PlusEnd : Side → ℤ → ℤ → Interval → Option ℤ → Type 0
 PlusEnd side a c i (Some b) = HasProduct side a c i b
 PlusEnd side a c i None =
-    ((¬ ProductPasses side c i) × (end_product side c i ≡ None)) ⊎ ProductPasses side c i
+    ((¬ EndProductPasses side c i) × (end_product side c i ≡ None)) ⊎ EndProductPasses side c i
     ⊎ ((product : ℤ) × (end_product side c i ≡ Some product) × ¬ InRange (a +ℤ product))

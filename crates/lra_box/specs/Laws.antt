@@ -5,24 +5,24 @@ use Rattle.std.proofs.lemmas.List.{length-replicate}
 use Rattle.lra_linear_forms.specs.Form.{Form, form_value}
 use Rattle.lra_domain.specs.Actions.{Within}
 use Rattle.lra_domain.specs.Bounds.{IsLowerBound, IsBetween, IsUpperBound}
-use Rattle.lra_domain.specs.Laws.{Laws, PlainLaws, SingleLaws}
+use Rattle.lra_domain.specs.Laws.{Laws, BaseLaws, SingleLaws}
 use Rattle.lra_box.specs.declared.interval.Interval.{Interval}
 use Rattle.lra_box.specs.declared.interval.Side.{Side}
 use Rattle.lra_box.specs.declared.interval.Side.TheVariants.{Low, High}
 use Rattle.lra_box.specs.Bounds.{BoundHolds, InBounds}
-use Rattle.lra_box.specs.Content.{BoundsFit, BoxFormed, Content}
+use Rattle.lra_box.specs.Content.{BoundsFit, WellFormedBox, BoxContent}
 use Rattle.lra_box.specs.Ends.{BoundsTell, IsEnd}
 use Rattle.lra_box.specs.Sums.{end_sum_holds}
 use Rattle.lra_box.specs.Tables.{has_bounds, BoundsWithin}
 use Rattle.lra_box.specs.Parts.{box_parts}
 use Rattle.lra_box.specs.Covering.{in_open, has_wider, within_refl, within_trans, least_within}
-use Rattle.lra_box.specs.Meaning.{BoxHas, BoxWithin, whole, box_meaning}
+use Rattle.lra_box.specs.Abstraction.{BoxGamma, BoxWithin, top_box, box_abstraction}
 
-whole_has : (n : ℕ) (b : Content) → b ≡ whole n → (s : List ℤ) → length s ≡ n → BoxHas b s
-whole_has n b e s l = subst (λ (c : Content). BoxHas c s) (sym e) (l, in_open s n l)
+whole_has : (n : ℕ) (b : BoxContent) → b ≡ top_box n → (s : List ℤ) → length s ≡ n → BoxGamma b s
+whole_has n b e s l = subst (λ (c : BoxContent). BoxGamma c s) (sym e) (l, in_open s n l)
 
-none_has : (n : ℕ) (b : Content) → b ≡ record { dims = n; bounds = None } → (s : List ℤ) → ¬ BoxHas b s
-none_has n b e s h = (subst (λ (c : Content). BoxHas c s) e h).1
+none_has : (n : ℕ) (b : BoxContent) → b ≡ record { dims = n; bounds = None } → (s : List ℤ) → ¬ BoxGamma b s
+none_has n b e s h = (subst (λ (c : BoxContent). BoxGamma c s) e h).1
 
 partless_has : (n : ℕ) (b : Option (List Interval)) (s : List ℤ) → box_parts n b ≡ [] → ¬ has_bounds b s
 partless_has n None s e h = h
@@ -32,10 +32,10 @@ one_box_part : (n : ℕ) (b : Option (List Interval)) → length (box_parts n b)
 one_box_part n None = omega arith
 one_box_part n (Some is) = omega arith
 
-few_parts : (b : Content) (c : ℕ) → 1 ≤ c → length (box_parts b.dims b.bounds) ≤ c
+few_parts : (b : BoxContent) (c : ℕ) → 1 ≤ c → length (box_parts b.dims b.bounds) ≤ c
 few_parts b c some = let one = one_box_part b.dims b.bounds in omega arith
 
-pub box_wider : (a b : Content) → BoxWithin a b → Within (BoxHas a) (BoxHas b)
+pub box_wider : (a b : BoxContent) → BoxWithin a b → Within (BoxGamma a) (BoxGamma b)
 box_wider a b w s h = (h.0 ∙ w.0, has_wider a.bounds b.bounds s w.1 h.1)
 
 partless_within : (n k : ℕ) (a b : Option (List Interval)) → BoundsWithin a b → box_parts k b ≡ [] → box_parts n a ≡ []
@@ -92,23 +92,23 @@ partless_told : (n : ℕ) (b : Option (List Interval)) (f : Form) (l h : Option 
 partless_told n None f l h e told = told
 partless_told n (Some is) f l h e told = let wrong : ⊥ = cc in absurd wrong
 
-pub box_laws : Laws box_meaning
+pub box_laws : Laws box_abstraction
 box_laws = record {
   sized = λ v s fine h. h.0;
   head_sized = λ h s fine own. own.0;
-  universal_dims = λ n cap v e. ap (λ (c : Content). c.dims) e;
-  universal_stores = λ n cap v fine e s l. whole_has n v e s l;
-  void_dims = λ n cap v e. ap (λ (c : Content). c.dims) e;
-  void_stores = λ n cap v fine e s h. none_has n v e s h;
+  top_dims = λ n cap v e. ap (λ (c : BoxContent). c.dims) e;
+  top_stores = λ n cap v fine e s l. whole_has n v e s l;
+  bottom_dims = λ n cap v e. ap (λ (c : BoxContent). c.dims) e;
+  bottom_stores = λ n cap v fine e s h. none_has n v e s h;
   capped_parts = λ v c some. few_parts v c some;
-  universal_capped = λ n cap v some e. some;
-  void_capped = λ n cap v some e. some;
+  top_capped = λ n cap v some e. some;
+  bottom_capped = λ n cap v some e. some;
   partless = λ v fine e s h. partless_has v.dims v.bounds s e h.1;
   bounded_stores = λ v f l h s fine wide told has. told_between v.dims v.bounds f l h s fine.0 wide told has.1;
   one_bounded = λ v f l h j k fine told so. one_told v.bounds f l h j k told so;
   bounded_partless = λ v f l h fine e told. partless_told v.dims v.bounds f l h e told;
-  covered_stores = λ a b fine too w. box_wider a b w;
-  head_covered_stores = λ a b fine too w. box_wider a b w;
+  leq_stores = λ a b fine too w. box_wider a b w;
+  head_leq_stores = λ a b fine too w. box_wider a b w;
   kept_stores = λ step v w fine too k. k;
   old_stores = λ old next new fine too k. k.0;
   next_stores = λ old next new fine too k. k.1;
@@ -120,47 +120,47 @@ box_laws = record {
   given_up_value = λ old mode new v fine too e is. (1, is ∙ e);
 }
 
-pub box_single : SingleLaws box_meaning
+pub box_single : SingleLaws box_abstraction
 box_single = record {
-  one_universal = λ n cap v w e d. e ∙ sym d;
-  one_void = λ n cap v w e d. e ∙ sym d;
-  one_done = λ step a v w e d. e.table ∙ sym d.table;
+  one_top = λ n cap v w e d. e ∙ sym d;
+  one_bottom = λ n cap v w e d. e ∙ sym d;
+  one_transferred = λ step a v w e d. e.table ∙ sym d.table;
   one_joined = λ a b v w e d. e ∙ sym d;
   one_started = λ v given g h e d. e ∙ sym d;
   one_grown = λ h v mode i j e d. e ∙ sym d;
   one_valued = λ h v w e d. e ∙ sym d;
 }
 
-box_within_refl : (a : Content) → BoxWithin a a
+box_within_refl : (a : BoxContent) → BoxWithin a a
 box_within_refl a = (refl, within_refl a.bounds)
 
-box_within_trans : (a b c : Content) → BoxWithin a b → BoxWithin b c → BoxWithin a c
+box_within_trans : (a b c : BoxContent) → BoxWithin a b → BoxWithin b c → BoxWithin a c
 box_within_trans a b c v w = (v.0 ∙ w.0, within_trans a.bounds b.bounds c.bounds v.1 w.1)
 
-joined_within : (a b j c : Content) → box_meaning.joined a b j → BoxWithin a c → BoxWithin b c → BoxWithin j c
-joined_within a b j c e v w = subst (λ (d : Content). BoxWithin d c) (sym e)
+joined_within : (a b j c : BoxContent) → box_abstraction.joined a b j → BoxWithin a c → BoxWithin b c → BoxWithin j c
+joined_within a b j c e v w = subst (λ (d : BoxContent). BoxWithin d c) (sym e)
     (v.0, least_within a.bounds b.bounds c.bounds v.1 w.1)
 
-pub same_within : (a b : Content) → a ≡ b → BoxWithin a b
-same_within a b e = subst (λ (c : Content). BoxWithin a c) e (box_within_refl a)
+pub same_within : (a b : BoxContent) → a ≡ b → BoxWithin a b
+same_within a b e = subst (λ (c : BoxContent). BoxWithin a c) e (box_within_refl a)
 
-pub box_plain : PlainLaws box_meaning
-box_plain = record {
+pub box_base : BaseLaws box_abstraction
+box_base = record {
   one_part = λ v. one_box_part v.dims v.bounds;
-  one_universal = λ n c d v w e f. e ∙ sym f;
+  one_top = λ n c d v w e f. e ∙ sym f;
   one_joined = λ a b v w e f. e ∙ sym f;
   one_started = λ v given g h e f. e ∙ sym f;
   one_valued = λ h v w e f. e ∙ sym f;
-  covered_reflexive = box_within_refl;
-  covered_transitive = box_within_trans;
-  inside_covered = λ a b. (λ w. w, λ w. w);
-  partless_covered = λ a b w e. partless_within a.dims b.dims a.bounds b.bounds w.1 e;
+  leq_reflexive = box_within_refl;
+  leq_transitive = box_within_trans;
+  included_leq = λ a b. (λ w. w, λ w. w);
+  partless_leq = λ a b w e. partless_within a.dims b.dims a.bounds b.bounds w.1 e;
   joined_covered = joined_within;
   stays_covered = λ h a b mode v w. box_within_trans a b h v w;
   stays_joined = λ h a b j mode e v w. joined_within a b j h e v w;
   stays_value = λ h v mode e. same_within v h e;
   stays_started = λ h v given mode e. same_within v h (sym e);
-  started_formed = λ h v given e fine. subst BoxFormed e fine;
+  started_formed = λ h v given e fine. subst WellFormedBox e fine;
   universal_filled = λ n cap v is e. partless_has v.dims v.bounds (replicate n (pos 0)) e
       (whole_has n v is (replicate n (pos 0)) (length-replicate n (pos 0))).1;
   started_stores = λ h v given e. box_wider h v (same_within h v e);

@@ -9,6 +9,6 @@ pub mod Ends
 pub mod Extremes
 pub mod Answers
 pub mod Parts
-pub mod Meaning
+pub mod Abstraction
 pub mod Laws
 pub mod ExactRows

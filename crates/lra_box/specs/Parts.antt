@@ -31,24 +31,24 @@ high_rows n k None = []
 high_rows n k (Some h) = bound_row n k h (negsuc 0) ∷ []
 
 -- the equalities of the intervals from place k on
-abbrev pub equal_rows : ℕ → ℕ → List Interval → List (List ℤ)
-equal_rows n k [] = []
-equal_rows n k (i ∷ is) = (if is_single i then low_rows n k i.low else []) ++ equal_rows n (suc k) is
+abbrev pub box_equalities : ℕ → ℕ → List Interval → List (List ℤ)
+box_equalities n k [] = []
+box_equalities n k (i ∷ is) = (if is_single i then low_rows n k i.low else []) ++ box_equalities n (suc k) is
 
 -- their inequalities
-abbrev pub unequal_rows : ℕ → ℕ → List Interval → List (List ℤ)
-unequal_rows n k [] = []
-unequal_rows n k (i ∷ is) = (if is_single i then [] else low_rows n k i.low ++ high_rows n k i.high) ++
-    unequal_rows n (suc k) is
+abbrev pub box_inequalities : ℕ → ℕ → List Interval → List (List ℤ)
+box_inequalities n k [] = []
+box_inequalities n k (i ∷ is) = (if is_single i then [] else low_rows n k i.low ++ high_rows n k i.high) ++
+    box_inequalities n (suc k) is
 
 abbrev pub box_rows : ℕ → List Interval → List (List ℤ)
-box_rows n is = equal_rows n 0 is ++ unequal_rows n 0 is
+box_rows n is = box_equalities n 0 is ++ box_inequalities n 0 is
 
 abbrev pub box_system : ℕ → List Interval → LinearSystem ConKind
 box_system n is = record {
   dims = n;
   rows = box_rows n is;
-  kinds = replicate (length (equal_rows n 0 is)) Eq ++ replicate (length (unequal_rows n 0 is)) Ge;
+  kinds = replicate (length (box_equalities n 0 is)) Eq ++ replicate (length (box_inequalities n 0 is)) Ge;
 }
 
 -- an empty box has no part, another has one

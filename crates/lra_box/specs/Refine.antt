@@ -9,7 +9,7 @@ use Rattle.lra_domain.specs.declared.Exactness.{Exactness}
 use Rattle.lra_domain.specs.declared.Exactness.TheVariants.{Exact, Flagged}
 use Rattle.lra_box.specs.declared.interval.Interval.{Interval}
 use Rattle.lra_box.specs.declared.interval.Side.TheVariants.{High}
-use Rattle.lra_box.specs.Bounds.{open_interval, crossed, end_sum, SumPasses, EndsInRange}
+use Rattle.lra_box.specs.Bounds.{full_interval, crossed, end_sum, SumPasses, EndsInRange}
 
 -- the greater of a bound, if there is one, and a number; the lesser
 abbrev pub raised : Option ℤ → ℤ → ℤ
@@ -34,7 +34,7 @@ others_most a cs k is = end_sum High a (slice_set cs k (pos 0)) is
 
 abbrev pub place_refined : ℤ → List ℤ → ℕ → List Interval → Interval
 place_refined a cs k is = tightened (slice_index_or cs k (pos 0)) (others_most a cs k is)
-    (slice_index_or is k open_interval)
+    (slice_index_or is k full_interval)
 
 -- one place: the bounds with its interval tightened, or none where it is crossed then
 abbrev pub refine_place : ℤ → List ℤ → ℕ → Option (List Interval) → Option (List Interval)
@@ -89,5 +89,5 @@ pub record TightAt (a : ℤ) (cs : List ℤ) (k : ℕ) (is : List Interval) (i :
   pub flagged : e ≡ Flagged → PlacePasses a cs k (Some is)
   -- by what the others add at most, or not at all
   pub either : (o : Option ℤ) × ((o ≡ None) ⊎ (o ≡ others_most a cs k is)) ×
-      (i ≡ tightened (slice_index_or cs k (pos 0)) o (slice_index_or is k open_interval))
+      (i ≡ tightened (slice_index_or cs k (pos 0)) o (slice_index_or is k full_interval))
   pub range : EndsInRange i

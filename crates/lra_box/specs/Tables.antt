@@ -9,8 +9,8 @@ use Rattle.lra_domain.specs.declared.Rank.{Rank}
 use Rattle.lra_domain.specs.Bounds.{AtMost, finite, greater, lesser_low, stable}
 use Rattle.lra_box.specs.declared.interval.Interval.{Interval}
 use Rattle.lra_box.specs.declared.interval.Side.TheVariants.{Low, High}
-use Rattle.lra_box.specs.Bounds.{open_interval, InBounds, end_sum, SumPasses}
-use Rattle.lra_box.specs.Content.{Content}
+use Rattle.lra_box.specs.Bounds.{full_interval, InBounds, end_sum, SumPasses}
+use Rattle.lra_box.specs.Content.{BoxContent}
 use Rattle.lra_box.specs.Refine.{tested, TestPasses}
 
 -- the list is a store of the box
@@ -23,8 +23,8 @@ abbrev pub on_bounds : (List Interval → List Interval) → Option (List Interv
 on_bounds f None = None
 on_bounds f (Some is) = Some (f is)
 
-abbrev pub assigned : ℕ → Form → List Interval → List Interval
-assigned x e is = slice_set is x (record {
+abbrev pub assigned_bounds : ℕ → Form → List Interval → List Interval
+assigned_bounds x e is = slice_set is x (record {
   low = end_sum Low e.constant e.coefficients is;
   high = end_sum High e.constant e.coefficients is;
 })
@@ -71,13 +71,13 @@ BoundsWithin (Some is) (Some js) = IntervalsWithin is js
 -- the bounds of a place; none where the box is empty
 abbrev pub bound_at : ℕ → Option (List Interval) → Option Interval
 bound_at x None = None
-bound_at x (Some is) = Some (slice_index_or is x open_interval)
+bound_at x (Some is) = Some (slice_index_or is x full_interval)
 
 -- the interval comes in at a place: the bounds there are joined with it
 abbrev pub admitting : ℕ → Interval → List Interval → List Interval
-admitting x i is = slice_set is x (joined_interval (slice_index_or is x open_interval) i)
+admitting x i is = slice_set is x (joined_interval (slice_index_or is x full_interval) i)
 
-abbrev pub admitted : ℕ → Interval → Content → Content
+abbrev pub admitted : ℕ → Interval → BoxContent → BoxContent
 admitted x i b = record b { bounds = on_bounds (admitting x i) b.bounds }
 
 -- how many bounds there are
@@ -89,7 +89,7 @@ abbrev pub rank_number : ℕ → Option (List Interval) → ℕ
 rank_number n None = 2 * n + 1
 rank_number n (Some is) = finite_bounds is
 
-abbrev pub rank_of : Content → Rank
+abbrev pub rank_of : BoxContent → Rank
 rank_of b = record { first = 1; second = 0; third = 0; fourth = rank_number b.dims b.bounds }
 
 abbrev pub widened_low : Option ℤ → Option ℤ → Option ℤ
@@ -115,17 +115,17 @@ grown_bounds Limited a b = widened_bounds a (joined_bounds a b)
 grown_bounds Tightest a b = widened_bounds a (joined_bounds a b)
 
 -- the defined result of a change
-abbrev pub stepped : Action → Content → Content
-stepped (assign x e) b = record b { bounds = on_bounds (assigned x e) b.bounds }
-stepped (forget x) b = record b { bounds = on_bounds (λ is. slice_set is x open_interval) b.bounds }
+abbrev pub stepped : Action → BoxContent → BoxContent
+stepped (assign x e) b = record b { bounds = on_bounds (assigned_bounds x e) b.bounds }
+stepped (forget x) b = record b { bounds = on_bounds (λ is. slice_set is x full_interval) b.bounds }
 stepped (test kind e) b = record b { bounds = tested kind e b.bounds }
-stepped (embed k) b = record { dims = b.dims + k; bounds = on_bounds (λ is. is ++ replicate k open_interval) b.bounds }
+stepped (embed k) b = record { dims = b.dims + k; bounds = on_bounds (λ is. is ++ replicate k full_interval) b.bounds }
 stepped (remove_last k) b = record { dims = b.dims - k; bounds = on_bounds (λ is. take (b.dims - k) is) b.bounds }
 
 -- a number of the table passes the range
-abbrev pub StepPasses : Action → Content → Type 0
-StepPasses (assign x e) b = AssignPasses e b.bounds
-StepPasses (forget x) b = ⊥
-StepPasses (test kind e) b = TestPasses kind e b.bounds
-StepPasses (embed k) b = ⊥
-StepPasses (remove_last k) b = ⊥
+abbrev pub BoxTransferPasses : Action → BoxContent → Type 0
+BoxTransferPasses (assign x e) b = AssignPasses e b.bounds
+BoxTransferPasses (forget x) b = ⊥
+BoxTransferPasses (test kind e) b = TestPasses kind e b.bounds
+BoxTransferPasses (embed k) b = ⊥
+BoxTransferPasses (remove_last k) b = ⊥

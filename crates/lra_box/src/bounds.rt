@@ -6,8 +6,8 @@ ghost use Rattle.lra_linear_spec.specs.Range.{InRange};
 ghost use Rattle.lra_linear_spec.specs.Vectors.{product};
 ghost use Rattle.lra_linear_forms.specs.Form.{HoldsAt};
 ghost use Rattle.lra_box.specs.declared.interval.Interval.{Interval};
-ghost use Rattle.lra_box.specs.Bounds.{form, open_interval};
-ghost use Rattle.lra_box.specs.Content.{seen, BoundsFit, BoundsSound};
+ghost use Rattle.lra_box.specs.Bounds.{form, full_interval};
+ghost use Rattle.lra_box.specs.Content.{bounds_view, BoundsFit, BoundsAreValid};
 ghost use Rattle.lra_box.specs.Refine.{ge_tested, tested, RefinePasses, TestPasses};
 ghost use Rattle.lra_box.specs.Tables.{on_bounds, joined_bounds, widened_bounds, grown_bounds, BoundsWithin};
 ghost use Rattle.lra_box.specs.Tables.{admitting, bound_at, rank_number};
@@ -28,14 +28,14 @@ pub type Bounds = Option<Vec<Interval>>;
 
 /// All stores of `n` dimensions.
 pub fn universe(alloc: Global, n: usize) -> Result<Bounds, AllocError>
-    ensures { IfOk result (λ b. seen b ≡ Some (replicate n open_interval)) }
+    ensures { IfOk result (λ b. bounds_view b ≡ Some (replicate n full_interval)) }
 {
-    Ok(Some(vec![in alloc; Interval::OPEN; n]?))
+    Ok(Some(vec![in alloc; Interval::FULL; n]?))
 }
 
 /// The same bounds again.
 pub fn copy_bounds(alloc: Global, bounds: &Bounds) -> Result<Bounds, AllocError>
-    ensures { IfOk result (λ b. seen b ≡ seen bounds.now) }
+    ensures { IfOk result (λ b. bounds_view b ≡ bounds_view bounds.now) }
 {
     match bounds {
         None => Ok(None),
@@ -45,8 +45,9 @@ pub fn copy_bounds(alloc: Global, bounds: &Bounds) -> Result<Bounds, AllocError>
 
 /// Whether the first lies in the second.
 pub fn is_within(one: &Bounds, two: &Bounds) -> bool
-    requires { (is js : List Interval) → seen one.now ≡ Some is → seen two.now ≡ Some js → length is ≡ length js }
-    ensures { IsTrue result ↔ BoundsWithin (seen one.now) (seen two.now) }
+    requires { (is js : List Interval) → bounds_view one.now ≡ Some is → bounds_view two.now ≡ Some js →
+        length is ≡ length js }
+    ensures { IsTrue result ↔ BoundsWithin (bounds_view one.now) (bounds_view two.now) }
 {
     match (one, two) {
         (None, _) => true,
@@ -58,8 +59,9 @@ pub fn is_within(one: &Bounds, two: &Bounds) -> bool
 #[tactic(auto, using(crate::proofs::WithinLemmas::within_both, crate::proofs::WithinLemmas::equal_within))]
 /// Whether the two are equal: each lies in the other.
 pub fn is_same(one: &Bounds, two: &Bounds) -> bool
-    requires { (is js : List Interval) → seen one.now ≡ Some is → seen two.now ≡ Some js → length is ≡ length js }
-    ensures { IsTrue result ↔ (seen one.now ≡ seen two.now) }
+    requires { (is js : List Interval) → bounds_view one.now ≡ Some is → bounds_view two.now ≡ Some js →
+        length is ≡ length js }
+    ensures { IsTrue result ↔ (bounds_view one.now ≡ bounds_view two.now) }
 {
     is_within(one, two) && is_within(two, one)
 }
@@ -67,10 +69,11 @@ pub fn is_same(one: &Bounds, two: &Bounds) -> bool
 /// Assigns `constant + factors` to place `x`.
 pub fn assign_in(bounds: &mut Bounds, x: usize, constant: i128, factors: &[i128]) -> Exactness
     requires place { x < length factors.now }
-    requires width { BoundsFit (length factors.now) (seen bounds.old) }
+    requires width { BoundsFit (length factors.now) (bounds_view bounds.old) }
     requires range { InRange constant }
-    requires sound { BoundsSound (seen bounds.old) }
-    ensures { AssignedTo x (form constant factors.now) (seen bounds.old) (seen bounds.new) result }
+    requires sound { BoundsAreValid (bounds_view bounds.old) }
+    ensures { AssignedTo x (form constant factors.now) (bounds_view bounds.old)
+        (bounds_view bounds.new) result }
 {
     match bounds {
         None => Exactness::Exact,
@@ -107,13 +110,13 @@ pub fn opposite_row(alloc: Global, e: &LinExpr) -> Result<Vec<i128>, AllocError>
 
 /// Refines by `constant + factors >= 0`.
 fn test_ge(bounds: &mut Bounds, constant: i128, factors: &mut [i128]) -> Exactness
-    requires width { BoundsFit (length factors.old) (seen bounds.old) }
+    requires width { BoundsFit (length factors.old) (bounds_view bounds.old) }
     requires range { InRange constant }
     requires factors { All InRange factors.old }
-    requires sound { BoundsSound (seen bounds.old) }
-    ensures tested { TestedTo (ge_tested constant factors.old (seen bounds.old))
-        (RefinePasses constant factors.old (length factors.old) (seen bounds.old))
-        (λ s. pos 0 ≤ℤ (constant +ℤ product factors.old s)) (seen bounds.old) (seen bounds.new) result }
+    requires sound { BoundsAreValid (bounds_view bounds.old) }
+    ensures tested { TestedTo (ge_tested constant factors.old (bounds_view bounds.old))
+        (RefinePasses constant factors.old (length factors.old) (bounds_view bounds.old))
+        (λ s. pos 0 ≤ℤ (constant +ℤ product factors.old s)) (bounds_view bounds.old) (bounds_view bounds.new) result }
 {
     let Some(intervals) = bounds else {
         return Exactness::Exact;
@@ -138,14 +141,15 @@ fn test_eq(
     factors: &mut [i128],
     opposite: &mut [i128],
 ) -> Exactness
-    requires width { BoundsFit (length factors.old) (seen bounds.old) }
+    requires width { BoundsFit (length factors.old) (bounds_view bounds.old) }
     requires range { InRange constant }
     requires factors { All InRange factors.old }
     requires negated { opposite.old ≡ map neg_ℤ factors.old }
     requires opposites { All InRange opposite.old }
-    requires sound { BoundsSound (seen bounds.old) }
-    ensures tested { let e = form constant factors.old in TestedTo (tested ConKind.Eq e (seen bounds.old))
-        (TestPasses ConKind.Eq e (seen bounds.old)) (HoldsAt ConKind.Eq e) (seen bounds.old) (seen bounds.new) result }
+    requires sound { BoundsAreValid (bounds_view bounds.old) }
+    ensures tested { let e = form constant factors.old in TestedTo (tested ConKind.Eq e (bounds_view bounds.old))
+        (TestPasses ConKind.Eq e (bounds_view bounds.old)) (HoldsAt ConKind.Eq e) (bounds_view bounds.old)
+        (bounds_view bounds.new) result }
 {
     let one = test_ge(bounds, constant, factors);
     let two = test_ge(bounds, -constant, opposite);
@@ -154,12 +158,14 @@ fn test_eq(
 
 /// Refines by a test.
 pub fn test_in(alloc: Global, bounds: &mut Bounds, t: &Test) -> Result<Exactness, AllocError>
-    requires width { BoundsFit (length t.now.expr.coefficients) (seen bounds.old) }
-    requires sound { BoundsSound (seen bounds.old) }
-    ensures tested { IfOk result (λ e. TestedTo (tested t.now.kind t.now.expr (seen bounds.old))
-        (TestPasses t.now.kind t.now.expr (seen bounds.old)) (HoldsAt t.now.kind t.now.expr) (seen bounds.old)
-        (seen bounds.new) e) }
-    ensures err { OnErr result (seen bounds.new ≡ seen bounds.old) }
+    requires width { BoundsFit (length t.now.expr.coefficients) (bounds_view bounds.old) }
+    requires sound { BoundsAreValid (bounds_view bounds.old) }
+    ensures tested { IfOk result
+        (λ e. TestedTo (tested t.now.kind t.now.expr (bounds_view bounds.old))
+        (TestPasses t.now.kind t.now.expr (bounds_view bounds.old)) (HoldsAt t.now.kind t.now.expr)
+        (bounds_view bounds.old)
+        (bounds_view bounds.new) e) }
+    ensures err { OnErr result (bounds_view bounds.new ≡ bounds_view bounds.old) }
 {
     let constant = t.expr.constant() as i128;
     let mut row = wide_row(alloc, &t.expr)?;
@@ -179,18 +185,19 @@ pub fn test_in(alloc: Global, bounds: &mut Bounds, t: &Test) -> Result<Exactness
 
 /// Any number at place `x`.
 pub fn forget_in(bounds: &mut Bounds, x: usize)
-    requires { (is : List Interval) → seen bounds.old ≡ Some is → x < length is }
-    ensures { seen bounds.new ≡ on_bounds (λ is. slice_set is x open_interval) (seen bounds.old) }
+    requires { (is : List Interval) → bounds_view bounds.old ≡ Some is → x < length is }
+    ensures { bounds_view bounds.new
+        ≡ on_bounds (λ is. slice_set is x full_interval) (bounds_view bounds.old) }
 {
     if let Some(intervals) = bounds {
-        intervals[x] = Interval::OPEN;
+        intervals[x] = Interval::FULL;
     }
 }
 
 /// The bounds of place `x`; none where the box is empty.
 pub fn find_bound(bounds: &Bounds, x: usize) -> Option<Interval>
-    requires { (is : List Interval) → seen bounds.now ≡ Some is → x < length is }
-    ensures { result ≡ bound_at x (seen bounds.now) }
+    requires { (is : List Interval) → bounds_view bounds.now ≡ Some is → x < length is }
+    ensures { result ≡ bound_at x (bounds_view bounds.now) }
 {
     match bounds {
         None => None,
@@ -200,8 +207,9 @@ pub fn find_bound(bounds: &Bounds, x: usize) -> Option<Interval>
 
 /// The interval comes in at place `x`.
 pub fn admit_in(bounds: &mut Bounds, x: usize, interval: &Interval)
-    requires { (is : List Interval) → seen bounds.old ≡ Some is → x < length is }
-    ensures { seen bounds.new ≡ on_bounds (admitting x interval.now) (seen bounds.old) }
+    requires { (is : List Interval) → bounds_view bounds.old ≡ Some is → x < length is }
+    ensures { bounds_view bounds.new
+        ≡ on_bounds (admitting x interval.now) (bounds_view bounds.old) }
 {
     if let Some(intervals) = bounds {
         intervals[x] = intervals[x].join(interval);
@@ -210,19 +218,20 @@ pub fn admit_in(bounds: &mut Bounds, x: usize, interval: &Interval)
 
 /// `k` more places of any number.
 pub fn embed_in(bounds: &mut Bounds, k: usize) -> Result<(), AllocError>
-    requires { (is : List Interval) → seen bounds.old ≡ Some is → length is + k < 2 ^ 64 }
-    ensures ok { OnOk result (seen bounds.new ≡ on_bounds (λ is. is ++ replicate k open_interval) (seen bounds.old)) }
-    ensures err { OnErr result (seen bounds.new ≡ seen bounds.old) }
+    requires { (is : List Interval) → bounds_view bounds.old ≡ Some is → length is + k < 2 ^ 64 }
+    ensures ok { OnOk result
+        (bounds_view bounds.new ≡ on_bounds (λ is. is ++ replicate k full_interval) (bounds_view bounds.old)) }
+    ensures err { OnErr result (bounds_view bounds.new ≡ bounds_view bounds.old) }
 {
     match bounds {
         None => Ok(()),
-        Some(intervals) => intervals.resize(intervals.len() + k, Interval::OPEN),
+        Some(intervals) => intervals.resize(intervals.len() + k, Interval::FULL),
     }
 }
 
 /// The first `n` places.
 pub fn truncate_in(bounds: &mut Bounds, n: usize)
-    ensures { seen bounds.new ≡ on_bounds (λ is. take n is) (seen bounds.old) }
+    ensures { bounds_view bounds.new ≡ on_bounds (λ is. take n is) (bounds_view bounds.old) }
 {
     if let Some(intervals) = bounds {
         intervals.truncate(n);
@@ -231,8 +240,10 @@ pub fn truncate_in(bounds: &mut Bounds, n: usize)
 
 /// The least bounds that hold both.
 pub fn join_bounds(alloc: Global, one: &Bounds, two: &Bounds) -> Result<Bounds, AllocError>
-    requires { (is js : List Interval) → seen one.now ≡ Some is → seen two.now ≡ Some js → length is ≡ length js }
-    ensures { IfOk result (λ b. seen b ≡ joined_bounds (seen one.now) (seen two.now)) }
+    requires { (is js : List Interval) → bounds_view one.now ≡ Some is → bounds_view two.now ≡ Some js →
+        length is ≡ length js }
+    ensures { IfOk result
+        (λ b. bounds_view b ≡ joined_bounds (bounds_view one.now) (bounds_view two.now)) }
 {
     match (one, two) {
         (None, other) => copy_bounds(alloc, other),
@@ -246,8 +257,10 @@ pub fn join_bounds(alloc: Global, one: &Bounds, two: &Bounds) -> Result<Bounds, 
 }
 
 fn widen_bounds(alloc: Global, one: &Bounds, two: &Bounds) -> Result<Bounds, AllocError>
-    requires { (is js : List Interval) → seen one.now ≡ Some is → seen two.now ≡ Some js → length is ≡ length js }
-    ensures { IfOk result (λ b. seen b ≡ widened_bounds (seen one.now) (seen two.now)) }
+    requires { (is js : List Interval) → bounds_view one.now ≡ Some is → bounds_view two.now ≡ Some js →
+        length is ≡ length js }
+    ensures { IfOk result
+        (λ b. bounds_view b ≡ widened_bounds (bounds_view one.now) (bounds_view two.now)) }
 {
     match (one, two) {
         (None, other) => copy_bounds(alloc, other),
@@ -267,8 +280,10 @@ pub fn grow_bounds(
     two: &Bounds,
     mode: Mode,
 ) -> Result<Bounds, AllocError>
-    requires { (is js : List Interval) → seen one.now ≡ Some is → seen two.now ≡ Some js → length is ≡ length js }
-    ensures { IfOk result (λ b. seen b ≡ grown_bounds mode (seen one.now) (seen two.now)) }
+    requires { (is js : List Interval) → bounds_view one.now ≡ Some is → bounds_view two.now ≡ Some js →
+        length is ≡ length js }
+    ensures { IfOk result
+        (λ b. bounds_view b ≡ grown_bounds mode (bounds_view one.now) (bounds_view two.now)) }
 {
     let joined = join_bounds(alloc, one, two)?;
     match mode {
@@ -279,8 +294,8 @@ pub fn grow_bounds(
 
 /// The least and the greatest value of the form within the bounds, as they are told.
 pub fn bounds_of(bounds: &Bounds, e: &LinExpr) -> (Option<i128>, Option<i128>)
-    requires { BoundsFit (length e.now.coefficients) (seen bounds.now) }
-    ensures { BoundsTell (seen bounds.now) e.now result.0 result.1 }
+    requires { BoundsFit (length e.now.coefficients) (bounds_view bounds.now) }
+    ensures { BoundsTell (bounds_view bounds.now) e.now result.0 result.1 }
 {
     match bounds {
         None => (None, None),
@@ -295,8 +310,8 @@ pub fn bounds_of(bounds: &Bounds, e: &LinExpr) -> (Option<i128>, Option<i128>)
 /// 1, 0, 0, and how many bounds there are; one more than the most there can be where the box is empty.
 pub fn rank_of(dims: usize, bounds: &Bounds) -> Rank
     requires few { dims ≤ 2 ^ 30 }
-    requires fit { BoundsFit dims (seen bounds.now) }
-    ensures { result ≡ record { first = 1; second = 0; third = 0; fourth = rank_number dims (seen bounds.now) } }
+    requires fit { BoundsFit dims (bounds_view bounds.now) }
+    ensures { result ≡ record { first = 1; second = 0; third = 0; fourth = rank_number dims (bounds_view bounds.now) } }
 {
     let fourth = match bounds {
         None => 2 * dims as u64 + 1,

@@ -5,7 +5,7 @@ ghost use Rattle.std.specs.Prelude.{slice_get, slice_set};
 ghost use Rattle.lra_box.specs.declared.interval.Interval.{Interval};
 ghost use Rattle.lra_box.specs.Bounds.{EndsInRange, InInterval};
 ghost use Rattle.lra_box.specs.Tables.{admitted, bound_at};
-ghost use Rattle.lra_box.specs.Meaning.{box_meaning, BoxHas};
+ghost use Rattle.lra_box.specs.Abstraction.{box_abstraction, BoxGamma};
 
 use crate::bounds::{
     Bounds, admit_in, assign_in, bounds_of, copy_bounds, embed_in, find_bound, forget_in,
@@ -14,7 +14,7 @@ use crate::bounds::{
 };
 use crate::interval::Interval;
 use crate::parts::system_of;
-use lra_domain::{Domain, Exactness, Grown, Included, Mode, Plain, Rank, Told};
+use lra_domain::{BaseDomain, Domain, ExactParts, Exactness, Grown, Included, Mode, Rank};
 use lra_linear_forms::{LinExpr, Test};
 use lra_systems::ConSys;
 use std::alloc::{AllocError, Global};
@@ -39,13 +39,14 @@ impl Drop for Boxes {
 
 impl Model for Boxes {
     ghost use Rattle.std.specs.Prelude.{◌≤◌, ◌^◌};
-    ghost use Rattle.lra_box.specs.Content.{Content, BoundsFit, BoundsSound, seen};
+    ghost use Rattle.lra_box.specs.Content.{BoxContent, BoundsFit, BoundsAreValid, bounds_view};
 
-    ghost Value = { Content };
+    ghost Value = { BoxContent };
 
-    ghost view = { λ b. record { dims = b.dims; bounds = seen b.bounds } };
+    ghost view = { λ b. record { dims = b.dims; bounds = bounds_view b.bounds } };
 
-    ghost invariant = { λ b. (b.dims ≤ 2 ^ 30) × BoundsFit b.dims (seen b.bounds) × BoundsSound (seen b.bounds) };
+    ghost invariant = { λ b. (b.dims ≤ 2 ^ 30) × BoundsFit b.dims (bounds_view b.bounds)
+        × BoundsAreValid (bounds_view b.bounds) };
 }
 
 impl Boxes {
@@ -53,8 +54,9 @@ impl Boxes {
     pub fn bound(&self, x: usize) -> Option<Interval>
         requires { x < self.now.dims }
         ensures bound { result ≡ bound_at x self.now.bounds }
-        ensures empty { (result ≡ None) ↔ ((s : List ℤ) → ¬ BoxHas self.now s) }
-        ensures holds { (i : Interval) (s : List ℤ) (z : ℤ) → result ≡ Some i → BoxHas self.now s →
+        ensures empty { (result ≡ None) ↔ ((s : List ℤ) → ¬ BoxGamma self.now s) }
+        ensures holds { (i : Interval) (s : List ℤ) (z : ℤ) → result ≡ Some i →
+            BoxGamma self.now s →
             slice_get s x ≡ Some z → InInterval i z }
     {
         find_bound(&self.bounds, x)
@@ -65,9 +67,9 @@ impl Boxes {
         requires place { x < self.old.dims }
         requires range { EndsInRange interval.now }
         ensures admitted { self.new ≡ admitted x interval.now self.old }
-        ensures stores { (s : List ℤ) → BoxHas self.old s → BoxHas self.new s }
-        ensures values { (s : List ℤ) (z : ℤ) → BoxHas self.old s → InInterval interval.now z →
-            BoxHas self.new (slice_set s x z) }
+        ensures stores { (s : List ℤ) → BoxGamma self.old s → BoxGamma self.new s }
+        ensures values { (s : List ℤ) (z : ℤ) → BoxGamma self.old s → InInterval interval.now z →
+            BoxGamma self.new (slice_set s x z) }
     {
         admit_in(&mut self.bounds, x, interval);
     }
@@ -76,7 +78,7 @@ impl Boxes {
 impl Domain for Boxes {
     type Head = Boxes;
 
-    ghost meaning = { box_meaning };
+    ghost abstraction = { box_abstraction };
 
     ghost use Rattle.lra_box.specs.Laws.{box_laws};
 
@@ -116,9 +118,9 @@ impl Domain for Boxes {
 
     /// Yes exactly where there is no part, and exactly where there is no store.
     fn is_empty(&self) -> bool
-        ensures formed { box_meaning.formed self.now }
-        ensures parts { IsTrue result ↔ (box_meaning.parts self.now ≡ []) }
-        ensures stores { IsTrue result ↔ ((s : List ℤ) → ¬ box_meaning.has self.now s) }
+        ensures formed { box_abstraction.well_formed self.now }
+        ensures parts { IsTrue result ↔ (box_abstraction.parts self.now ≡ []) }
+        ensures stores { IsTrue result ↔ ((s : List ℤ) → ¬ box_abstraction.gamma self.now s) }
     {
         self.bounds.is_none()
     }
@@ -212,14 +214,14 @@ impl Domain for Boxes {
     }
 }
 
-impl Plain for Boxes {
-    ghost use Rattle.lra_box.specs.Laws.{box_plain};
+impl BaseDomain for Boxes {
+    ghost use Rattle.lra_box.specs.Laws.{box_base};
 
-    ghost plain = { box_plain };
+    ghost base_laws = { box_base };
 }
 
-impl Told for Boxes {
-    fn parts_tell_all(&self) {
+impl ExactParts for Boxes {
+    fn parts_are_exact(&self) {
         let _fit = &self.bounds;
     }
 }

@@ -3,7 +3,7 @@
 ghost use Rattle.std.specs.Prelude.{◌≡◌, length, IfSome};
 ghost use Rattle.lra_domain.specs.declared.Exactness.TheVariants.{Exact};
 ghost use Rattle.lra_linear_spec.specs.Range.{InRange};
-ghost use Rattle.lra_box.specs.Bounds.{times, TimesPasses, end_product, ProductPasses, end_sum, SumPasses, IsBound};
+ghost use Rattle.lra_box.specs.Bounds.{times, TimesPasses, end_product, EndProductPasses, end_sum, SumPasses, IsBound};
 ghost use Rattle.lra_box.specs.Ends.{IsEnd, PlusEnd};
 
 use crate::interval::{Interval, Side};
@@ -41,8 +41,9 @@ fn times_bound(c: i128, end: Option<i128>) -> Bound
 }
 
 fn product_end(side: Side, c: i128, interval: Interval) -> Bound
-    ensures bound { IsBound (end_product side c interval) (ProductPasses side c interval) result }
-    ensures fits { result.exactness ≡ Exact → ¬ ProductPasses side c interval }
+    ensures bound { IsBound (end_product side c interval) (EndProductPasses side c interval)
+        result }
+    ensures fits { result.exactness ≡ Exact → ¬ EndProductPasses side c interval }
 {
     if c == 0 {
         return Bound {

@@ -24,7 +24,7 @@ pub enum Side {
 
 impl Interval {
     /// The interval of all numbers.
-    pub(crate) const OPEN: Interval = Interval {
+    pub(crate) const FULL: Interval = Interval {
         low: None,
         high: None,
     };

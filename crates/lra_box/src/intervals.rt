@@ -2,7 +2,7 @@
 
 ghost use Rattle.std.specs.Prelude.{◌≡◌, ◌≤◌, ◌<◌, ◌^◌, IfOk, IsTrue, ◌↔◌, Some, length};
 ghost use Rattle.lra_linear_spec.specs.Range.{InRange};
-ghost use Rattle.lra_box.specs.Bounds.{AllSound, form};
+ghost use Rattle.lra_box.specs.Bounds.{AllValidIntervals, form};
 ghost use Rattle.lra_box.specs.Tables.{joined_intervals, widened_intervals, IntervalsWithin, finite_bounds};
 ghost use Rattle.lra_box.specs.Answers.{AssignedTo};
 
@@ -103,7 +103,7 @@ pub fn assign_bounds(
     requires place { x < length bounds.old }
     requires width { length factors.now ≡ length bounds.old }
     requires range { InRange constant }
-    requires sound { AllSound bounds.old }
+    requires sound { AllValidIntervals bounds.old }
     ensures { AssignedTo x (form constant factors.now) (Some bounds.old) (Some bounds.new) result }
 {
     let low = sum_end(Side::Low, constant, factors, bounds);

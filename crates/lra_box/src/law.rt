@@ -6,14 +6,15 @@ ghost use Rattle.lra_linear_spec.specs.Echelon.{IsEchelon};
 ghost use Rattle.lra_linear_spec.specs.RowOrder.{Ascends, inequality_cmp};
 ghost use Rattle.lra_box.specs.declared.interval.Interval.{Interval};
 ghost use Rattle.lra_box.specs.ExactRows.{IsEqualityRow, IsInequalityRow};
-ghost use Rattle.lra_box.specs.Parts.{equal_rows, unequal_rows};
+ghost use Rattle.lra_box.specs.Parts.{box_equalities, box_inequalities};
 
 /// The rows of a box are in order, and are exactly its finite bounds; two equal ones are one equality.
 pub fn box_rows_are_bounds()
-    ensures echelon { (is : List Interval) → (pivots : List ℕ) × IsEchelon (equal_rows (length is) 0 is) pivots }
-    ensures ascend { (is : List Interval) → Ascends inequality_cmp (unequal_rows (length is) 0 is) }
+    ensures echelon { (is : List Interval) → (pivots : List ℕ) × IsEchelon (box_equalities (length is) 0 is) pivots }
+    ensures ascend { (is : List Interval) →
+        Ascends inequality_cmp (box_inequalities (length is) 0 is) }
     ensures equalities { (is : List Interval) (r : List ℤ) →
-        (Contains (equal_rows (length is) 0 is) r ↔ IsEqualityRow (length is) is r) }
+        (Contains (box_equalities (length is) 0 is) r ↔ IsEqualityRow (length is) is r) }
     ensures inequalities { (is : List Interval) (r : List ℤ) →
-        (Contains (unequal_rows (length is) 0 is) r ↔ IsInequalityRow (length is) is r) }
+        (Contains (box_inequalities (length is) 0 is) r ↔ IsInequalityRow (length is) is r) }
 {}

@@ -4,8 +4,9 @@ ghost use Rattle.std.specs.Prelude.{◌≡◌, ◌^◌, ◌≤◌, ◌<◌, ◌+
 ghost use Rattle.std.specs.Prelude.{if◌then◌else◌};
 ghost use Rattle.lra_linear_spec.specs.Range.{InRange};
 ghost use Rattle.lra_linear_spec.specs.declared.ConKind.TheVariants.{Ge, Eq};
-ghost use Rattle.lra_box.specs.Bounds.{AllSound, EndsInRange};
-ghost use Rattle.lra_box.specs.Parts.{bound_row, is_single, low_rows, high_rows, equal_rows, unequal_rows, box_system};
+ghost use Rattle.lra_box.specs.Bounds.{AllValidIntervals, EndsInRange};
+ghost use Rattle.lra_box.specs.Parts.{bound_row, is_single, low_rows, high_rows, box_equalities, box_inequalities};
+ghost use Rattle.lra_box.specs.Parts.{box_system};
 
 use crate::interval::Interval;
 use lra_row::Row;
@@ -138,12 +139,12 @@ fn push_unequal(
 /// Adds the equalities of all places.
 fn push_equals(alloc: Global, system: &mut ConSys, intervals: &[Interval]) -> Result<(), AllocError>
     requires dims { system.old.dims ≡ length intervals.now }
-    requires sound { AllSound intervals.now }
+    requires sound { AllValidIntervals intervals.now }
     ensures dims { system.new.dims ≡ length intervals.now }
     ensures rows { OnOk result (system.new.rows ≡ system.old.rows ++
-        equal_rows (length intervals.now) 0 intervals.now) }
+        box_equalities (length intervals.now) 0 intervals.now) }
     ensures kinds { OnOk result (system.new.kinds ≡ system.old.kinds ++
-        replicate (length (equal_rows (length intervals.now) 0 intervals.now)) Eq) }
+        replicate (length (box_equalities (length intervals.now) 0 intervals.now)) Eq) }
 {
     let mut k = 0;
     let mut left = intervals;
@@ -162,12 +163,12 @@ fn push_unequals(
     intervals: &[Interval],
 ) -> Result<(), AllocError>
     requires dims { system.old.dims ≡ length intervals.now }
-    requires sound { AllSound intervals.now }
+    requires sound { AllValidIntervals intervals.now }
     ensures dims { system.new.dims ≡ length intervals.now }
     ensures rows { OnOk result (system.new.rows ≡ system.old.rows ++
-        unequal_rows (length intervals.now) 0 intervals.now) }
+        box_inequalities (length intervals.now) 0 intervals.now) }
     ensures kinds { OnOk result (system.new.kinds ≡ system.old.kinds ++
-        replicate (length (unequal_rows (length intervals.now) 0 intervals.now)) Ge) }
+        replicate (length (box_inequalities (length intervals.now) 0 intervals.now)) Ge) }
 {
     let mut k = 0;
     let mut left = intervals;
@@ -182,7 +183,7 @@ fn push_unequals(
 /// The equalities, then the inequalities, each in order of their places.
 pub fn system_of(alloc: Global, intervals: &[Interval]) -> Result<ConSys, AllocError>
     requires few { length intervals.now ≤ 2 ^ 30 }
-    requires sound { AllSound intervals.now }
+    requires sound { AllValidIntervals intervals.now }
     ensures { IfOk result (λ system. system ≡ box_system (length intervals.now) intervals.now) }
 {
     let mut system = ConSys::new(alloc, intervals.len());

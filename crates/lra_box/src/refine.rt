@@ -5,7 +5,7 @@ ghost use Rattle.std.specs.Prelude.{◌≤ℤ◌, slice_index_or};
 ghost use Rattle.lra_domain.specs.declared.Exactness.TheVariants.{Exact};
 ghost use Rattle.lra_linear_spec.specs.Range.{InRange};
 ghost use Rattle.lra_linear_spec.specs.Vectors.{product};
-ghost use Rattle.lra_box.specs.Bounds.{AllSound, EndsInRange, open_interval};
+ghost use Rattle.lra_box.specs.Bounds.{AllValidIntervals, EndsInRange, full_interval};
 ghost use Rattle.lra_box.specs.Refine.{refined, some_occurs, RefinePasses, TightAt};
 ghost use Rattle.lra_box.specs.Answers.{TestedTo};
 
@@ -26,7 +26,7 @@ fn tight_at(bounds: &[Interval], constant: i128, factors: &mut [i128], k: usize)
     requires width { length factors.old ≡ length bounds.now }
     requires range { InRange constant }
     requires factors { All InRange factors.old }
-    requires ends { EndsInRange (slice_index_or bounds.now k open_interval) }
+    requires ends { EndsInRange (slice_index_or bounds.now k full_interval) }
     ensures tight { TightAt constant factors.old k bounds.now result.interval result.exactness }
     ensures factors { factors.new ≡ factors.old }
 {
@@ -72,7 +72,7 @@ pub fn refine_all(bounds: &mut [Interval], constant: i128, factors: &mut [i128])
     requires width { length factors.old ≡ length bounds.old }
     requires range { InRange constant }
     requires factors { All InRange factors.old }
-    requires sound { AllSound bounds.old }
+    requires sound { AllValidIntervals bounds.old }
     ensures tested { TestedTo (refined constant factors.old (length factors.old) (Some bounds.old))
         (RefinePasses constant factors.old (length factors.old) (Some bounds.old))
         (λ s. pos 0 ≤ℤ (constant +ℤ product factors.old s)) (Some bounds.old)

@@ -5,7 +5,7 @@ use Rattle.std.specs.Prelude as handed
 use Rattle.std.proofs.lemmas.Result.{IfOk-weaker}
 use Rattle.std.proofs.lemmas.List.{map_more, take_all, drop_more, drop_all}
 use Rattle.lra_domain.specs.declared.Exactness.{Exactness}
-use Rattle.lra_domain.specs.Meaning.{Meaning}
+use Rattle.lra_domain.specs.Abstraction.{Abstraction}
 use Rattle.lra_program.specs.declared.program.Cond as declared_cond
 use Rattle.lra_program.specs.Program.{Cond}
 use Rattle.lra_program.specs.ProgramViews.{all_of, any_of, cond_view}
@@ -22,7 +22,7 @@ use Rattle.lra_change.proofs.SideSteps.{chain_all, chain_any, either_step}
 
 -- what is joined from the right ---------------------------------------------------------------------------------------
 
-module _ {V H : Type 0} (m : Meaning V H) where
+module _ {V H : Type 0} (m : Abstraction V H) where
   -- the last of them is joined first
   pub back_more : (xs : List (Kept V)) (x k j r : Kept V) → AreJoinedTo m x k j → AreJoinedBack m xs j r → AreJoinedBack m (xs ++ x ∷ []) k r
   back_more [] x k j r one is = (k, refl, subst (AreJoinedTo m x k) (sym is) one)
@@ -63,7 +63,7 @@ module _ {V H : Type 0} (m : Meaning V H) where
 
 -- both sides ------------------------------------------------------------------------------------------------------------
 
-module _ {V H : Type 0} (m : Meaning V H) (base : ℕ) where
+module _ {V H : Type 0} (m : Abstraction V H) (base : ℕ) where
   -- what a chain leaves where all of it is as wanted, and where it isn't
   abbrev pub Divides : Bool → Cond → List Cond → Kept V → Kept V → Kept V → Type 0
   Divides true c cs from taken left = SplitsBy m base true (all_of c cs) from (record { on = taken; off = left })

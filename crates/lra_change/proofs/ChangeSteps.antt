@@ -6,7 +6,7 @@ use Rattle.lra_domain.specs.Changes.{AllCanBeMade}
 use Rattle.lra_domain.specs.declared.Exactness.{Exactness}
 use Rattle.lra_domain.specs.declared.Exactness.TheVariants.{Exact}
 use Rattle.lra_domain.specs.Parts.{CapsWithin}
-use Rattle.lra_domain.specs.Meaning.{Meaning, Meets}
+use Rattle.lra_domain.specs.Abstraction.{Abstraction, TransfersTo}
 use Rattle.lra_program.specs.declared.receivers.Cell.{Cell}
 use Rattle.lra_program.specs.declared.receivers.Cell.TheVariants.{Variable}
 use Rattle.lra_program.specs.declared.receivers.Target.{Target}
@@ -22,7 +22,7 @@ use Rattle.lra_flow.specs.declared.seen.Seen.TheVariants.{Linear, Divided, Unsee
 use Rattle.lra_flow.specs.Seen.{Divides, SeenFits, seen_of, subtracted, difference_seen}
 use Rattle.lra_flow.specs.Room.{most_live}
 use Rattle.lra_flow.specs.Operations.{dropping}
-use Rattle.lra_domain.specs.Meaning.{worse}
+use Rattle.lra_domain.specs.Abstraction.{worse}
 use Rattle.lra_base.specs.declared.number_types.NumberType.{NumberType}
 use Rattle.lra_base.specs.declared.number_types.NumberType.TheVariants.{Int}
 use Rattle.lra_domain.specs.Actions.{test}
@@ -37,11 +37,12 @@ use Rattle.lra_flow.proofs.DivisionLemmas.{constant_form_wide, constant_length, 
 use Rattle.lra_change.specs.Changes.{Does, Stays, CellFits}
 
 -- one change alone
-pub done_one : {V H : Type 0} (m : Meaning V H) (step : Action) (v : V) (e : Exactness) (w : V) → Meets m step v e w → m.dims w ≡ dims_after step (m.dims v) → CapsWithin (m.capped v) (m.capped w)
+pub done_one : {V H : Type 0} (m : Abstraction V H) (step : Action) (v : V) (e : Exactness) (w : V) → TransfersTo m step v e w → m.dims w ≡ dims_after step (m.dims v) →
+    CapsWithin (m.capped v) (m.capped w)
     → Does m (make step) v e w
 done_one m step v e w meets dims caps = (meets, dims, caps)
 
-pub done_none : {V H : Type 0} (m : Meaning V H) (v : V) → Does m stay v Exact v
+pub done_none : {V H : Type 0} (m : Abstraction V H) (v : V) → Does m stay v Exact v
 done_none m v = (refl, refl)
 
 -- changes in turn ----------------------------------------------------------------------------------------------------
@@ -87,17 +88,17 @@ second_made d n h few = (
 )
 
 -- one behind the other
-pub turn_more : {V H : Type 0} (m : Meaning V H) (step : Action) (steps all : List Action) (v x w : V) (c d : Exactness) → all ≡ step ∷ steps
+pub turn_more : {V H : Type 0} (m : Abstraction V H) (step : Action) (steps all : List Action) (v x w : V) (c d : Exactness) → all ≡ step ∷ steps
     → Does m (make step) v c x
     → Does m (in_turn steps) x d w → Does m (in_turn all) v (worse c d) w
 turn_more m step steps all v x w c d is one others = subst (λ (xs : List Action). Does m (in_turn xs) v (worse c d) w) (sym is) (x, c, d, one, others, refl)
 
-pub case_made : {V H : Type 0} (m : Meaning V H) (begun : List Action) (step : Action) (v x y w : V) (c d e : Exactness) → Does m (in_turn begun) v c x
+pub case_made : {V H : Type 0} (m : Abstraction V H) (begun : List Action) (step : Action) (v x y w : V) (c d e : Exactness) → Does m (in_turn begun) v c x
     → Does m (make step) x d y
     → Does m (make (remove_last 2)) y e w → Does m (in_case begun step) v (worse c (worse d e)) w
 case_made m begun step v x y w c d e one two three = (x, c, worse d e, one, (y, d, e, two, three, refl), refl)
 
-pub cases_made : {V H : Type 0} (m : Meaning V H) (live : ℕ) (d : Division) (step : Action) (v x y w : V) (c e i : Exactness)
+pub cases_made : {V H : Type 0} (m : Abstraction V H) (live : ℕ) (d : Division) (step : Action) (v x y w : V) (c e i : Exactness)
     → Does m (in_case (first_case live d) step) v c x
     → Does m (in_case (second_case live d) step) v e y → (dropping m).joined x y i w → Does m (in_cases live d step) v (worse (worse c e) i) w
 cases_made m live d step v x y w c e i one two joined = (x, y, c, e, i, one, two, joined, refl)
@@ -137,7 +138,7 @@ pub test_stays : (op : Comparison) (d : Form) (t : Test) (n : ℕ) → length d.
 test_stays op d t n wide is = (test_wide op d t (sym is) ∙ wide, refl)
 
 -- what is seen, by how it was found
-pub set_as : {V H : Type 0} (m : Meaning V H) (live x : ℕ) (s t : Seen) (v : V) (e : Exactness) (w : V) → t ≡ s → Does m (set_to live x t) v e w
+pub set_as : {V H : Type 0} (m : Abstraction V H) (live x : ℕ) (s t : Seen) (v : V) (e : Exactness) (w : V) → t ≡ s → Does m (set_to live x t) v e w
     → Does m (set_to live x s) v e w
 set_as m live x s t v e w is made = subst (λ (r : Seen). Does m (set_to live x r) v e w) is made
 
@@ -145,12 +146,13 @@ set_as m live x s t v e w is made = subst (λ (r : Seen). Does m (set_to live x 
 pub variable_below : (c : Cell) (x n : ℕ) → c ≡ Variable x → CellFits c n → x < n
 variable_below c x n is fits = subst (λ (k : Cell). CellFits k n) is fits
 
-pub cell_as : {V H : Type 0} (m : Meaning V H) (live : ℕ) (t : Target) (c : Cell) (s : Seen) (v : V) (e : Exactness) (w : V) → t.cell ≡ c
+pub cell_as : {V H : Type 0} (m : Abstraction V H) (live : ℕ) (t : Target) (c : Cell) (s : Seen) (v : V) (e : Exactness) (w : V) → t.cell ≡ c
     → Does m (set_cell live t.number_type c s) v e w → Does m (set_target live (Some t) s) v e w
 cell_as m live t c s v e w is made = subst (λ (k : Cell). Does m (set_cell live t.number_type k s) v e w) (sym is) made
 
 -- a new variable and its value
-pub done_append : {V H : Type 0} (m : Meaning V H) (base : ℕ) (e : Expr) (v x w : V) (c d : Exactness) → Meets m (embed 1) v c x → m.dims x ≡ m.dims v + 1
+pub done_append : {V H : Type 0} (m : Abstraction V H) (base : ℕ) (e : Expr) (v x w : V) (c d : Exactness) → TransfersTo m (embed 1) v c x →
+    m.dims x ≡ m.dims v + 1
     → CapsWithin (m.capped v) (m.capped x) → suc (m.dims v) ≡ m.dims v + 1
     → Does m (set_to (m.dims x) (m.dims v) (seen_of (m.dims x) base e)) x d w
     → Does m (append_set (m.dims v) (seen_of (suc (m.dims v)) base e)) v (worse c d) w
@@ -163,15 +165,17 @@ pub one_wide : (f : Form) (n x : ℕ) (c k : ℤ) → f ≡ record { constant = 
 one_wide f n x c k is = ap (λ (g : Form). length g.coefficients) is ∙ set_length (replicate n (pos 0)) x c ∙ length-replicate n (pos 0)
 
 -- a variable within its type, over so many, at this place
-pub held_as : {V H : Type 0} (m : Meaning V H) (t : NumberType) (p : Moves) (n k x y : ℕ) (v : V) (e : Exactness) (w : V) → n ≡ k → x ≡ y → Does m
+pub held_as : {V H : Type 0} (m : Abstraction V H) (t : NumberType) (p : Moves) (n k x y : ℕ) (v : V) (e : Exactness) (w : V) → n ≡ k → x ≡ y → Does m
     (within_type t n x p) v e w
     → Does m (within_type t k y p) v e w
 held_as m t p n k x y v e w a b made = subst (λ (z : ℕ). Does m (within_type t z y p) v e w) a (subst (λ (z : ℕ). Does m (within_type t n z p) v e w) b made)
 
 -- both tests of an `int`
-pub done_int : {V H : Type 0} (m : Meaning V H) (p : Moves) (x : ℕ) (v u y w : V) (before c d : Exactness) (f g : Form) → f ≡ above_least Int (m.dims u) x → g
+pub done_int : {V H : Type 0} (m : Abstraction V H) (p : Moves) (x : ℕ) (v u y w : V) (before c d : Exactness) (f g : Form) → f ≡ above_least Int (m.dims u) x →
+    g
     ≡ below_greatest Int (m.dims u) x
-    → Does m p v before u → Meets m (test Ge f) u c y → m.dims y ≡ m.dims u → CapsWithin (m.capped u) (m.capped y) → Meets m (test Ge g) y d w → m.dims w ≡
+    → Does m p v before u → TransfersTo m (test Ge f) u c y → m.dims y ≡ m.dims u → CapsWithin (m.capped u) (m.capped y) → TransfersTo m (test Ge g) y d w →
+    m.dims w ≡
     m.dims y
     → CapsWithin (m.capped y) (m.capped w) → Does m (within_type Int (m.dims u) x p) v (worse before (worse c d)) w
 done_int m p x v u y w before c d f g low high made one same caps two also more = (
@@ -183,8 +187,8 @@ done_int m p x v u y w before c d f g low high made one same caps two also more 
     y,
     c,
     d,
-    done_one m (test Ge (above_least Int (m.dims u) x)) u c y (subst (λ (h : Form). Meets m (test Ge h) u c y) low one) same caps,
-    done_one m (test Ge (below_greatest Int (m.dims u) x)) y d w (subst (λ (h : Form). Meets m (test Ge h) y d w) high two) also more,
+    done_one m (test Ge (above_least Int (m.dims u) x)) u c y (subst (λ (h : Form). TransfersTo m (test Ge h) u c y) low one) same caps,
+    done_one m (test Ge (below_greatest Int (m.dims u) x)) y d w (subst (λ (h : Form). TransfersTo m (test Ge h) y d w) high two) also more,
     refl,
   ),
   refl,

@@ -3,7 +3,7 @@ use Rattle.std.proofs.Common.{◌≡◌, ◌∙◌, ℕ, ℤ, Bool, refl, ap, sy
 use Rattle.std.specs.Prelude.{IfOk}
 use Rattle.std.specs.Prelude as handed
 use Rattle.lra_base.specs.Operators.{Comparison, equal}
-use Rattle.lra_domain.specs.Meaning.{Meaning}
+use Rattle.lra_domain.specs.Abstraction.{Abstraction}
 use Rattle.lra_domain.specs.Moves.{Moves}
 use Rattle.lra_domain.specs.declared.Exactness.{Exactness}
 use Rattle.lra_domain.specs.declared.Exactness.TheVariants.{Exact}
@@ -25,13 +25,14 @@ split_as live op (Divided c d) other = refl
 split_as live op Unseen other = absurd (other refl)
 
 -- behind nothing that is flagged
-from_exact : {V H E : Type 0} (m : Meaning V H) (R : handed.Result Exactness E) (v w : V) (p : Moves) → IfOk R (λ e. Takes (dropping m) p v Exact w e)
+from_exact : {V H E : Type 0} (m : Abstraction V H) (R : handed.Result Exactness E) (v w : V) (p : Moves) → IfOk R (λ e. Takes (dropping m) p v Exact w e)
     → IfOk R (λ e. Does m p v e w)
 from_exact m (handed.Ok e) v w p took = takes_made (dropping m) p v w e took
 from_exact m (handed.Err e) v w p took = tt
 
 -- the comparison with a number, by what is seen of the difference
-pub number_left : {V H E : Type 0} (m : Meaning V H) (R : handed.Result Exactness E) (v w : V) (live : ℕ) (wanted : Bool) (s d : Seen) (z : ℤ) (op : Comparison)
+pub number_left : {V H E : Type 0} (m : Abstraction V H) (R : handed.Result Exactness E) (v w : V) (live : ℕ) (wanted : Bool) (s d : Seen) (z : ℤ)
+    (op : Comparison)
     → live ≡ m.dims v → op ≡ comparison_as wanted equal → d ≡ subtracted s (Linear (constant_form live z))
     → IfOk R (λ e. Takes (dropping m) (comparison_moves (m.dims v) op d) v Exact w e) → IfOk R (λ e. Does m (number_moves (m.dims v) wanted s z) v e w)
 number_left m R v w live wanted s d z op same as_wanted is left =

@@ -14,7 +14,7 @@ use Rattle.lra_program.specs.Step as step
 use Rattle.lra_program.specs.Step.{Op, append, fill, give, give_element, give_any, push_for, keep, test}
 use Rattle.lra_domain.specs.Actions.{embed}
 use Rattle.lra_domain.specs.declared.Exactness.{Exactness}
-use Rattle.lra_domain.specs.Meaning.{Meaning}
+use Rattle.lra_domain.specs.Abstraction.{Abstraction}
 use Rattle.lra_domain.specs.Moves.{Moves, stay, make, first_then, join_of, dims_moved}
 use Rattle.lra_linear_forms.specs.declared.test.Test.{Test}
 use Rattle.lra_flow.specs.Linear as linear
@@ -113,7 +113,7 @@ op_after (test base c wanted) n = guard_after n base wanted c n
 
 -- values ---------------------------------------------------------------------------------------------------------------
 
-module _ (V H : Type 0) (m : Meaning V H) where
+module _ (V H : Type 0) (m : Abstraction V H) where
   pub made_dims : (p : Moves) (v : V) (e : Exactness) (w : V) → AreMade (dropping m) p v e w → m.dims w ≡ dims_moved p (m.dims v)
   made_dims stay v e w (same, exact) = ap (λ (x : V). m.dims x) same
   made_dims (make step) v e w made = made.1

@@ -11,7 +11,7 @@ use Rattle.lra_program.specs.declared.program.Expr as declared_expr
 use Rattle.lra_program.specs.Program.{compare, nonzero, opposite}
 use Rattle.lra_program.specs.ProgramViews.{all_of, any_of, cond_view, expr_view}
 use Rattle.lra_forms.proofs.CondSteps.{all_view, any_view}
-use Rattle.lra_domain.specs.Meaning.{Meaning}
+use Rattle.lra_domain.specs.Abstraction.{Abstraction}
 use Rattle.lra_program.specs.Program.{Cond}
 use Rattle.lra_flow.specs.Operations.{dropping}
 use Rattle.lra_domain.specs.Moves.{Moves, first_then, join_of}
@@ -48,15 +48,15 @@ module _ (c x : declared_cond.Cond) (xs : List declared_cond.Cond) (first : Box 
       ∙ ap (λ (zs : List declared_cond.Cond). any_of (cond_view x) (map cond_view zs)) (sym two)
 
 -- what is handed on as both sides of this condition, or as the one side
-pub sides_as : {V H E : Type 0} (m : Meaning V H) (base : ℕ) (R : handed.Result (Sides V) E) (from : Kept V) (c d : Cond) → d ≡ c
+pub sides_as : {V H E : Type 0} (m : Abstraction V H) (base : ℕ) (R : handed.Result (Sides V) E) (from : Kept V) (c d : Cond) → d ≡ c
     → IfOk R (λ s. SplitsBy m base true c from s) → IfOk R (λ s. SplitsBy m base true d from s)
 sides_as m base R from c d same h = subst (λ (e : Cond). IfOk R (λ s. SplitsBy m base true e from s)) (sym same) h
 
-pub leaves_as : {V H E : Type 0} (m : Meaning V H) (R : handed.Result Exactness E) (v : V) (before : Exactness) (w : V) (p p' : Moves)
+pub leaves_as : {V H E : Type 0} (m : Abstraction V H) (R : handed.Result Exactness E) (v : V) (before : Exactness) (w : V) (p p' : Moves)
     → p' ≡ p → IfOk R (λ e. Takes (dropping m) p v before w e) → IfOk R (λ e. Takes (dropping m) p' v before w e)
 leaves_as m R v before w p p' is h = subst (λ (x : Moves). IfOk R (λ e. Takes (dropping m) x v before w e)) (sym is) h
 
-module _ {V H : Type 0} (m : Meaning V H) (base : ℕ) where
+module _ {V H : Type 0} (m : Abstraction V H) (base : ℕ) where
   -- the first leaves this, and the others that
   pub then_done : (p q : Moves) (from one to : Kept V) → TakesTo m p from one → TakesTo m q one to → TakesTo m (first_then p q) from to
   then_done p q from one to first rest = (then_takes (dropping m) from.value from.exactness to.value to.exactness p q).0 (one.value, one.exactness, first, rest)

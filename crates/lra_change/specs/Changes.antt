@@ -3,7 +3,7 @@ use Rattle.std.specs.Prelude.{◌≡◌, ℕ, ◌+◌, ◌<◌, ◌≤◌, ⊤, 
 use Rattle.lra_domain.specs.Actions.{Action, dims_after}
 use Rattle.lra_domain.specs.Changes.{CanBeMade}
 use Rattle.lra_domain.specs.declared.Exactness.{Exactness}
-use Rattle.lra_domain.specs.Meaning.{Meaning}
+use Rattle.lra_domain.specs.Abstraction.{Abstraction}
 use Rattle.lra_program.specs.Step.{Op, append, fill, give, give_element, give_any, push, push_for, keep, test}
 use Rattle.lra_program.specs.declared.receivers.Cell.{Cell}
 use Rattle.lra_program.specs.declared.receivers.Cell.TheVariants.{Variable, Waiting}
@@ -15,11 +15,11 @@ use Rattle.lra_flow.specs.Pass.{Changes}
 use Rattle.lra_flow.specs.Room.{most_live}
 
 -- the moves lead from the first value to the second one, with this exactness
-abbrev pub Does : {V H : Type 0} → Meaning V H → Moves → V → Exactness → V → Type 0
+abbrev pub Does : {V H : Type 0} → Abstraction V H → Moves → V → Exactness → V → Type 0
 Does m moves v e w = AreMade (dropping m) moves v e w
 
 -- and so does a least change
-abbrev pub ChangesTo : {V H : Type 0} → Meaning V H → Op → V → Exactness → V → Type 0
+abbrev pub ChangesTo : {V H : Type 0} → Abstraction V H → Op → V → Exactness → V → Type 0
 ChangesTo m op v e w = Changes (dropping m) op v e w
 
 -- an action that can be made of a value of so many dimensions, and leaves as many

@@ -2,7 +2,7 @@
 
 ghost use Rattle.std.specs.Prelude.{◌≡◌, ◌≤◌, ◌<◌, ◌+◌, length, IfOk, OnOk};
 ghost use Rattle.lra_domain.specs.Actions.{assign};
-ghost use Rattle.lra_domain.specs.Changes.{action_of, actions_of, AllCanBeMade, dims_behind};
+ghost use Rattle.lra_domain.specs.Changes.{action_of, actions_of, AllCanBeMade, dims_after_actions};
 ghost use Rattle.lra_flow.specs.Room.{most_live};
 ghost use Rattle.lra_flow.specs.MovesOf.{in_turn, first_case, second_case, in_case, in_cases};
 ghost use Rattle.lra_flow.specs.Seen.{Divides};
@@ -16,11 +16,11 @@ use std::alloc::{AllocError, Global};
 
 /// Makes the changes, one behind the other.
 fn change_in_turn<D: Domain>(changes: &[Change], value: &mut D) -> Result<Exactness, AllocError>
-    requires { AllCanBeMade (actions_of changes.now) (D.meaning.dims value.old) }
+    requires { AllCanBeMade (actions_of changes.now) (D.abstraction.dims value.old) }
     ensures changes { IfOk result (λ a.
-        Does D.meaning (in_turn (actions_of changes.now)) value.old a value.new) }
-    ensures dims { OnOk result (D.meaning.dims value.new ≡
-        dims_behind (actions_of changes.now) (D.meaning.dims value.old)) }
+        Does D.abstraction (in_turn (actions_of changes.now)) value.old a value.new) }
+    ensures dims { OnOk result (D.abstraction.dims value.new ≡
+        dims_after_actions (actions_of changes.now) (D.abstraction.dims value.old)) }
 {
     let Some((first, later)) = changes.split_first() else {
         return Ok(Exactness::Exact);
@@ -36,13 +36,13 @@ fn change_in_case<D: Domain>(
     step: &Change,
     value: &mut D,
 ) -> Result<Exactness, AllocError>
-    requires begins { AllCanBeMade (actions_of begun.now) (D.meaning.dims value.old) }
-    requires two { dims_behind (actions_of begun.now) (D.meaning.dims value.old) ≡
-        D.meaning.dims value.old + 2 }
-    requires stays { Stays (action_of step.now) (D.meaning.dims value.old + 2) }
-    ensures changes { IfOk result (λ a. Does D.meaning
+    requires begins { AllCanBeMade (actions_of begun.now) (D.abstraction.dims value.old) }
+    requires two { dims_after_actions (actions_of begun.now) (D.abstraction.dims value.old) ≡
+        D.abstraction.dims value.old + 2 }
+    requires stays { Stays (action_of step.now) (D.abstraction.dims value.old + 2) }
+    ensures changes { IfOk result (λ a. Does D.abstraction
         (in_case (actions_of begun.now) (action_of step.now)) value.old a value.new) }
-    ensures dims { OnOk result (D.meaning.dims value.new ≡ D.meaning.dims value.old) }
+    ensures dims { OnOk result (D.abstraction.dims value.new ≡ D.abstraction.dims value.old) }
 {
     let one = change_in_turn(begun, value)?;
     let two = value.change(step)?;
@@ -57,13 +57,13 @@ fn change_in_first_case<D: Domain>(
     step: &Change,
     value: &mut D,
 ) -> Result<Exactness, AllocError>
-    requires few { D.meaning.dims value.old ≤ most_live }
-    requires divides { Divides division.now (D.meaning.dims value.old) }
-    requires stays { Stays (action_of step.now) (D.meaning.dims value.old + 2) }
-    ensures changes { IfOk result (λ a. Does D.meaning
-        (in_case (first_case (D.meaning.dims value.old) division.now) (action_of step.now))
+    requires few { D.abstraction.dims value.old ≤ most_live }
+    requires divides { Divides division.now (D.abstraction.dims value.old) }
+    requires stays { Stays (action_of step.now) (D.abstraction.dims value.old + 2) }
+    ensures changes { IfOk result (λ a. Does D.abstraction
+        (in_case (first_case (D.abstraction.dims value.old) division.now) (action_of step.now))
         value.old a value.new) }
-    ensures dims { OnOk result (D.meaning.dims value.new ≡ D.meaning.dims value.old) }
+    ensures dims { OnOk result (D.abstraction.dims value.new ≡ D.abstraction.dims value.old) }
 {
     let begun = first_case(alloc, value.dims(), division)?;
     change_in_case(begun.as_slice(), step, value)
@@ -76,13 +76,13 @@ fn change_in_second_case<D: Domain>(
     step: &Change,
     value: &mut D,
 ) -> Result<Exactness, AllocError>
-    requires few { D.meaning.dims value.old ≤ most_live }
-    requires divides { Divides division.now (D.meaning.dims value.old) }
-    requires stays { Stays (action_of step.now) (D.meaning.dims value.old + 2) }
-    ensures changes { IfOk result (λ a. Does D.meaning
-        (in_case (second_case (D.meaning.dims value.old) division.now) (action_of step.now))
+    requires few { D.abstraction.dims value.old ≤ most_live }
+    requires divides { Divides division.now (D.abstraction.dims value.old) }
+    requires stays { Stays (action_of step.now) (D.abstraction.dims value.old + 2) }
+    ensures changes { IfOk result (λ a. Does D.abstraction
+        (in_case (second_case (D.abstraction.dims value.old) division.now) (action_of step.now))
         value.old a value.new) }
-    ensures dims { OnOk result (D.meaning.dims value.new ≡ D.meaning.dims value.old) }
+    ensures dims { OnOk result (D.abstraction.dims value.new ≡ D.abstraction.dims value.old) }
 {
     let begun = second_case(alloc, value.dims(), division)?;
     change_in_case(begun.as_slice(), step, value)
@@ -95,13 +95,13 @@ pub fn change_in_cases<D: Domain>(
     step: &Change,
     value: &mut D,
 ) -> Result<Exactness, AllocError>
-    requires few { D.meaning.dims value.old ≤ most_live }
-    requires divides { Divides division.now (D.meaning.dims value.old) }
-    requires stays { Stays (action_of step.now) (D.meaning.dims value.old + 2) }
-    ensures changes { IfOk result (λ a. Does D.meaning
-        (in_cases (D.meaning.dims value.old) division.now (action_of step.now))
+    requires few { D.abstraction.dims value.old ≤ most_live }
+    requires divides { Divides division.now (D.abstraction.dims value.old) }
+    requires stays { Stays (action_of step.now) (D.abstraction.dims value.old + 2) }
+    ensures changes { IfOk result (λ a. Does D.abstraction
+        (in_cases (D.abstraction.dims value.old) division.now (action_of step.now))
         value.old a value.new) }
-    ensures dims { OnOk result (D.meaning.dims value.new ≡ D.meaning.dims value.old) }
+    ensures dims { OnOk result (D.abstraction.dims value.new ≡ D.abstraction.dims value.old) }
 {
     let mut other = value.copy(alloc)?;
     let one = change_in_first_case(alloc, division, step, value)?;
@@ -118,14 +118,14 @@ pub fn assign_in_cases<D: Domain>(
     form: &LinExpr,
     value: &mut D,
 ) -> Result<Exactness, AllocError>
-    requires few { D.meaning.dims value.old ≤ most_live }
-    requires place { place < D.meaning.dims value.old }
-    requires divides { Divides division.now (D.meaning.dims value.old) }
-    requires width { length form.now.coefficients ≡ D.meaning.dims value.old + 2 }
-    ensures changes { IfOk result (λ a. Does D.meaning
-        (in_cases (D.meaning.dims value.old) division.now (assign place form.now))
+    requires few { D.abstraction.dims value.old ≤ most_live }
+    requires place { place < D.abstraction.dims value.old }
+    requires divides { Divides division.now (D.abstraction.dims value.old) }
+    requires width { length form.now.coefficients ≡ D.abstraction.dims value.old + 2 }
+    ensures changes { IfOk result (λ a. Does D.abstraction
+        (in_cases (D.abstraction.dims value.old) division.now (assign place form.now))
         value.old a value.new) }
-    ensures dims { OnOk result (D.meaning.dims value.new ≡ D.meaning.dims value.old) }
+    ensures dims { OnOk result (D.abstraction.dims value.new ≡ D.abstraction.dims value.old) }
 {
     let copy = form.copy(alloc)?;
     let step = Change::Assign(place, copy);

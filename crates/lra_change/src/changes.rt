@@ -31,11 +31,11 @@ fn set<D: Domain>(
     e: &Expr,
     value: &mut D,
 ) -> Result<Exactness, AllocError>
-    requires few { D.meaning.dims value.old ≤ most_live }
-    requires place { place < D.meaning.dims value.old }
-    ensures sets { IfOk result (λ a. Does D.meaning (set_to (D.meaning.dims value.old) place
-        (seen_of (D.meaning.dims value.old) base (expr_view e.now))) value.old a value.new) }
-    ensures dims { OnOk result (D.meaning.dims value.new ≡ D.meaning.dims value.old) }
+    requires few { D.abstraction.dims value.old ≤ most_live }
+    requires place { place < D.abstraction.dims value.old }
+    ensures sets { IfOk result (λ a. Does D.abstraction (set_to (D.abstraction.dims value.old) place
+        (seen_of (D.abstraction.dims value.old) base (expr_view e.now))) value.old a value.new) }
+    ensures dims { OnOk result (D.abstraction.dims value.new ≡ D.abstraction.dims value.old) }
 {
     let seen = see(alloc, value.dims(), base, e)?;
     match &seen {
@@ -61,13 +61,13 @@ fn push_one<D: Domain>(
     argument: &Argument,
     value: &mut D,
 ) -> Result<Exactness, AllocError>
-    requires { D.meaning.dims value.old < most_live }
-    ensures pushes { IfOk result (λ a. Does D.meaning (within_type argument.now.number_type
-        (suc (D.meaning.dims value.old)) (D.meaning.dims value.old)
-        (append_set (D.meaning.dims value.old)
-        (seen_of (suc (D.meaning.dims value.old)) base (expr_view argument.now.value))))
+    requires { D.abstraction.dims value.old < most_live }
+    ensures pushes { IfOk result (λ a. Does D.abstraction (within_type argument.now.number_type
+        (suc (D.abstraction.dims value.old)) (D.abstraction.dims value.old)
+        (append_set (D.abstraction.dims value.old)
+        (seen_of (suc (D.abstraction.dims value.old)) base (expr_view argument.now.value))))
         value.old a value.new) }
-    ensures dims { OnOk result (D.meaning.dims value.new ≡ suc (D.meaning.dims value.old)) }
+    ensures dims { OnOk result (D.abstraction.dims value.new ≡ suc (D.abstraction.dims value.old)) }
 {
     let place = value.dims();
     let one = value.embed(1)?;
@@ -83,10 +83,10 @@ fn push_all_of<D: Domain>(
     arguments: &[Argument],
     value: &mut D,
 ) -> Result<Exactness, AllocError>
-    requires { D.meaning.dims value.old + length arguments.now ≤ most_live }
-    ensures pushes { IfOk result (λ a. Does D.meaning
-        (push_all (D.meaning.dims value.old) base (map argument_view arguments.now)) value.old a value.new) }
-    ensures dims { OnOk result (D.meaning.dims value.new ≡ D.meaning.dims value.old + length arguments.now) }
+    requires { D.abstraction.dims value.old + length arguments.now ≤ most_live }
+    ensures pushes { IfOk result (λ a. Does D.abstraction
+        (push_all (D.abstraction.dims value.old) base (map argument_view arguments.now)) value.old a value.new) }
+    ensures dims { OnOk result (D.abstraction.dims value.new ≡ D.abstraction.dims value.old + length arguments.now) }
 {
     let Some((first, later)) = arguments.split_first() else {
         return Ok(Exactness::Exact);
@@ -98,8 +98,10 @@ fn push_all_of<D: Domain>(
 
 /// Only the oldest `n` variables stay.
 fn keep<D: Domain>(n: usize, value: &mut D) -> Result<Exactness, AllocError>
-    ensures keeps { IfOk result (λ a. Does D.meaning (drop_last (D.meaning.dims value.old - n)) value.old a value.new) }
-    ensures dims { OnOk result (D.meaning.dims value.new ≡ D.meaning.dims value.old - (D.meaning.dims value.old - n)) }
+    ensures keeps { IfOk result
+        (λ a. Does D.abstraction (drop_last (D.abstraction.dims value.old - n)) value.old a value.new) }
+    ensures dims { OnOk result
+        (D.abstraction.dims value.new ≡ D.abstraction.dims value.old - (D.abstraction.dims value.old - n)) }
 {
     let dims = value.dims();
     if dims <= n {
@@ -115,9 +117,9 @@ fn append_any<D: Domain>(
     number_type: NumberType,
     value: &mut D,
 ) -> Result<Exactness, AllocError>
-    requires { D.meaning.dims value.old < most_live }
-    ensures changes { IfOk result (λ a. ChangesTo D.meaning (append number_type) value.old a value.new) }
-    ensures dims { OnOk result (D.meaning.dims value.new ≡ suc (D.meaning.dims value.old)) }
+    requires { D.abstraction.dims value.old < most_live }
+    ensures changes { IfOk result (λ a. ChangesTo D.abstraction (append number_type) value.old a value.new) }
+    ensures dims { OnOk result (D.abstraction.dims value.new ≡ suc (D.abstraction.dims value.old)) }
 {
     let place = value.dims();
     let exactness = value.embed(1)?;
@@ -131,11 +133,11 @@ fn give_any_value<D: Domain>(
     target: Target,
     value: &mut D,
 ) -> Result<Exactness, AllocError>
-    requires few { D.meaning.dims value.old ≤ most_live }
-    requires place { CellFits target.cell (D.meaning.dims value.old) }
-    ensures gives { IfOk result (λ a. Does D.meaning
-        (set_target (D.meaning.dims value.old) (Some target) Unseen) value.old a value.new) }
-    ensures dims { OnOk result (D.meaning.dims value.new ≡ D.meaning.dims value.old) }
+    requires few { D.abstraction.dims value.old ≤ most_live }
+    requires place { CellFits target.cell (D.abstraction.dims value.old) }
+    ensures gives { IfOk result (λ a. Does D.abstraction
+        (set_target (D.abstraction.dims value.old) (Some target) Unseen) value.old a value.new) }
+    ensures dims { OnOk result (D.abstraction.dims value.new ≡ D.abstraction.dims value.old) }
 {
     match target.cell {
         Cell::Waiting(_) => Ok(Exactness::Exact),
@@ -155,11 +157,11 @@ fn give<D: Domain>(
     e: &Expr,
     value: &mut D,
 ) -> Result<Exactness, AllocError>
-    requires few { D.meaning.dims value.old ≤ most_live }
-    requires place { CellFits target.cell (D.meaning.dims value.old) }
-    ensures gives { IfOk result (λ a. Does D.meaning (set_target (D.meaning.dims value.old) (Some target)
-        (seen_of (D.meaning.dims value.old) base (expr_view e.now))) value.old a value.new) }
-    ensures dims { OnOk result (D.meaning.dims value.new ≡ D.meaning.dims value.old) }
+    requires few { D.abstraction.dims value.old ≤ most_live }
+    requires place { CellFits target.cell (D.abstraction.dims value.old) }
+    ensures gives { IfOk result (λ a. Does D.abstraction (set_target (D.abstraction.dims value.old) (Some target)
+        (seen_of (D.abstraction.dims value.old) base (expr_view e.now))) value.old a value.new) }
+    ensures dims { OnOk result (D.abstraction.dims value.new ≡ D.abstraction.dims value.old) }
 {
     match target.cell {
         Cell::Waiting(_) => Ok(Exactness::Exact),
@@ -173,10 +175,11 @@ fn give<D: Domain>(
 
 /// What the least change of the program does to the value.
 pub fn change<D: Domain>(alloc: Global, op: &Op, value: &mut D) -> Result<Exactness, AllocError>
-    requires few { D.meaning.dims value.old ≤ most_live }
-    requires fits { OpFits (op_view op.now) (D.meaning.dims value.old) }
-    ensures changes { IfOk result (λ a. ChangesTo D.meaning (op_view op.now) value.old a value.new) }
-    ensures dims { OnOk result (D.meaning.dims value.new ≡ dims_behind (op_view op.now) (D.meaning.dims value.old)) }
+    requires few { D.abstraction.dims value.old ≤ most_live }
+    requires fits { OpFits (op_view op.now) (D.abstraction.dims value.old) }
+    ensures changes { IfOk result (λ a. ChangesTo D.abstraction (op_view op.now) value.old a value.new) }
+    ensures dims { OnOk result
+        (D.abstraction.dims value.new ≡ dims_behind (op_view op.now) (D.abstraction.dims value.old)) }
 {
     match op {
         Op::Append(number_type) => append_any(alloc, *number_type, value),

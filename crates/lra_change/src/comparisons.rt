@@ -30,12 +30,12 @@ fn leave_test<D: Domain>(
     value: &mut D,
     before: Exactness,
 ) -> Result<Exactness, AllocError>
-    requires few { D.meaning.dims value.old ≤ most_live }
-    requires width { SeenFits seen.now (D.meaning.dims value.old) }
-    ensures leaves { IfOk result (λ e. Takes (dropping D.meaning)
-        (seen_moves (D.meaning.dims value.old) (comparison_view op) seen.now)
+    requires few { D.abstraction.dims value.old ≤ most_live }
+    requires width { SeenFits seen.now (D.abstraction.dims value.old) }
+    ensures leaves { IfOk result (λ e. Takes (dropping D.abstraction)
+        (seen_moves (D.abstraction.dims value.old) (comparison_view op) seen.now)
         value.old before value.new e) }
-    ensures dims { OnOk result (D.meaning.dims value.new ≡ D.meaning.dims value.old) }
+    ensures dims { OnOk result (D.abstraction.dims value.new ≡ D.abstraction.dims value.old) }
 {
     match seen {
         Seen::Unseen => Ok(before),
@@ -52,11 +52,11 @@ fn leave_linear<D: Domain>(
     value: &mut D,
     before: Exactness,
 ) -> Result<Exactness, AllocError>
-    requires few { D.meaning.dims value.old ≤ most_live }
-    requires width { length d.now.coefficients ≡ D.meaning.dims value.old }
-    ensures leaves { IfOk result (λ e. Takes (dropping D.meaning)
+    requires few { D.abstraction.dims value.old ≤ most_live }
+    requires width { length d.now.coefficients ≡ D.abstraction.dims value.old }
+    ensures leaves { IfOk result (λ e. Takes (dropping D.abstraction)
         (test_moves (comparison_test (comparison_view op) d.now)) value.old before value.new e) }
-    ensures dims { OnOk result (D.meaning.dims value.new ≡ D.meaning.dims value.old) }
+    ensures dims { OnOk result (D.abstraction.dims value.new ≡ D.abstraction.dims value.old) }
 {
     match test_of(alloc, op, d)? {
         None => Ok(before),
@@ -76,14 +76,14 @@ fn leave_divided<D: Domain>(
     value: &mut D,
     before: Exactness,
 ) -> Result<Exactness, AllocError>
-    requires few { D.meaning.dims value.old ≤ most_live }
-    requires divides { Divides division.now (D.meaning.dims value.old) }
-    requires width { length d.now.coefficients ≡ D.meaning.dims value.old + 2 }
-    ensures leaves { IfOk result (λ e. Takes (dropping D.meaning)
-        (case_moves (D.meaning.dims value.old) division.now
+    requires few { D.abstraction.dims value.old ≤ most_live }
+    requires divides { Divides division.now (D.abstraction.dims value.old) }
+    requires width { length d.now.coefficients ≡ D.abstraction.dims value.old + 2 }
+    ensures leaves { IfOk result (λ e. Takes (dropping D.abstraction)
+        (case_moves (D.abstraction.dims value.old) division.now
         (comparison_test (comparison_view op) d.now))
         value.old before value.new e) }
-    ensures dims { OnOk result (D.meaning.dims value.new ≡ D.meaning.dims value.old) }
+    ensures dims { OnOk result (D.abstraction.dims value.new ≡ D.abstraction.dims value.old) }
 {
     match test_of(alloc, op, d)? {
         None => Ok(before),
@@ -101,11 +101,11 @@ fn leave_below<D: Domain>(
     value: &D,
     before: Exactness,
 ) -> Result<(D, Exactness), AllocError>
-    requires few { D.meaning.dims value.now ≤ most_live }
-    requires width { SeenFits seen.now (D.meaning.dims value.now) }
-    ensures leaves { IfOk result (λ r. Takes (dropping D.meaning)
-        (seen_moves (D.meaning.dims value.now) below seen.now) value.now before r.0 r.1) }
-    ensures dims { IfOk result (λ r. D.meaning.dims r.0 ≡ D.meaning.dims value.now) }
+    requires few { D.abstraction.dims value.now ≤ most_live }
+    requires width { SeenFits seen.now (D.abstraction.dims value.now) }
+    ensures leaves { IfOk result (λ r. Takes (dropping D.abstraction)
+        (seen_moves (D.abstraction.dims value.now) below seen.now) value.now before r.0 r.1) }
+    ensures dims { IfOk result (λ r. D.abstraction.dims r.0 ≡ D.abstraction.dims value.now) }
 {
     let mut less = value.copy(alloc)?;
     let exactness = leave_test(alloc, Comparison::Below, seen, &mut less, before)?;
@@ -119,11 +119,12 @@ fn leave_differs<D: Domain>(
     value: &mut D,
     before: Exactness,
 ) -> Result<Exactness, AllocError>
-    requires few { D.meaning.dims value.old ≤ most_live }
-    requires width { SeenFits seen.now (D.meaning.dims value.old) }
-    ensures leaves { IfOk result (λ e. Takes (dropping D.meaning)
-        (split_moves (D.meaning.dims value.old) differs seen.now) value.old before value.new e) }
-    ensures dims { OnOk result (D.meaning.dims value.new ≡ D.meaning.dims value.old) }
+    requires few { D.abstraction.dims value.old ≤ most_live }
+    requires width { SeenFits seen.now (D.abstraction.dims value.old) }
+    ensures leaves { IfOk result (λ e. Takes (dropping D.abstraction)
+        (split_moves (D.abstraction.dims value.old) differs seen.now) value.old before value.new
+        e) }
+    ensures dims { OnOk result (D.abstraction.dims value.new ≡ D.abstraction.dims value.old) }
 {
     let (mut less, one) = leave_below(alloc, seen, value, before)?;
     let two = leave_test(alloc, Comparison::Above, seen, value, before)?;
@@ -140,12 +141,12 @@ fn leave_seen<D: Domain>(
     value: &mut D,
     before: Exactness,
 ) -> Result<Exactness, AllocError>
-    requires few { D.meaning.dims value.old ≤ most_live }
-    requires width { SeenFits seen.now (D.meaning.dims value.old) }
-    ensures leaves { IfOk result (λ e. Takes (dropping D.meaning)
-        (split_moves (D.meaning.dims value.old) (comparison_view op) seen.now)
+    requires few { D.abstraction.dims value.old ≤ most_live }
+    requires width { SeenFits seen.now (D.abstraction.dims value.old) }
+    ensures leaves { IfOk result (λ e. Takes (dropping D.abstraction)
+        (split_moves (D.abstraction.dims value.old) (comparison_view op) seen.now)
         value.old before value.new e) }
-    ensures dims { OnOk result (D.meaning.dims value.new ≡ D.meaning.dims value.old) }
+    ensures dims { OnOk result (D.abstraction.dims value.new ≡ D.abstraction.dims value.old) }
 {
     match op {
         Comparison::Differs => leave_differs(alloc, seen, value, before),
@@ -161,12 +162,12 @@ fn leave_difference<D: Domain>(
     value: &mut D,
     before: Exactness,
 ) -> Result<Exactness, AllocError>
-    requires few { D.meaning.dims value.old ≤ most_live }
-    requires width { SeenFits seen.now (D.meaning.dims value.old) }
-    ensures leaves { IfOk result (λ e. Takes (dropping D.meaning)
-        (comparison_moves (D.meaning.dims value.old) (comparison_view op) seen.now)
+    requires few { D.abstraction.dims value.old ≤ most_live }
+    requires width { SeenFits seen.now (D.abstraction.dims value.old) }
+    ensures leaves { IfOk result (λ e. Takes (dropping D.abstraction)
+        (comparison_moves (D.abstraction.dims value.old) (comparison_view op) seen.now)
         value.old before value.new e) }
-    ensures dims { OnOk result (D.meaning.dims value.new ≡ D.meaning.dims value.old) }
+    ensures dims { OnOk result (D.abstraction.dims value.new ≡ D.abstraction.dims value.old) }
 {
     match seen {
         Seen::Unseen => Ok(before),
@@ -190,13 +191,13 @@ pub fn leave_comparison<D: Domain>(
     value: &mut D,
     before: Exactness,
 ) -> Result<Exactness, AllocError>
-    requires { D.meaning.dims value.old ≤ most_live }
-    ensures leaves { IfOk result (λ e. Takes (dropping D.meaning)
-        (comparison_moves (D.meaning.dims value.old) (comparison_view op)
-        (difference_seen (D.meaning.dims value.old) around.base
+    requires { D.abstraction.dims value.old ≤ most_live }
+    ensures leaves { IfOk result (λ e. Takes (dropping D.abstraction)
+        (comparison_moves (D.abstraction.dims value.old) (comparison_view op)
+        (difference_seen (D.abstraction.dims value.old) around.base
         (expr_view left.now) (expr_view right.now)))
         value.old before value.new e) }
-    ensures dims { OnOk result (D.meaning.dims value.new ≡ D.meaning.dims value.old) }
+    ensures dims { OnOk result (D.abstraction.dims value.new ≡ D.abstraction.dims value.old) }
 {
     let seen = see_difference(around.alloc, value.dims(), around.base, left, right)?;
     leave_difference(around.alloc, op, &seen, value, before)
@@ -211,11 +212,11 @@ pub fn leave_number<D: Domain>(
     wanted: bool,
     value: &mut D,
 ) -> Result<Exactness, AllocError>
-    requires few { D.meaning.dims value.old ≤ most_live }
-    requires width { SeenFits seen.now (D.meaning.dims value.old) }
-    ensures leaves { IfOk result (λ e. Does D.meaning
-        (number_moves (D.meaning.dims value.old) wanted seen.now number.now) value.old e value.new) }
-    ensures dims { OnOk result (D.meaning.dims value.new ≡ D.meaning.dims value.old) }
+    requires few { D.abstraction.dims value.old ≤ most_live }
+    requires width { SeenFits seen.now (D.abstraction.dims value.old) }
+    ensures leaves { IfOk result (λ e. Does D.abstraction
+        (number_moves (D.abstraction.dims value.old) wanted seen.now number.now) value.old e value.new) }
+    ensures dims { OnOk result (D.abstraction.dims value.new ≡ D.abstraction.dims value.old) }
 {
     let op = comparison_where(Comparison::Equal, wanted);
     let difference = subtract_number(alloc, value.dims(), seen, number)?;

@@ -27,11 +27,11 @@ fn leave_nonzero<D: Domain>(
     value: &mut D,
     before: Exactness,
 ) -> Result<Exactness, AllocError>
-    requires { D.meaning.dims value.old ≤ most_live }
-    ensures leaves { IfOk result (λ a. Takes (dropping D.meaning)
-        (guard (D.meaning.dims value.old) around.base wanted (nonzero (expr_view e.now)))
+    requires { D.abstraction.dims value.old ≤ most_live }
+    ensures leaves { IfOk result (λ a. Takes (dropping D.abstraction)
+        (guard (D.abstraction.dims value.old) around.base wanted (nonzero (expr_view e.now)))
         value.old before value.new a) }
-    ensures dims { OnOk result (D.meaning.dims value.new ≡ D.meaning.dims value.old) }
+    ensures dims { OnOk result (D.abstraction.dims value.new ≡ D.abstraction.dims value.old) }
 {
     let zero = Expr::Literal(NumberType::Int, 0);
     let op = comparison_where(Comparison::Differs, wanted);
@@ -68,8 +68,8 @@ fn divide_lefts<'a, D: Domain>(
     wanted: bool,
     from: Kept<D>,
 ) -> Result<Apart<'a, D>, AllocError>
-    requires { D.meaning.dims from.value ≤ most_live }
-    ensures apart { IfOk result (λ a. IsEitherSoFar D.meaning around.base wanted (cond_view first.now)
+    requires { D.abstraction.dims from.value ≤ most_live }
+    ensures apart { IfOk result (λ a. IsEitherSoFar D.abstraction around.base wanted (cond_view first.now)
         (map cond_view rest.now) from a.lefts.items a.off (cond_view a.last.now) []) }
     ensures last { IfOk result (λ a. a.last.now ≡ slice_index_or (first.now ∷ rest.now) (length rest.now) a.last.now) }
 {
@@ -93,10 +93,10 @@ fn join_lefts<D: Domain>(
     exactness: Exactness,
     value: &mut D,
 ) -> Result<Exactness, AllocError>
-    requires { AllKeptHave D.meaning (D.meaning.dims right) lefts.items }
-    ensures joined { IfOk result (λ e. AreJoinedBack D.meaning lefts.items
+    requires { AllKeptHave D.abstraction (D.abstraction.dims right) lefts.items }
+    ensures joined { IfOk result (λ e. AreJoinedBack D.abstraction lefts.items
         (record { value = right; exactness = exactness }) (record { value = value.new; exactness = e })) }
-    ensures dims { OnOk result (D.meaning.dims value.new ≡ D.meaning.dims right) }
+    ensures dims { OnOk result (D.abstraction.dims value.new ≡ D.abstraction.dims right) }
 {
     let last = Kept {
         value: right,
@@ -118,10 +118,10 @@ pub fn leave<D: Domain>(
     value: &mut D,
     before: Exactness,
 ) -> Result<Exactness, AllocError>
-    requires { D.meaning.dims value.old ≤ most_live }
-    ensures leaves { IfOk result (λ e. Takes (dropping D.meaning)
-        (guard (D.meaning.dims value.old) base wanted (cond_view condition.now)) value.old before value.new e) }
-    ensures dims { OnOk result (D.meaning.dims value.new ≡ D.meaning.dims value.old) }
+    requires { D.abstraction.dims value.old ≤ most_live }
+    ensures leaves { IfOk result (λ e. Takes (dropping D.abstraction)
+        (guard (D.abstraction.dims value.old) base wanted (cond_view condition.now)) value.old before value.new e) }
+    ensures dims { OnOk result (D.abstraction.dims value.new ≡ D.abstraction.dims value.old) }
 {
     let around = Surroundings { alloc, base };
     match condition {
@@ -150,11 +150,12 @@ fn leave_all<D: Domain>(
     value: &mut D,
     before: Exactness,
 ) -> Result<Exactness, AllocError>
-    requires { D.meaning.dims value.old ≤ most_live }
-    ensures leaves { IfOk result (λ e. Takes (dropping D.meaning)
-        (guard (D.meaning.dims value.old) around.base wanted (all_of (cond_view first.now) (map cond_view rest.now)))
+    requires { D.abstraction.dims value.old ≤ most_live }
+    ensures leaves { IfOk result (λ e. Takes (dropping D.abstraction)
+        (guard (D.abstraction.dims value.old) around.base wanted
+        (all_of (cond_view first.now) (map cond_view rest.now)))
         value.old before value.new e) }
-    ensures dims { OnOk result (D.meaning.dims value.new ≡ D.meaning.dims value.old) }
+    ensures dims { OnOk result (D.abstraction.dims value.new ≡ D.abstraction.dims value.old) }
 {
     if wanted {
         leave_in_turn(around, first, rest, true, value, before)
@@ -173,11 +174,12 @@ fn leave_any<D: Domain>(
     value: &mut D,
     before: Exactness,
 ) -> Result<Exactness, AllocError>
-    requires { D.meaning.dims value.old ≤ most_live }
-    ensures leaves { IfOk result (λ e. Takes (dropping D.meaning)
-        (guard (D.meaning.dims value.old) around.base wanted (any_of (cond_view first.now) (map cond_view rest.now)))
+    requires { D.abstraction.dims value.old ≤ most_live }
+    ensures leaves { IfOk result (λ e. Takes (dropping D.abstraction)
+        (guard (D.abstraction.dims value.old) around.base wanted
+        (any_of (cond_view first.now) (map cond_view rest.now)))
         value.old before value.new e) }
-    ensures dims { OnOk result (D.meaning.dims value.new ≡ D.meaning.dims value.old) }
+    ensures dims { OnOk result (D.abstraction.dims value.new ≡ D.abstraction.dims value.old) }
 {
     if wanted {
         leave_either(around, first, rest, true, value, before)
@@ -196,11 +198,11 @@ fn leave_in_turn<D: Domain>(
     value: &mut D,
     before: Exactness,
 ) -> Result<Exactness, AllocError>
-    requires { D.meaning.dims value.old ≤ most_live }
-    ensures leaves { IfOk result (λ e. Takes (dropping D.meaning)
-        (in_turn_of (D.meaning.dims value.old) around.base wanted (cond_view first.now) (map cond_view rest.now))
+    requires { D.abstraction.dims value.old ≤ most_live }
+    ensures leaves { IfOk result (λ e. Takes (dropping D.abstraction)
+        (in_turn_of (D.abstraction.dims value.old) around.base wanted (cond_view first.now) (map cond_view rest.now))
         value.old before value.new e) }
-    ensures dims { OnOk result (D.meaning.dims value.new ≡ D.meaning.dims value.old) }
+    ensures dims { OnOk result (D.abstraction.dims value.new ≡ D.abstraction.dims value.old) }
 {
     let mut exactness = leave(around.alloc, around.base, first, wanted, value, before)?;
     'rest: for next in rest {
@@ -219,11 +221,11 @@ fn leave_either<D: Domain>(
     value: &mut D,
     before: Exactness,
 ) -> Result<Exactness, AllocError>
-    requires { D.meaning.dims value.old ≤ most_live }
-    ensures leaves { IfOk result (λ e. Takes (dropping D.meaning)
-        (either_of (D.meaning.dims value.old) around.base wanted (cond_view first.now) (map cond_view rest.now))
+    requires { D.abstraction.dims value.old ≤ most_live }
+    ensures leaves { IfOk result (λ e. Takes (dropping D.abstraction)
+        (either_of (D.abstraction.dims value.old) around.base wanted (cond_view first.now) (map cond_view rest.now))
         value.old before value.new e) }
-    ensures dims { OnOk result (D.meaning.dims value.new ≡ D.meaning.dims value.old) }
+    ensures dims { OnOk result (D.abstraction.dims value.new ≡ D.abstraction.dims value.old) }
 {
     let from = copy_kept(around.alloc, value, before)?;
     let apart = divide_lefts(around, first, rest, wanted, from)?;

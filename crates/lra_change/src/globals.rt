@@ -19,13 +19,13 @@ fn append_global<D: Domain>(
     global: &GlobalVariable,
     value: &mut D,
 ) -> Result<Exactness, AllocError>
-    requires { D.meaning.dims value.old < most_live }
-    ensures appends { IfOk result (λ a. Does D.meaning (within_type global.now.number_type
-        (suc (D.meaning.dims value.old)) (D.meaning.dims value.old)
-        (append_set (D.meaning.dims value.old)
-        (Linear (constant_form (suc (D.meaning.dims value.old)) global.now.value))))
+    requires { D.abstraction.dims value.old < most_live }
+    ensures appends { IfOk result (λ a. Does D.abstraction (within_type global.now.number_type
+        (suc (D.abstraction.dims value.old)) (D.abstraction.dims value.old)
+        (append_set (D.abstraction.dims value.old)
+        (Linear (constant_form (suc (D.abstraction.dims value.old)) global.now.value))))
         value.old a value.new) }
-    ensures dims { OnOk result (D.meaning.dims value.new ≡ suc (D.meaning.dims value.old)) }
+    ensures dims { OnOk result (D.abstraction.dims value.new ≡ suc (D.abstraction.dims value.old)) }
 {
     let place = value.dims();
     let one = value.embed(1)?;
@@ -41,10 +41,10 @@ pub fn append_globals<D: Domain>(
     globals: &[GlobalVariable],
     value: &mut D,
 ) -> Result<Exactness, AllocError>
-    requires { D.meaning.dims value.old + length globals.now ≤ most_live }
-    ensures appends { IfOk result (λ a. Does D.meaning
-        (first_values (D.meaning.dims value.old) globals.now) value.old a value.new) }
-    ensures dims { OnOk result (D.meaning.dims value.new ≡ D.meaning.dims value.old + length globals.now) }
+    requires { D.abstraction.dims value.old + length globals.now ≤ most_live }
+    ensures appends { IfOk result (λ a. Does D.abstraction
+        (first_values (D.abstraction.dims value.old) globals.now) value.old a value.new) }
+    ensures dims { OnOk result (D.abstraction.dims value.new ≡ D.abstraction.dims value.old + length globals.now) }
 {
     let Some((first, later)) = globals.split_first() else {
         return Ok(Exactness::Exact);

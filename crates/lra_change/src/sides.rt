@@ -32,8 +32,8 @@ pub struct Sides<D> {
 
 /// The first joined with the second.
 pub fn join_kept<D: Domain>(one: Kept<D>, two: Kept<D>) -> Result<Kept<D>, AllocError>
-    requires { D.meaning.dims one.value ≡ D.meaning.dims two.value }
-    ensures { IfOk result (λ r. AreJoinedTo D.meaning one two r) }
+    requires { D.abstraction.dims one.value ≡ D.abstraction.dims two.value }
+    ensures { IfOk result (λ r. AreJoinedTo D.abstraction one two r) }
 {
     let Kept {
         mut value,
@@ -48,8 +48,8 @@ pub fn join_kept<D: Domain>(one: Kept<D>, two: Kept<D>) -> Result<Kept<D>, Alloc
 
 /// Each of these joined with what those behind it give, the last with this one.
 pub fn join_back<D: Domain>(before: Vec<Kept<D>>, last: Kept<D>) -> Result<Kept<D>, AllocError>
-    requires { AllKeptHave D.meaning (D.meaning.dims last.value) before.items }
-    ensures { IfOk result (λ r. AreJoinedBack D.meaning before.items last r) }
+    requires { AllKeptHave D.abstraction (D.abstraction.dims last.value) before.items }
+    ensures { IfOk result (λ r. AreJoinedBack D.abstraction before.items last r) }
 {
     let mut left = before;
     let mut joined = last;
@@ -62,9 +62,9 @@ pub fn join_back<D: Domain>(before: Vec<Kept<D>>, last: Kept<D>) -> Result<Kept<
 /// The side where the last operand is false, joined with those before it from the right.
 #[inline(never)]
 fn join_off<D: Domain>(before: Vec<Kept<D>>, last: Sides<D>) -> Result<Sides<D>, AllocError>
-    requires { AllKeptHave D.meaning (D.meaning.dims last.off.value) before.items }
+    requires { AllKeptHave D.abstraction (D.abstraction.dims last.off.value) before.items }
     ensures on { IfOk result (λ s. s.on ≡ last.on) }
-    ensures off { IfOk result (λ s. AreJoinedBack D.meaning before.items last.off s.off) }
+    ensures off { IfOk result (λ s. AreJoinedBack D.abstraction before.items last.off s.off) }
 {
     let Sides { on, off } = last;
     let joined = join_back(before, off)?;
@@ -74,8 +74,8 @@ fn join_off<D: Domain>(before: Vec<Kept<D>>, last: Sides<D>) -> Result<Sides<D>,
 /// The side where the last operand is true, joined likewise.
 #[inline(never)]
 fn join_on<D: Domain>(before: Vec<Kept<D>>, last: Sides<D>) -> Result<Sides<D>, AllocError>
-    requires { AllKeptHave D.meaning (D.meaning.dims last.on.value) before.items }
-    ensures on { IfOk result (λ s. AreJoinedBack D.meaning before.items last.on s.on) }
+    requires { AllKeptHave D.abstraction (D.abstraction.dims last.on.value) before.items }
+    ensures on { IfOk result (λ s. AreJoinedBack D.abstraction before.items last.on s.on) }
     ensures off { IfOk result (λ s. s.off ≡ last.off) }
 {
     let Sides { on, off } = last;
@@ -93,8 +93,8 @@ fn split_comparison<D: Domain>(
     right: &Expr,
     from: Kept<D>,
 ) -> Result<Sides<D>, AllocError>
-    requires { D.meaning.dims from.value ≤ most_live }
-    ensures { IfOk result (λ s. SplitsBy D.meaning base true
+    requires { D.abstraction.dims from.value ≤ most_live }
+    ensures { IfOk result (λ s. SplitsBy D.abstraction base true
         (compare (comparison_view op) (expr_view left.now) (expr_view right.now)) from s) }
 {
     let Kept {
@@ -125,8 +125,9 @@ fn split_nonzero<D: Domain>(
     e: &Expr,
     from: Kept<D>,
 ) -> Result<Sides<D>, AllocError>
-    requires { D.meaning.dims from.value ≤ most_live }
-    ensures { IfOk result (λ s. SplitsBy D.meaning base true (nonzero (expr_view e.now)) from s) }
+    requires { D.abstraction.dims from.value ≤ most_live }
+    ensures { IfOk result
+        (λ s. SplitsBy D.abstraction base true (nonzero (expr_view e.now)) from s) }
 {
     let zero = Expr::Literal(NumberType::Int, 0);
     split_comparison(alloc, base, Comparison::Differs, e, &zero, from)
@@ -141,8 +142,8 @@ pub fn split<D: Domain>(
     condition: &Cond,
     from: Kept<D>,
 ) -> Result<Sides<D>, AllocError>
-    requires { D.meaning.dims from.value ≤ most_live }
-    ensures { IfOk result (λ s. SplitsBy D.meaning base true (cond_view condition.now) from s) }
+    requires { D.abstraction.dims from.value ≤ most_live }
+    ensures { IfOk result (λ s. SplitsBy D.abstraction base true (cond_view condition.now) from s) }
 {
     match condition {
         Cond::Compare(op, left, right) => split_comparison(alloc, base, *op, left, right, from),
@@ -165,8 +166,8 @@ fn split_all<D: Domain>(
     rest: &[Cond],
     from: Kept<D>,
 ) -> Result<Sides<D>, AllocError>
-    requires { D.meaning.dims from.value ≤ most_live }
-    ensures { IfOk result (λ s. SplitsBy D.meaning base true
+    requires { D.abstraction.dims from.value ≤ most_live }
+    ensures { IfOk result (λ s. SplitsBy D.abstraction base true
         (all_of (cond_view first.now) (map cond_view rest.now)) from s) }
 {
     let mut sides = split(alloc, base, first, from)?;
@@ -188,8 +189,8 @@ fn split_any<D: Domain>(
     rest: &[Cond],
     from: Kept<D>,
 ) -> Result<Sides<D>, AllocError>
-    requires { D.meaning.dims from.value ≤ most_live }
-    ensures { IfOk result (λ s. SplitsBy D.meaning base true
+    requires { D.abstraction.dims from.value ≤ most_live }
+    ensures { IfOk result (λ s. SplitsBy D.abstraction base true
         (any_of (cond_view first.now) (map cond_view rest.now)) from s) }
 {
     let mut sides = split(alloc, base, first, from)?;
@@ -210,8 +211,9 @@ pub fn divide<D: Domain>(
     wanted: bool,
     from: Kept<D>,
 ) -> Result<Sides<D>, AllocError>
-    requires { D.meaning.dims from.value ≤ most_live }
-    ensures { IfOk result (λ s. SplitsBy D.meaning base wanted (cond_view condition.now) from s) }
+    requires { D.abstraction.dims from.value ≤ most_live }
+    ensures { IfOk result
+        (λ s. SplitsBy D.abstraction base wanted (cond_view condition.now) from s) }
 {
     let sides = split(alloc, base, condition, from)?;
     if wanted {

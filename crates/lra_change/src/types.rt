@@ -22,10 +22,11 @@ fn hold_int<D: Domain>(
     value: &mut D,
     before: Exactness,
 ) -> Result<Exactness, AllocError>
-    requires { D.meaning.dims value.old ≤ most_live }
-    ensures holds { IfOk result (λ a. (p : Moves) (v : D) → Does D.meaning p v before value.old
-        → Does D.meaning (within_type Int (D.meaning.dims value.old) place p) v a value.new) }
-    ensures dims { OnOk result (D.meaning.dims value.new ≡ D.meaning.dims value.old) }
+    requires { D.abstraction.dims value.old ≤ most_live }
+    ensures holds { IfOk result (λ a. (p : Moves) (v : D) → Does D.abstraction p v before value.old
+        → Does D.abstraction (within_type Int (D.abstraction.dims value.old) place p) v a
+        value.new) }
+    ensures dims { OnOk result (D.abstraction.dims value.new ≡ D.abstraction.dims value.old) }
 {
     let live = value.dims();
     let low = form_of_one(alloc, live, place, 1, 2_147_483_648)?;
@@ -52,11 +53,11 @@ pub fn hold_type<D: Domain>(
     value: &mut D,
     before: Exactness,
 ) -> Result<Exactness, AllocError>
-    requires { D.meaning.dims value.old ≤ most_live }
-    ensures holds { IfOk result (λ a. (p : Moves) (v : D) → Does D.meaning p v before value.old
-        → Does D.meaning (within_type number_type (D.meaning.dims value.old) place p)
+    requires { D.abstraction.dims value.old ≤ most_live }
+    ensures holds { IfOk result (λ a. (p : Moves) (v : D) → Does D.abstraction p v before value.old
+        → Does D.abstraction (within_type number_type (D.abstraction.dims value.old) place p)
         v a value.new) }
-    ensures dims { OnOk result (D.meaning.dims value.new ≡ D.meaning.dims value.old) }
+    ensures dims { OnOk result (D.abstraction.dims value.new ≡ D.abstraction.dims value.old) }
 {
     match number_type {
         NumberType::Long => Ok(before),

@@ -8,7 +8,7 @@ use Rattle.lra_base.specs.declared.case_labels.CaseLabel.{CaseLabel}
 use Rattle.lra_base.specs.declared.case_labels.CaseLabel.TheVariants.{Case, Default}
 use Rattle.lra_program.specs.Program.{Expr}
 use Rattle.lra_domain.specs.declared.Exactness.{Exactness}
-use Rattle.lra_domain.specs.Meaning.{Meaning}
+use Rattle.lra_domain.specs.Abstraction.{Abstraction}
 use Rattle.lra_operations.specs.Graph.{How, normal, jump, Node, Arms, no_arms, entry, arm}
 use Rattle.lra_flow.specs.Operations.{dropping}
 use Rattle.lra_flow.specs.MovesOf.{value_moves}
@@ -25,7 +25,7 @@ use Rattle.lra_closed.proofs.WaysOn.{same_keeps, keeps_then, then_by, one_step, 
 use Rattle.lra_closed.proofs.Parts.{right_part, among_more, met_more}
 use Rattle.lra_closed.proofs.Sequences.{Closes, through_both, outs_both, tree_closes, both_close}
 
-module _ (V H X : Type 0) (m : Meaning V H) (o : PointsOf V H X) where
+module _ (V H X : Type 0) (m : Abstraction V H) (o : PointsOf V H X) where
   -- Arms of a `switch` to whose labels the steps go from the value v; what has no match is `other`, and `running` is what
   -- runs before these arms.
   pub record AreArmsClosed (go : CaseLabel → Step) (d : Bool) (v other : V) (arms : Arms) (running : Option V) (r : Result V) : Type 0 where

@@ -7,7 +7,7 @@ use Rattle.lra_base.specs.declared.case_labels.CaseLabel.TheVariants.{Case, Defa
 use Rattle.lra_program.specs.Program.{Expr}
 use Rattle.lra_domain.specs.Actions.{Action}
 use Rattle.lra_domain.specs.declared.Exactness.{Exactness}
-use Rattle.lra_domain.specs.Meaning.{Meaning}
+use Rattle.lra_domain.specs.Abstraction.{Abstraction}
 use Rattle.lra_domain.specs.Moves.{Moves, stay, make, first_then, join_of}
 use Rattle.lra_flow.specs.Operations.{dropping}
 use Rattle.lra_flow.specs.Moves.{AreMade}
@@ -41,7 +41,7 @@ module _ (V H X : Type 0) (o : PointsOf V H X) where
       let (z, first, last) = split_leads i j x y (subst (λ (l : List Action). LeadsBy o l x y) (sym same) led) in
       two j z y b (one i x z a h first) last
 
-  module _ (m : Meaning V H) (keep : KeepPoints m o) where
+  module _ (m : Abstraction V H) (keep : KeepPoints m o) where
     pub made_keep : (p : Moves) (v : V) (e : Exactness) (w : V) → AreMade (dropping m) p v e w → SidesKeep v p w
     made_keep stay v e w (same, exact) actions x y there h led = stays_keep v w same actions x y there h led
     made_keep (make step) v e w made actions x y there h led =

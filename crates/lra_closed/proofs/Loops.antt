@@ -3,7 +3,7 @@ use Rattle.std.proofs.Common.{◌≡◌, ℕ, ◌-◌, List, [], ◌∷◌, map,
 use Rattle.std.specs.List.{Contains}
 use Rattle.std.proofs.lemmas.List.Elements.{Contains-append_cases}
 use Rattle.lra_linear_spec.proofs.Membership.{contains_none, contains_head, contains_tail, map_from}
-use Rattle.lra_domain.specs.Meaning.{Meaning}
+use Rattle.lra_domain.specs.Abstraction.{Abstraction}
 use Rattle.lra_program.specs.Program.{Cond}
 use Rattle.lra_program.specs.Step.{test}
 use Rattle.lra_operations.specs.Graph.{Exit, broken, continued, returned, How, normal, jump, Node, iterate}
@@ -30,7 +30,7 @@ same_jumps returned q u out f z w h = h
 round_part : {V : Type 0} (q : ℕ) (u out : V) (f : Option ℕ) (z : Result V) → IsPart z (round_of q u out f z)
 round_part q u out f z x h = contains_tail (value q u) x z.entries h
 
-module _ (V H X : Type 0) (m : Meaning V H) (o : PointsOf V H X) (keep : KeepPoints m o) (q base : ℕ) (c : Cond) (a : Node) where
+module _ (V H X : Type 0) (m : Abstraction V H) (o : PointsOf V H X) (keep : KeepPoints m o) (q base : ℕ) (c : Cond) (a : Node) where
   -- the loop's point has a value, from which the body is gone through; what is left behind it comes back to that value
   module _ (u w out : V) (f : Option ℕ) (z : Result V) (into : Keeps m o u (does (test base c true) ∷ []) w) (body : IsClosed m o a w z)
       (back : Keeps m o z.normal [] u) (ends : Keeps m o u (does (test base c false) ∷ []) out) where
@@ -118,7 +118,7 @@ module _ (V H X : Type 0) (m : Meaning V H) (o : PointsOf V H X) (keep : KeepPoi
       pub last : LastRound u s
 
     pub grown : (widening : Widening) (left : ℕ) (f : Option ℕ) (h : H) (later : List H) (u : V) (s : Result V)
-        → Grows V H (dropping m) q base c (Pass V H (dropping m) set a) widening left f h later u s → m.head_formed h → Stable h u s
+        → Grows V H (dropping m) q base c (Pass V H (dropping m) set a) widening left f h later u s → m.head_well_formed h → Stable h u s
     grown widening left f h [] u s ((e, valued, (w, d, z, holds, pass, is)), stays) formed = record {
       on = keep.valued h e u valued.0;
       dims = valued.1;

@@ -2,7 +2,7 @@
 use Rattle.std.proofs.Common.{◌≡◌, ℕ, List, ◌++◌, Option, subst}
 use Rattle.std.specs.List.{Contains}
 use Rattle.std.proofs.lemmas.List.Elements.{Contains-append_left, Contains-append_right}
-use Rattle.lra_domain.specs.Meaning.{Meaning}
+use Rattle.lra_domain.specs.Abstraction.{Abstraction}
 use Rattle.lra_flow.specs.Pass.{Entry, value, failing, Result, in_turn}
 use Rattle.lra_ways.specs.Ways.{Step, Goal, comes_to, denies, Way, Segment, Suffix, each_then, then_way, then_ways, then_out, then_outs}
 use Rattle.lra_ways.specs.Ways.{segment_by, segments_by}
@@ -26,7 +26,7 @@ module _ {V : Type 0} where
   met_in s r part (comes_to q) w h = part (value q w) h
   met_in s r part (denies q) w h = part (failing q w) h
 
-module _ (V H X : Type 0) (m : Meaning V H) (o : PointsOf V H X) where
+module _ (V H X : Type 0) (m : Abstraction V H) (o : PointsOf V H X) where
   pub among_more : (v : V) (ops : List Step) (P Q : V → Type 0) → ((w : V) → P w → Q w) → KeptBy m o v ops P → KeptBy m o v ops Q
   among_more v ops P Q more (w, is, keeps) = (w, more w is, keeps)
 

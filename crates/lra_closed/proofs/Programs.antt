@@ -7,7 +7,7 @@ use Rattle.std.proofs.lemmas.Option.{same_Some}
 use Rattle.lra_linear_spec.proofs.Membership.{filter_from}
 use Rattle.lra_domain.specs.Actions.{Action}
 use Rattle.lra_domain.specs.Laws.{Laws}
-use Rattle.lra_domain.specs.Meaning.{Meaning}
+use Rattle.lra_domain.specs.Abstraction.{Abstraction}
 use Rattle.lra_program.specs.Program.{Program}
 use Rattle.lra_program.specs.Sites.{Site, sites_of}
 use Rattle.lra_operations.specs.Graph.{Node}
@@ -25,7 +25,7 @@ use Rattle.lra_closed.proofs.Members.{flat_map_from, pairs_from}
 use Rattle.lra_closed.proofs.Changes.{split_leads, made_keep}
 use Rattle.lra_closed.proofs.Trees.{tree_closed}
 
-module _ (V H X : Type 0) (m : Meaning V H) (o : PointsOf V H X) (keep : KeepPoints m o) where
+module _ (V H X : Type 0) (m : Abstraction V H) (o : PointsOf V H X) (keep : KeepPoints m o) where
   module _ (r : Result V) (values : List V) (verdicts : List (ℕ × Bool)) (flagged : Option ℕ) (solves : Solves m r values verdicts flagged)
       (once : FailOnce r) where
     at_goal : (goal : Goal) (w : V) (y : X) → IsMet r goal w → o.on w y → IsAtGoal o values verdicts goal y
@@ -62,10 +62,10 @@ module _ (V H X : Type 0) (m : Meaning V H) (o : PointsOf V H X) (keep : KeepPoi
         (keeps.points actions x y (subst (λ (n : ℕ). Contains (written n s.way.ops) actions) (sym (ap (λ (z : V). m.dims z) own ∙ wide)) written_so)
         (subst (λ (z : V). o.on z x) (sym own) h) led)
 
-pub values_closed : {V H X : Type 0} (m : Meaning V H) (o : PointsOf V H X) → Laws m → KeepPoints m o → ValuesAreClosed m o
+pub values_closed : {V H X : Type 0} (m : Abstraction V H) (o : PointsOf V H X) → Laws m → KeepPoints m o → ValuesAreClosed m o
 values_closed {V} {H} {X} m o laws keep set P g r values verdicts flagged narrow (whole, begins, e, universal, begun, pass) solves wide once =
     let closed = tree_closed V H X m o keep set narrow g (noted 0 e None) begins r pass in
-    let dims = globals_dims V H m P.globals whole e begins begun (laws.universal_dims 0 set.parts whole universal.0) in
+    let dims = globals_dims V H m P.globals whole e begins begun (laws.top_dims 0 set.parts whole universal.0) in
     record { first = first closed dims; next = next closed }
   where
     first : IsClosed m o g begins r → m.dims begins ≡ length P.globals → (goal : Goal) (actions : List Action) → Contains (leading P g 0 goal) actions

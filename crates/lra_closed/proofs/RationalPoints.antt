@@ -1,7 +1,7 @@
 -- Polyhedra keep rational points.
 use Rattle.std.proofs.Common.{◌≡◌, ◌∙◌, ◌+◌, ◌-◌, ◌≤◌, ℕ, suc, ℤ, List, length, take, ap, sym, refl, subst, arith}
 use Rattle.lra_domain.specs.Actions.{Action, ActionFits, dims_after, assign, forget, test, embed, remove_last}
-use Rattle.lra_domain.specs.Meaning.{Values}
+use Rattle.lra_domain.specs.Abstraction.{Values}
 use Rattle.lra_domain.specs.declared.Exactness.{Exactness}
 use Rattle.lra_domain.specs.declared.Exactness.TheVariants.{Exact, Flagged}
 use Rattle.lra_duality.specs.Rows.{test_row}

@@ -2,7 +2,7 @@
 use Rattle.std.proofs.Common.{List, ◌++◌, inl, inr}
 use Rattle.std.specs.List.{Contains}
 use Rattle.std.proofs.lemmas.List.Elements.{Contains-append_cases}
-use Rattle.lra_domain.specs.Meaning.{Meaning}
+use Rattle.lra_domain.specs.Abstraction.{Abstraction}
 use Rattle.lra_operations.specs.Graph.{How, normal, jump, Node}
 use Rattle.lra_flow.specs.Pass.{Result, in_turn}
 use Rattle.lra_flow.proofs.Sound.{left_jump, right_jump}
@@ -21,7 +21,7 @@ abbrev pub outs_both : (How → List Suffix) → (How → List (List Step)) → 
 outs_both one behind two normal = then_outs (one normal) (behind normal) ++ two normal
 outs_both one behind two (jump k) = one (jump k) ++ then_outs (one normal) (behind (jump k)) ++ two (jump k)
 
-module _ (V H X : Type 0) (m : Meaning V H) (o : PointsOf V H X) where
+module _ (V H X : Type 0) (m : Abstraction V H) (o : PointsOf V H X) where
   -- a part with these ways is closed
   pub record Closes (T : How → List (List Step)) (E : List Way) (O : How → List Suffix) (I : List Segment) (v : V) (r : Result V) : Type 0 where
     pub passes : (h : How) (ops : List Step) → Contains (T h) ops → KeptBy m o v ops (IsLeft r h)

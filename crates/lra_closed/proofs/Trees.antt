@@ -12,7 +12,7 @@ use Rattle.lra_program.specs.Program.{Expr, Cond}
 use Rattle.lra_program.specs.Step.{Op, test}
 use Rattle.lra_domain.specs.declared.Exactness.{Exactness}
 use Rattle.lra_domain.specs.declared.Exactness.TheVariants.{Exact}
-use Rattle.lra_domain.specs.Meaning.{Meaning}
+use Rattle.lra_domain.specs.Abstraction.{Abstraction}
 use Rattle.lra_operations.specs.declared.asides.Aside.{Aside}
 use Rattle.lra_operations.specs.declared.asides.Aside.TheVariants.{Entering, Noting}
 use Rattle.lra_operations.specs.Graph.{Exit, broken, continued, returned, How, normal, jump, Node, empty, aside, point, act, check, seq, choose, iterate, catch, leave}
@@ -71,7 +71,7 @@ behind_jump returned broken r v f n u h = h
 behind_jump returned continued r v f n u h = h
 behind_jump returned returned r v f n u h = absurd (let no : true ≡ false = n in cc)
 
-module _ (V H X : Type 0) (m : Meaning V H) (o : PointsOf V H X) where
+module _ (V H X : Type 0) (m : Abstraction V H) (o : PointsOf V H X) where
   -- leaves of trees -----------------------------------------------------------------------------------------------------
   one_pass : (v w : V) (way : List Step) (f : Option ℕ) (xs : List (Entry V)) → Keeps m o v way w → (ops : List Step) → Contains (way ∷ []) ops
       → KeptBy m o v ops (IsLeft (goes_on xs w f) normal)

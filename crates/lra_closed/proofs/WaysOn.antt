@@ -6,7 +6,7 @@ use Rattle.lra_program.specs.Program.{Cond}
 use Rattle.lra_program.specs.Step.{Op, test}
 use Rattle.lra_domain.specs.Actions.{Action}
 use Rattle.lra_domain.specs.declared.Exactness.{Exactness}
-use Rattle.lra_domain.specs.Meaning.{Meaning}
+use Rattle.lra_domain.specs.Abstraction.{Abstraction}
 use Rattle.lra_flow.specs.Operations.{dropping}
 use Rattle.lra_flow.specs.MovesOf.{guard, moves_of}
 use Rattle.lra_flow.specs.Pass.{Changes, Leaves}
@@ -36,7 +36,7 @@ written_apart live (step ∷ a) b actions there =
     let (i, j, x, y, is) = written_apart rest a b l later in
     (k ++ i, j, each_then_has one (written rest a) k i first x, y, append_assoc k i j ∙ ap (λ z. k ++ z) is ∙ same)
 
-module _ (V H X : Type 0) (m : Meaning V H) (o : PointsOf V H X) where
+module _ (V H X : Type 0) (m : Abstraction V H) (o : PointsOf V H X) where
   -- nothing is done, and the second value has the points of the first
   pub at_once : (v w : V) → m.dims w ≡ m.dims v → ((x : X) → o.on v x → o.on w x) → Keeps m o v [] w
   at_once v w wide on = record {

@@ -2,7 +2,7 @@
 -- target's value, and no path leads to where a proved assertion is false.
 use Rattle.std.specs.Prelude.{◌≡◌, ℕ, suc, List, Bool, true, Option, Some, slice_get, Contains}
 use Rattle.lra_domain.specs.Actions.{Action}
-use Rattle.lra_domain.specs.Meaning.{Meaning}
+use Rattle.lra_domain.specs.Abstraction.{Abstraction}
 use Rattle.lra_program.specs.Program.{Program}
 use Rattle.lra_program.specs.Sites.{Site, sites_of}
 use Rattle.lra_operations.specs.Graph.{How, normal, jump, Node}
@@ -34,7 +34,7 @@ pub record AreClosed {V H X : Type 0} (o : PointsOf V H X) (P : Program) (g : No
       LeadsBy o actions x y → IsAtGoal o values verdicts goal y
 
 -- each value has a dimension for each variable that lives at its point
-abbrev pub AreWide : {V H : Type 0} → Meaning V H → Program → List V → Type 0
+abbrev pub AreWide : {V H : Type 0} → Abstraction V H → Program → List V → Type 0
 AreWide {V} m P values = (p : ℕ) (v : V) → slice_get values p ≡ Some v → (s : Site) →
     slice_get (sites_of P) p ≡ Some s → m.dims v ≡ s.live
 
@@ -44,7 +44,7 @@ FailOnce {V} r = (q : ℕ) (u w : V) → Contains r.entries (failing q u) → Co
 
 -- Of an iteration that isn't narrowed, flagged or not. Narrowed once, a loop's value is the join of what came in first
 -- with what one round left, and where its body isn't monotone, as one with a loop, another round may lead out of that.
-abbrev pub ValuesAreClosed : {V H X : Type 0} → Meaning V H → PointsOf V H X → Type 0
+abbrev pub ValuesAreClosed : {V H X : Type 0} → Abstraction V H → PointsOf V H X → Type 0
 ValuesAreClosed {V} m o = (set : Plan) (P : Program) (g : Node) (r : Result V) (values : List V)
     (verdicts : List (ℕ × Bool)) (flagged : Option ℕ) → set.narrow ≡ 0 → Derivation m set P g r →
     Solves m r values verdicts flagged → AreWide m P values → FailOnce r → AreClosed o P g values verdicts
@@ -53,18 +53,18 @@ ValuesAreClosed {V} m o = (set : Plan) (P : Program) (g : Node) (r : Result V) (
 
 -- the second value has a dimension for each variable that lives behind the way, and all points to which the way leads
 -- from those of the first
-pub record Keeps {V H X : Type 0} (m : Meaning V H) (o : PointsOf V H X) (v : V) (ops : List Step) (w : V)
+pub record Keeps {V H X : Type 0} (m : Abstraction V H) (o : PointsOf V H X) (v : V) (ops : List Step) (w : V)
     : Type 0 where
   pub dims : m.dims w ≡ live_behind (m.dims v) ops
   pub points : (actions : List Action) (x y : X) → Contains (written (m.dims v) ops) actions → o.on v x →
       LeadsBy o actions x y → o.on w y
 
 -- one of these values does
-abbrev pub KeptBy : {V H X : Type 0} → Meaning V H → PointsOf V H X → V → List Step → (V → Type 0) → Type 0
+abbrev pub KeptBy : {V H X : Type 0} → Abstraction V H → PointsOf V H X → V → List Step → (V → Type 0) → Type 0
 KeptBy {V} m o v ops among = (w : V) × among w × Keeps m o v ops w
 
 -- so it is from the value at the point of this number
-abbrev pub KeptFrom : {V H X : Type 0} → Meaning V H → PointsOf V H X → Result V → ℕ → List Step → (V → Type 0) →
+abbrev pub KeptFrom : {V H X : Type 0} → Abstraction V H → PointsOf V H X → Result V → ℕ → List Step → (V → Type 0) →
     Type 0
 KeptFrom {V} m o r q ops among = (v : V) × Contains r.entries (value q v) × KeptBy m o v ops among
 
@@ -79,7 +79,7 @@ IsMet r (comes_to q) v = Contains r.entries (value q v)
 IsMet r (denies q) v = Contains r.entries (failing q v)
 
 -- from this value through the tree, with this result
-pub record IsClosed {V H X : Type 0} (m : Meaning V H) (o : PointsOf V H X) (g : Node) (v : V) (r : Result V)
+pub record IsClosed {V H X : Type 0} (m : Abstraction V H) (o : PointsOf V H X) (g : Node) (v : V) (r : Result V)
     : Type 0 where
   pub passes : (h : How) (ops : List Step) → Contains (through g h) ops → KeptBy m o v ops (IsLeft r h)
   pub enters : (way : Way) → Contains (enter g) way → KeptBy m o v way.ops (IsMet r way.goal)

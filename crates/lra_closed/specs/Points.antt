@@ -7,7 +7,7 @@ use Rattle.lra_domain.specs.Actions.{Action}
 use Rattle.lra_domain.specs.declared.Mode.{Mode}
 use Rattle.lra_domain.specs.declared.Exactness.{Exactness}
 use Rattle.lra_domain.specs.declared.Included.TheVariants.{Yes}
-use Rattle.lra_domain.specs.Meaning.{Meaning, Starts, Values}
+use Rattle.lra_domain.specs.Abstraction.{Abstraction, Starts, Values}
 
 pub record PointsOf (V H X : Type 0) : Type 1 where
   -- the point is one of the value, of the head
@@ -24,19 +24,19 @@ LeadsBy o [] x y = y ≡ x
 LeadsBy {V} {H} {X} o (step ∷ steps) x y = (z : X) × o.leads step x z × LeadsBy o steps z y
 
 -- what an operation gives has the points of its operands, flagged or not
-pub record KeepPoints {V H X : Type 0} (m : Meaning V H) (o : PointsOf V H X) : Type 0 where
+pub record KeepPoints {V H X : Type 0} (m : Abstraction V H) (o : PointsOf V H X) : Type 0 where
   -- the value with all stores of no variable has all points of no dimension
-  pub begun : (cap : ℕ) (v : V) → m.formed v → m.universal 0 cap v → (x : X) → o.bare x → o.on v x
+  pub begun : (cap : ℕ) (v : V) → m.well_formed v → m.top 0 cap v → (x : X) → o.bare x → o.on v x
   -- a value that keeps a change has the points to which the change leads
-  pub changed : (step : Action) (v w : V) → m.formed w → m.keeps step v w → (x y : X) → o.on v x →
+  pub changed : (step : Action) (v w : V) → m.well_formed w → m.keeps step v w → (x y : X) → o.on v x →
       o.leads step x y → o.on w y
-  pub covered : (v w : V) → m.formed w → m.covered v w → (x : X) → o.on v x → o.on w x
+  pub covered : (v w : V) → m.well_formed w → m.leq v w → (x : X) → o.on v x → o.on w x
   -- a head has the points of its first value, those of the head that it grew from, and those of what stays in it; its
   -- value has its points
   pub started : (v : V) (given : LinearSystem ConKind) (h : H) → Starts m v given h → (x : X) → o.on v x → o.head_on h x
-  pub old : (h : H) (v : V) (next : H) → m.head_formed next → m.holds_both h v next → (x : X) → o.head_on h x →
+  pub old : (h : H) (v : V) (next : H) → m.head_well_formed next → m.holds_both h v next → (x : X) → o.head_on h x →
       o.head_on next x
-  pub stays : (h : H) (v : V) (mode : Mode) → m.head_formed h → m.answers h v mode Yes → (x : X) → o.on v x →
+  pub stays : (h : H) (v : V) (mode : Mode) → m.head_well_formed h → m.answers h v mode Yes → (x : X) → o.on v x →
       o.head_on h x
   pub valued : (h : H) (e : Exactness) (v : V) → Values m h e v → (x : X) → o.head_on h x → o.on v x
   -- a value without parts has none

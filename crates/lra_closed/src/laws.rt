@@ -14,5 +14,5 @@ pub fn polyhedra_are_closed()
 
 /// Over any domain, what such an iteration finds is closed along paths at stores.
 pub fn stores_are_closed<D: Domain>()
-    ensures { ValuesAreClosed D.meaning (stores D.meaning) }
+    ensures { ValuesAreClosed D.abstraction (stores D.abstraction) }
 {}

@@ -5,7 +5,7 @@ use Rattle.std.specs.Prelude.{◌≤ℤ◌, ◌<ℤ◌, int_lt, ◌+ℤ◌}
 use Rattle.std.proofs.lemmas.Int.{ints, clamps, by_lt_z}
 use Rattle.lra_dbm.specs.Entry.{◌⊑◌, EntryInRange}
 use Rattle.lra_dbm.specs.Tight.{Entries, opposite, IsStore, IsTight}
-use Rattle.lra_dbm.specs.Cells.{Cells, size, place, outside, entries, IsMatrix, Content, entry_at}
+use Rattle.lra_dbm.specs.Cells.{Cells, size, place, outside, entries, IsMatrix, DbmContent, entry_at}
 use Rattle.lra_dbm.specs.Pointwise.{greater_cells, stable_cells, CellsWithin, finite_cells}
 use Rattle.lra_dbm.specs.Closure.{LeastJoin}
 use Rattle.lra_dbm.proofs.EntryLemmas.{le_refl, le_same, le_none, le_trans, le_antisym}
@@ -263,8 +263,8 @@ joins_least n cs ds all e = record {
       (tight_least n (entries n cs) m one has i k h l) (tight_least n (entries n ds) m two has' i k h l));
 }
 
-pub contents_joined : (a b m : Content) → a.dims ≡ b.dims → m ≡ record a { cells = greater_cells a.cells b.cells } → LeastJoin a.dims (entry_at a) (entry_at b) (entry_at m)
+pub contents_joined : (a b m : DbmContent) → a.dims ≡ b.dims → m ≡ record a { cells = greater_cells a.cells b.cells } → LeastJoin a.dims (entry_at a) (entry_at b) (entry_at m)
 contents_joined a b m same e =
-    subst (λ (k : Content). LeastJoin a.dims (entry_at a) (entry_at b) (entry_at k)) (sym e)
+    subst (λ (k : DbmContent). LeastJoin a.dims (entry_at a) (entry_at b) (entry_at k)) (sym e)
     (subst (λ (n : ℕ). LeastJoin a.dims (entry_at a) (entries n b.cells) (entries a.dims (greater_cells a.cells b.cells))) same
     (joins_least a.dims a.cells b.cells (greater_cells a.cells b.cells) refl))

@@ -1,7 +1,7 @@
 -- The answers of closing, as truth values.
 use Rattle.std.specs.Prelude.{Bool, true, false}
-use Rattle.lra_dbm.specs.declared.matrix.Closing.{Closing}
-use Rattle.lra_dbm.specs.declared.matrix.Closing.TheVariants.{Closed, Empty}
+use Rattle.lra_dbm.specs.declared.dbm.Closing.{Closing}
+use Rattle.lra_dbm.specs.declared.dbm.Closing.TheVariants.{Closed, Empty}
 use Rattle.lra_domain.specs.declared.Exactness.{Exactness}
 use Rattle.lra_domain.specs.declared.Exactness.TheVariants.{Exact, Flagged}
 

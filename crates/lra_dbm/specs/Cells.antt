@@ -55,10 +55,10 @@ abbrev pub first_entries : ℕ → Entries → Entries
 first_entries n m i j = cond (nat_lt i (2 * n)) (cond (nat_lt j (2 * n)) (m i j) (outside i j)) (outside i j)
 
 -- what a matrix holds
-pub record Content : Type 0 where
+pub record DbmContent : Type 0 where
   pub dims : ℕ
   pub cells : Cells
 
 -- the entry at i and j
-abbrev pub entry_at : Content → ℕ → ℕ → Option ℤ
+abbrev pub entry_at : DbmContent → ℕ → ℕ → Option ℤ
 entry_at m i j = entries m.dims m.cells i j

@@ -4,10 +4,10 @@
 
 mod cells;
 mod clearing;
-mod matrix;
+mod dbm;
 mod pointwise;
 mod shifting;
 mod steps;
 
 pub use cells::opposite;
-pub use matrix::{Closing, Matrix};
+pub use dbm::{Closing, Dbm};

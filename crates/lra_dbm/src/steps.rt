@@ -192,22 +192,22 @@ fn strengthen_all(n: usize, cells: &mut [Option<i128>], flagged: bool) -> bool
 
 /// Whether closing found no store, which is exact, and otherwise whether a number passed the range.
 #[derive(Clone, Copy, Debug, PartialEq, Eq)]
-pub struct Found {
+pub struct ClosureResult {
     pub is_empty: bool,
     pub is_flagged: bool,
 }
 
-fn answer(is_empty: bool, is_flagged: bool) -> Found
+fn answer(is_empty: bool, is_flagged: bool) -> ClosureResult
     ensures empty { result.is_empty ≡ is_empty }
     ensures flagged { result.is_flagged ≡ is_flagged }
 {
-    Found {
+    ClosureResult {
         is_empty,
         is_flagged,
     }
 }
 
-fn run_steps(n: usize, cells: &mut [Option<i128>]) -> Found
+fn run_steps(n: usize, cells: &mut [Option<i128>]) -> ClosureResult
     requires few { n ≤ 2 ^ 30 }
     requires full { length cells.old ≡ size n }
     ensures { closing n cells.old
@@ -229,7 +229,7 @@ fn run_steps(n: usize, cells: &mut [Option<i128>]) -> Found
 
 #[tactic(auto, using(crate::proofs::Closes::closes_by, crate::proofs::Closes::matrix_by))]
 /// Closes the matrix in place.
-pub fn close(n: usize, cells: &mut [Option<i128>]) -> Found
+pub fn close(n: usize, cells: &mut [Option<i128>]) -> ClosureResult
     requires few { n ≤ 2 ^ 30 }
     requires is { IsMatrix n cells.old }
     ensures steps { closing n cells.old

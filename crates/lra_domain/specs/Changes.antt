@@ -1,7 +1,7 @@
 -- Changes that are kept as values: the action that each is, of which values it can be made, and lists of them.
 use Rattle.std.specs.Prelude.{◌≡◌, ◌≤◌, ◌<◌, ◌^◌, ℕ, ◌+◌, List, [], ◌∷◌, length, map}
 use Rattle.lra_domain.specs.Actions.{Action, assign, forget, test, embed, remove_last, dims_after}
-use Rattle.lra_domain.specs.Meaning.{Meaning, Meets, worse}
+use Rattle.lra_domain.specs.Abstraction.{Abstraction, TransfersTo, worse}
 use Rattle.lra_domain.specs.declared.Exactness.{Exactness}
 use Rattle.lra_domain.specs.declared.Exactness.TheVariants as exactness
 use Rattle.lra_domain.specs.declared.changes.Change.{Change}
@@ -28,26 +28,27 @@ abbrev pub actions_of : List Change → List Action
 actions_of changes = map action_of changes
 
 -- how many dimensions there are behind all of them
-abbrev pub dims_behind : List Action → ℕ → ℕ
-dims_behind [] n = n
-dims_behind (step ∷ steps) n = dims_behind steps (dims_after step n)
+abbrev pub dims_after_actions : List Action → ℕ → ℕ
+dims_after_actions [] n = n
+dims_after_actions (step ∷ steps) n = dims_after_actions steps (dims_after step n)
 
 abbrev pub AllCanBeMade : List Action → ℕ → Type 0
 AllCanBeMade [] n = Unit {0}
 AllCanBeMade (step ∷ steps) n = CanBeMade step n × AllCanBeMade steps (dims_after step n)
 
 -- from the old value to the new one, flagged where one of them is
-abbrev pub MeetsAll : {V H : Type 0} → Meaning V H → List Action → V → Exactness → V → Type 0
-MeetsAll m [] old a new = (new ≡ old) × (a ≡ exactness.Exact)
-MeetsAll {V} m (step ∷ steps) old a new =
-    (between : V) × (b c : Exactness) × Meets m step old b between × MeetsAll m steps between c new × (a ≡ worse b c)
+abbrev pub TransfersAllTo : {V H : Type 0} → Abstraction V H → List Action → V → Exactness → V → Type 0
+TransfersAllTo m [] old a new = (new ≡ old) × (a ≡ exactness.Exact)
+TransfersAllTo {V} m (step ∷ steps) old a new =
+    (between : V) × (b c : Exactness) × TransfersTo m step old b between × TransfersAllTo m steps between c new
+    × (a ≡ worse b c)
 
 -- systems of steps, each of them a list of changes ----------------------------------------------------------------
 
-abbrev pub ways : List (List Change) → List (List Action)
-ways steps = map actions_of steps
+abbrev pub actions_of_steps : List (List Change) → List (List Action)
+actions_of_steps steps = map actions_of steps
 
 -- each step can be made of a value of n dimensions, and leaves as many
 abbrev pub AllReturn : ℕ → List (List Action) → Type 0
 AllReturn n [] = Unit {0}
-AllReturn n (way ∷ more) = AllCanBeMade way n × (dims_behind way n ≡ n) × AllReturn n more
+AllReturn n (way ∷ more) = AllCanBeMade way n × (dims_after_actions way n ≡ n) × AllReturn n more

@@ -2,10 +2,10 @@ pub mod Actions
 pub mod Moves
 pub mod Parts
 pub mod Rank
-pub mod Meaning
+pub mod Abstraction
 pub mod Bounds
 pub mod Laws
-pub mod Stores
+pub mod Gammas
 pub mod Changes
-pub mod Unstrained
+pub mod ExactDomains
 pub mod Backward

@@ -2,7 +2,7 @@
 
 ghost use Rattle.std.specs.Prelude.{◌≡◌, ◌<◌, length, IfOk, OnErr};
 ghost use Rattle.lra_domain.specs.Actions.{assign, test};
-ghost use Rattle.lra_domain.specs.Backward.{GoesBack, MeetsBoth, Retracing};
+ghost use Rattle.lra_domain.specs.Backward.{TransfersBackTo, MeetsBoth, BackwardAbstraction};
 ghost use Rattle.lra_domain.specs.Parts.{CapsWithin};
 
 use crate::{Domain, Exactness};
@@ -18,32 +18,37 @@ use std::alloc::AllocError;
 /// removed, removed ones embedded. An `AllocError` can come from each call.
 pub trait Backward: Domain {
     /// What the calls that go back give, and when they strain.
-    ghost retracing: { Retracing Self };
+    ghost backward_abstraction: { BackwardAbstraction Self };
 
     /// What was so before dimension `x` got the value of the form.
     fn before_assign(&mut self, x: usize, e: &LinExpr) -> Result<Exactness, AllocError>
-        requires place { x < Self.meaning.dims self.old }
-        requires width { length e.now.coefficients ≡ Self.meaning.dims self.old }
-        ensures back { IfOk result (λ a. GoesBack Self.meaning retracing (assign x e.now) self.old a self.new) }
-        ensures dims { Self.meaning.dims self.new ≡ Self.meaning.dims self.old }
-        ensures capped { CapsWithin (Self.meaning.capped self.old) (Self.meaning.capped self.new) }
+        requires place { x < Self.abstraction.dims self.old }
+        requires width { length e.now.coefficients ≡ Self.abstraction.dims self.old }
+        ensures back { IfOk result
+            (λ a. TransfersBackTo Self.abstraction backward_abstraction (assign x e.now) self.old a self.new) }
+        ensures dims { Self.abstraction.dims self.new ≡ Self.abstraction.dims self.old }
+        ensures capped { CapsWithin (Self.abstraction.capped self.old)
+            (Self.abstraction.capped self.new) }
         ensures err { OnErr result (self.new ≡ self.old) };
 
     /// What was so before the test passed.
     fn before_test(&mut self, t: &Test) -> Result<Exactness, AllocError>
-        requires { length t.now.expr.coefficients ≡ Self.meaning.dims self.old }
+        requires { length t.now.expr.coefficients ≡ Self.abstraction.dims self.old }
         ensures back { IfOk result (λ a.
-            GoesBack Self.meaning retracing (test t.now.kind t.now.expr) self.old a self.new) }
-        ensures dims { Self.meaning.dims self.new ≡ Self.meaning.dims self.old }
-        ensures capped { CapsWithin (Self.meaning.capped self.old) (Self.meaning.capped self.new) }
+            TransfersBackTo Self.abstraction backward_abstraction (test t.now.kind t.now.expr)
+            self.old a self.new) }
+        ensures dims { Self.abstraction.dims self.new ≡ Self.abstraction.dims self.old }
+        ensures capped { CapsWithin (Self.abstraction.capped self.old)
+            (Self.abstraction.capped self.new) }
         ensures err { OnErr result (self.new ≡ self.old) };
 
     /// Only stores that are in both need stay.
     fn meet(&mut self, other: &Self) -> Result<Exactness, AllocError>
-        requires { Self.meaning.dims self.old ≡ Self.meaning.dims other.now }
-        ensures meets { IfOk result (λ a. MeetsBoth Self.meaning retracing self.old other.now a self.new) }
-        ensures dims { Self.meaning.dims self.new ≡ Self.meaning.dims self.old }
-        ensures capped { CapsWithin (λ c. Self.meaning.capped self.old c × Self.meaning.capped other.now c)
-            (Self.meaning.capped self.new) }
+        requires { Self.abstraction.dims self.old ≡ Self.abstraction.dims other.now }
+        ensures meets { IfOk result
+            (λ a. MeetsBoth Self.abstraction backward_abstraction self.old other.now a self.new) }
+        ensures dims { Self.abstraction.dims self.new ≡ Self.abstraction.dims self.old }
+        ensures capped { CapsWithin (λ c. Self.abstraction.capped self.old c × Self.abstraction.capped other.now c)
+            (Self.abstraction.capped self.new) }
         ensures err { OnErr result (self.new ≡ self.old) };
 }

@@ -1,10 +1,10 @@
 //! Changes that are kept as values, and lists of them.
 
 ghost use Rattle.std.specs.Prelude.{◌≡◌, ℤ, List, IfOk, OnOk};
-ghost use Rattle.lra_domain.specs.Changes.{AllCanBeMade, MeetsAll, actions_of, dims_behind};
+ghost use Rattle.lra_domain.specs.Changes.{AllCanBeMade, TransfersAllTo, actions_of, dims_after_actions};
 ghost use Rattle.lra_domain.specs.Moves.{LeadsAll};
 ghost use Rattle.lra_domain.specs.Parts.{CapsWithin};
-ghost use Rattle.lra_domain.specs.Stores.{Has};
+ghost use Rattle.lra_domain.specs.Gammas.{InGamma};
 
 use crate::{Domain, Exactness, worse};
 use lra_linear_forms::{LinExpr, Test};
@@ -39,16 +39,16 @@ impl Drop for Change {
 /// Makes the changes, one behind the other: each store to which they may lead is kept. Flagged where one of them is.
 /// Where one answers an error, those before it stay made.
 pub fn change_all<D: Domain>(value: &mut D, changes: &[Change]) -> Result<Exactness, AllocError>
-    requires { AllCanBeMade (actions_of changes.now) (D.meaning.dims value.old) }
-    ensures stores { OnOk result ((s t : List ℤ) → Has D.meaning value.old s →
-        LeadsAll (actions_of changes.now) s t → Has D.meaning value.new t) }
+    requires { AllCanBeMade (actions_of changes.now) (D.abstraction.dims value.old) }
+    ensures stores { OnOk result ((s t : List ℤ) → InGamma D.abstraction value.old s →
+        LeadsAll (actions_of changes.now) s t → InGamma D.abstraction value.new t) }
     ensures meets { IfOk result (λ a.
-        MeetsAll D.meaning (actions_of changes.now) value.old a value.new) }
+        TransfersAllTo D.abstraction (actions_of changes.now) value.old a value.new) }
     ensures dims { OnOk result
-        (D.meaning.dims value.new ≡
-        dims_behind (actions_of changes.now) (D.meaning.dims value.old)) }
+        (D.abstraction.dims value.new ≡
+        dims_after_actions (actions_of changes.now) (D.abstraction.dims value.old)) }
     ensures capped { OnOk result
-        (CapsWithin (D.meaning.capped value.old) (D.meaning.capped value.new)) }
+        (CapsWithin (D.abstraction.capped value.old) (D.abstraction.capped value.new)) }
 {
     let Some((first, later)) = changes.split_first() else {
         return Ok(Exactness::Exact);

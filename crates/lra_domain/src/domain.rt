@@ -4,8 +4,8 @@ ghost use Rattle.lra_domain.specs.Rank.{RankBelow, RankFits};
 ghost use Rattle.lra_domain.specs.Actions.{Within, assign, dims_after, forget, test, embed, remove_last};
 ghost use Rattle.lra_domain.specs.Changes.{CanBeMade, action_of};
 ghost use Rattle.lra_domain.specs.Parts.{SomePartHolds, CapsWithin};
-ghost use Rattle.lra_domain.specs.Meaning.{Meaning, Meets, Joins, Starts, Grew, Values};
-ghost use Rattle.lra_domain.specs.Laws.{Laws, PartsTell, PlainLaws};
+ghost use Rattle.lra_domain.specs.Abstraction.{Abstraction, TransfersTo, Joins, Starts, Grew, Values};
+ghost use Rattle.lra_domain.specs.Laws.{Laws, PartsAreExact, BaseLaws};
 
 use crate::{Change, Exactness, Grown, Included, Mode, Rank};
 use lra_linear_forms::{LinExpr, Test};
@@ -22,7 +22,7 @@ use std::alloc::{AllocError, Global};
 /// equal, `Stable` leaves the head's, and a call that answers an error leaves its value's. Leave allocators and spare
 /// room out of the view.
 ///
-/// **Meaning.** Give one record, `meaning`: which contents values and heads hold (`formed`, `head_formed`), which
+/// **Meaning.** Give one record, `meaning`: which contents values and heads hold (`formed`, `head_well_formed`), which
 /// stores a value or head `has`, how many dimensions, the `parts` (lists of rows), the defined result of each call as a
 /// relation on contents, when each call may strain, which content another `covers`, and the `rank` of a head. Every
 /// call gives a formed value or head, and `is_empty` and `rank` say it of the one at hand: what the type's invariant
@@ -61,8 +61,8 @@ use std::alloc::{AllocError, Global};
 /// an iteration ends. Each number of a rank is below 2^62, so that two ranks can be added, with carries.
 ///
 /// **Parts.** `parts` gives what rows tell of the value: at each store all rows of some part hold; each row has one
-/// column more than `dims`. That nothing else meets them is owed by `Told` alone: a domain of congruences, or of what
-/// is odd, has its bounds as rows, and stores fewer. `is_empty` says yes exactly where there is no part.
+/// column more than `dims`. That nothing else meets them is owed by `ExactParts` alone: a domain of congruences, or of
+/// what is odd, has its bounds as rows, and stores fewer. `is_empty` says yes exactly where there is no part.
 ///
 /// **Caps.** A value may have several caps, numbers of parts that it never passes; `capped` names them, `head_capped`
 /// those of a head. What `universal` and `void` allow with a cap of at least 1 has that cap. Each call keeps the caps:
@@ -79,25 +79,26 @@ pub trait Domain: Sized + Drop {
     type Head: Drop;
 
     /// What values and heads mean.
-    ghost meaning: { Meaning Self Self.Head };
+    ghost abstraction: { Abstraction Self Self.Head };
 
     /// The value of `n` dimensions with all stores.
     fn universe(alloc: Global, n: usize, cap: u32) -> Result<Self, AllocError>
         requires few { n ≤ 2 ^ 30 }
         requires cap { 1 ≤ cap }
-        ensures formed { IfOk result (λ v. meaning.formed v) }
-        ensures stores { IfOk result (λ v. (s : List ℤ) → (meaning.has v s ↔ (length s ≡ n))) }
-        ensures defined { IfOk result (λ v. meaning.universal n cap v) }
-        ensures dims { IfOk result (λ v. meaning.dims v ≡ n) };
+        ensures formed { IfOk result (λ v. abstraction.well_formed v) }
+        ensures stores { IfOk result
+            (λ v. (s : List ℤ) → (abstraction.gamma v s ↔ (length s ≡ n))) }
+        ensures defined { IfOk result (λ v. abstraction.top n cap v) }
+        ensures dims { IfOk result (λ v. abstraction.dims v ≡ n) };
 
     /// The value of `n` dimensions with no store.
     fn empty(alloc: Global, n: usize, cap: u32) -> Result<Self, AllocError>
         requires few { n ≤ 2 ^ 30 }
         requires cap { 1 ≤ cap }
-        ensures formed { IfOk result (λ v. meaning.formed v) }
-        ensures stores { IfOk result (λ v. (s : List ℤ) → ¬ meaning.has v s) }
-        ensures defined { IfOk result (λ v. meaning.void n cap v) }
-        ensures dims { IfOk result (λ v. meaning.dims v ≡ n) };
+        ensures formed { IfOk result (λ v. abstraction.well_formed v) }
+        ensures stores { IfOk result (λ v. (s : List ℤ) → ¬ abstraction.gamma v s) }
+        ensures defined { IfOk result (λ v. abstraction.bottom n cap v) }
+        ensures dims { IfOk result (λ v. abstraction.dims v ≡ n) };
 
     /// The same value again.
     fn copy(&self, alloc: Global) -> Result<Self, AllocError>
@@ -105,34 +106,34 @@ pub trait Domain: Sized + Drop {
 
     /// How many dimensions its stores have.
     fn dims(&self) -> usize
-        ensures { result ≡ meaning.dims self.now };
+        ensures { result ≡ abstraction.dims self.now };
 
     /// How many parts it may have, for a value that is to have its caps; of use to sets alone.
     fn most_parts(&self) -> u32
         ensures some { 1 ≤ result }
-        ensures empty { (n : ℕ) (v : Self) → meaning.void n result v →
-            CapsWithin (meaning.capped self.now) (meaning.capped v) }
-        ensures universe { (n : ℕ) (v : Self) → meaning.universal n result v →
-            CapsWithin (meaning.capped self.now) (meaning.capped v) };
+        ensures empty { (n : ℕ) (v : Self) → abstraction.bottom n result v →
+            CapsWithin (abstraction.capped self.now) (abstraction.capped v) }
+        ensures universe { (n : ℕ) (v : Self) → abstraction.top n result v →
+            CapsWithin (abstraction.capped self.now) (abstraction.capped v) };
 
     /// Whether the value has no part, and so no store; a value that is held is formed.
     fn is_empty(&self) -> bool
-        ensures formed { meaning.formed self.now }
-        ensures parts { IsTrue result ↔ (meaning.parts self.now ≡ []) }
-        ensures stores { IsTrue result → (s : List ℤ) → ¬ meaning.has self.now s };
+        ensures formed { abstraction.well_formed self.now }
+        ensures parts { IsTrue result ↔ (abstraction.parts self.now ≡ []) }
+        ensures stores { IsTrue result → (s : List ℤ) → ¬ abstraction.gamma self.now s };
 
     /// A lower and an upper bound of the form's values, as the content tells them; none where it tells none.
     fn bounds(&self, e: &LinExpr) -> (Option<i128>, Option<i128>)
-        requires { length e.now.coefficients ≡ meaning.dims self.now }
-        ensures { meaning.bounded self.now e.now result.0 result.1 };
+        requires { length e.now.coefficients ≡ abstraction.dims self.now }
+        ensures { abstraction.bounded self.now e.now result.0 result.1 };
 
     /// Whether this value lies in the other.
     fn included(&self, other: &Self) -> Included
-        requires { meaning.dims self.now ≡ meaning.dims other.now }
-        ensures stores { result ≡ Included.Yes → Within (meaning.has self.now) (meaning.has other.now) }
-        ensures yes { result ≡ Included.Yes → meaning.inside self.now other.now }
-        ensures no { result ≡ Included.No → ¬ meaning.inside self.now other.now }
-        ensures wide { result ≡ Included.Wide → meaning.inside_strains self.now other.now };
+        requires { abstraction.dims self.now ≡ abstraction.dims other.now }
+        ensures stores { result ≡ Included.Yes → Within (abstraction.gamma self.now) (abstraction.gamma other.now) }
+        ensures yes { result ≡ Included.Yes → abstraction.included self.now other.now }
+        ensures no { result ≡ Included.No → ¬ abstraction.included self.now other.now }
+        ensures wide { result ≡ Included.Wide → abstraction.inclusion_strains self.now other.now };
 
     /// Whether the two have the same content.
     fn same(&self, other: &Self) -> bool
@@ -140,69 +141,73 @@ pub trait Domain: Sized + Drop {
 
     /// Dimension `x` gets the value of the form.
     fn assign(&mut self, x: usize, e: &LinExpr) -> Result<Exactness, AllocError>
-        requires place { x < meaning.dims self.old }
-        requires width { length e.now.coefficients ≡ meaning.dims self.old }
-        ensures meets { IfOk result (λ a. Meets meaning (assign x e.now) self.old a self.new) }
-        ensures dims { meaning.dims self.new ≡ meaning.dims self.old }
-        ensures capped { CapsWithin (meaning.capped self.old) (meaning.capped self.new) }
+        requires place { x < abstraction.dims self.old }
+        requires width { length e.now.coefficients ≡ abstraction.dims self.old }
+        ensures meets { IfOk result
+            (λ a. TransfersTo abstraction (assign x e.now) self.old a self.new) }
+        ensures dims { abstraction.dims self.new ≡ abstraction.dims self.old }
+        ensures capped { CapsWithin (abstraction.capped self.old) (abstraction.capped self.new) }
         ensures err { OnErr result (self.new ≡ self.old) };
 
     /// Dimension `x` gets any value.
     fn forget(&mut self, x: usize) -> Result<Exactness, AllocError>
-        requires { x < meaning.dims self.old }
-        ensures meets { IfOk result (λ a. Meets meaning (forget x) self.old a self.new) }
-        ensures dims { meaning.dims self.new ≡ meaning.dims self.old }
-        ensures capped { CapsWithin (meaning.capped self.old) (meaning.capped self.new) }
+        requires { x < abstraction.dims self.old }
+        ensures meets { IfOk result (λ a. TransfersTo abstraction (forget x) self.old a self.new) }
+        ensures dims { abstraction.dims self.new ≡ abstraction.dims self.old }
+        ensures capped { CapsWithin (abstraction.capped self.old) (abstraction.capped self.new) }
         ensures err { OnErr result (self.new ≡ self.old) };
 
     /// Only stores that pass the test need stay.
     fn test(&mut self, t: &Test) -> Result<Exactness, AllocError>
-        requires { length t.now.expr.coefficients ≡ meaning.dims self.old }
-        ensures meets { IfOk result (λ a. Meets meaning (test t.now.kind t.now.expr) self.old a self.new) }
-        ensures dims { meaning.dims self.new ≡ meaning.dims self.old }
-        ensures capped { CapsWithin (meaning.capped self.old) (meaning.capped self.new) }
+        requires { length t.now.expr.coefficients ≡ abstraction.dims self.old }
+        ensures meets { IfOk result (λ a. TransfersTo abstraction (test t.now.kind t.now.expr) self.old a self.new) }
+        ensures dims { abstraction.dims self.new ≡ abstraction.dims self.old }
+        ensures capped { CapsWithin (abstraction.capped self.old) (abstraction.capped self.new) }
         ensures err { OnErr result (self.new ≡ self.old) };
 
     /// The stores of the other come in.
     fn join(&mut self, other: &Self) -> Result<Exactness, AllocError>
-        requires { meaning.dims self.old ≡ meaning.dims other.now }
-        ensures joins { IfOk result (λ a. Joins meaning self.old other.now a self.new) }
-        ensures dims { meaning.dims self.new ≡ meaning.dims self.old }
-        ensures capped { CapsWithin (λ c. meaning.capped self.old c × meaning.capped other.now c)
-            (meaning.capped self.new) }
+        requires { abstraction.dims self.old ≡ abstraction.dims other.now }
+        ensures joins { IfOk result (λ a. Joins abstraction self.old other.now a self.new) }
+        ensures dims { abstraction.dims self.new ≡ abstraction.dims self.old }
+        ensures capped { CapsWithin
+            (λ c. abstraction.capped self.old c × abstraction.capped other.now c)
+            (abstraction.capped self.new) }
         ensures err { OnErr result (self.new ≡ self.old) };
 
     /// `k` new dimensions of any value come last.
     fn embed(&mut self, k: usize) -> Result<Exactness, AllocError>
-        requires { meaning.dims self.old + k ≤ 2 ^ 30 }
-        ensures meets { IfOk result (λ a. Meets meaning (embed k) self.old a self.new) }
-        ensures dims { OnOk result (meaning.dims self.new ≡ meaning.dims self.old + k) }
-        ensures capped { CapsWithin (meaning.capped self.old) (meaning.capped self.new) }
+        requires { abstraction.dims self.old + k ≤ 2 ^ 30 }
+        ensures meets { IfOk result (λ a. TransfersTo abstraction (embed k) self.old a self.new) }
+        ensures dims { OnOk result (abstraction.dims self.new ≡ abstraction.dims self.old + k) }
+        ensures capped { CapsWithin (abstraction.capped self.old) (abstraction.capped self.new) }
         ensures err { OnErr result (self.new ≡ self.old) };
 
     /// The last `k` dimensions go.
     fn remove_last(&mut self, k: usize) -> Result<Exactness, AllocError>
-        requires { k ≤ meaning.dims self.old }
-        ensures meets { IfOk result (λ a. Meets meaning (remove_last k) self.old a self.new) }
-        ensures dims { OnOk result (meaning.dims self.new ≡ meaning.dims self.old - k) }
-        ensures capped { CapsWithin (meaning.capped self.old) (meaning.capped self.new) }
+        requires { k ≤ abstraction.dims self.old }
+        ensures meets { IfOk result
+            (λ a. TransfersTo abstraction (remove_last k) self.old a self.new) }
+        ensures dims { OnOk result (abstraction.dims self.new ≡ abstraction.dims self.old - k) }
+        ensures capped { CapsWithin (abstraction.capped self.old) (abstraction.capped self.new) }
         ensures err { OnErr result (self.new ≡ self.old) };
 
     /// What rows tell of the value, part by part.
     fn parts(&self, alloc: Global) -> Result<Vec<ConSys>, AllocError>
-        ensures parts { IfOk result (λ ps. ps.items ≡ meaning.parts self.now) }
-        ensures dims { IfOk result (λ ps. All (λ p. p.dims ≡ meaning.dims self.now) ps.items) }
-        ensures hold { IfOk result (λ ps. (s : List ℤ) → meaning.has self.now s →
+        ensures parts { IfOk result (λ ps. ps.items ≡ abstraction.parts self.now) }
+        ensures dims { IfOk result (λ ps. All (λ p. p.dims ≡ abstraction.dims self.now) ps.items) }
+        ensures hold { IfOk result (λ ps. (s : List ℤ) → abstraction.gamma self.now s →
             SomePartHolds ps.items s) };
 
     /// Makes the change.
     fn change(&mut self, change: &Change) -> Result<Exactness, AllocError>
-        requires { CanBeMade (action_of change.now) (meaning.dims self.old) }
+        requires { CanBeMade (action_of change.now) (abstraction.dims self.old) }
         ensures meets { IfOk result (λ a.
-            Meets meaning (action_of change.now) self.old a self.new) }
+            TransfersTo abstraction (action_of change.now) self.old a self.new) }
         ensures dims { OnOk result
-            (meaning.dims self.new ≡ dims_after (action_of change.now) (meaning.dims self.old)) }
-        ensures capped { CapsWithin (meaning.capped self.old) (meaning.capped self.new) }
+            (abstraction.dims self.new
+            ≡ dims_after (action_of change.now) (abstraction.dims self.old)) }
+        ensures capped { CapsWithin (abstraction.capped self.old) (abstraction.capped self.new) }
         ensures err { OnErr result (self.new ≡ self.old) }
     {
         match change {
@@ -216,14 +221,14 @@ pub trait Domain: Sized + Drop {
 
     /// The value of the same dimensions and caps with no store.
     fn empty_like(&self, alloc: Global) -> Result<Self, AllocError>
-        requires { meaning.dims self.now ≤ 2 ^ 30 }
-        ensures formed { IfOk result (λ v. meaning.formed v) }
-        ensures stores { IfOk result (λ v. (s : List ℤ) → ¬ meaning.has v s) }
+        requires { abstraction.dims self.now ≤ 2 ^ 30 }
+        ensures formed { IfOk result (λ v. abstraction.well_formed v) }
+        ensures stores { IfOk result (λ v. (s : List ℤ) → ¬ abstraction.gamma v s) }
         ensures defined { IfOk result (λ v. (cap : ℕ) ×
-            meaning.void (meaning.dims self.now) cap v) }
-        ensures dims { IfOk result (λ v. meaning.dims v ≡ meaning.dims self.now) }
+            abstraction.bottom (abstraction.dims self.now) cap v) }
+        ensures dims { IfOk result (λ v. abstraction.dims v ≡ abstraction.dims self.now) }
         ensures capped { IfOk result (λ v.
-            CapsWithin (meaning.capped self.now) (meaning.capped v)) }
+            CapsWithin (abstraction.capped self.now) (abstraction.capped v)) }
     {
         let (dims, cap) = (self.dims(), self.most_parts());
         let value = Self::empty(alloc, dims, cap)?;
@@ -232,15 +237,15 @@ pub trait Domain: Sized + Drop {
 
     /// The value of the same dimensions and caps with all stores.
     fn universe_like(&self, alloc: Global) -> Result<Self, AllocError>
-        requires { meaning.dims self.now ≤ 2 ^ 30 }
-        ensures formed { IfOk result (λ v. meaning.formed v) }
+        requires { abstraction.dims self.now ≤ 2 ^ 30 }
+        ensures formed { IfOk result (λ v. abstraction.well_formed v) }
         ensures stores { IfOk result (λ v. (s : List ℤ) →
-            (meaning.has v s ↔ (length s ≡ meaning.dims self.now))) }
+            (abstraction.gamma v s ↔ (length s ≡ abstraction.dims self.now))) }
         ensures defined { IfOk result (λ v. (cap : ℕ) ×
-            meaning.universal (meaning.dims self.now) cap v) }
-        ensures dims { IfOk result (λ v. meaning.dims v ≡ meaning.dims self.now) }
+            abstraction.top (abstraction.dims self.now) cap v) }
+        ensures dims { IfOk result (λ v. abstraction.dims v ≡ abstraction.dims self.now) }
         ensures capped { IfOk result (λ v.
-            CapsWithin (meaning.capped self.now) (meaning.capped v)) }
+            CapsWithin (abstraction.capped self.now) (abstraction.capped v)) }
     {
         let (dims, cap) = (self.dims(), self.most_parts());
         let value = Self::universe(alloc, dims, cap)?;
@@ -249,53 +254,53 @@ pub trait Domain: Sized + Drop {
 
     /// The head that starts with the value; `given` are the rows that limit its growth.
     fn start(alloc: Global, first: &Self, given: &ConSys) -> Result<Self::Head, AllocError>
-        requires { given.now.dims ≡ meaning.dims first.now }
-        ensures starts { IfOk result (λ h. Starts meaning first.now given.now h) }
-        ensures dims { IfOk result (λ h. meaning.head_dims h ≡ meaning.dims first.now) }
-        ensures capped { IfOk result (λ h. CapsWithin (meaning.capped first.now) (meaning.head_capped h)) }
-        ensures fits { IfOk result (λ h. RankFits (meaning.rank h)) };
+        requires { given.now.dims ≡ abstraction.dims first.now }
+        ensures starts { IfOk result (λ h. Starts abstraction first.now given.now h) }
+        ensures dims { IfOk result (λ h. abstraction.head_dims h ≡ abstraction.dims first.now) }
+        ensures capped { IfOk result (λ h. CapsWithin (abstraction.capped first.now) (abstraction.head_capped h)) }
+        ensures fits { IfOk result (λ h. RankFits (abstraction.rank h)) };
 
     /// Grows the head so that it has the stores of next, unless it has them.
     fn grow(head: &mut Self::Head, next: &Self, mode: Mode) -> Result<Grown, AllocError>
-        requires { meaning.head_dims head.old ≡ meaning.dims next.now }
-        ensures dims { meaning.head_dims head.new ≡ meaning.head_dims head.old }
-        ensures capped { CapsWithin (λ c. meaning.head_capped head.old c × meaning.capped next.now c)
-            (meaning.head_capped head.new) }
+        requires { abstraction.head_dims head.old ≡ abstraction.dims next.now }
+        ensures dims { abstraction.head_dims head.new ≡ abstraction.head_dims head.old }
+        ensures capped { CapsWithin (λ c. abstraction.head_capped head.old c × abstraction.capped next.now c)
+            (abstraction.head_capped head.new) }
         ensures stable { IfOk result (λ g. g ≡ Grown.Stable → head.new ≡ head.old) }
-        ensures stays { IfOk result (λ g. g ≡ Grown.Stable → meaning.answers head.old next.now mode Included.Yes) }
+        ensures stays { IfOk result (λ g. g ≡ Grown.Stable → abstraction.answers head.old next.now mode Included.Yes) }
         ensures grew { IfOk result (λ g. (a : Exactness) → g ≡ Grown.Grew a →
-            Grew meaning head.old next.now mode a head.new) }
+            Grew abstraction head.old next.now mode a head.new) }
         ensures lower { IfOk result (λ g. (a : Exactness) → g ≡ Grown.Grew a → mode ≢ Mode.Join →
-            RankBelow (meaning.rank head.new) (meaning.rank head.old)) }
-        ensures fits { OnOk result (RankFits (meaning.rank head.new)) }
+            RankBelow (abstraction.rank head.new) (abstraction.rank head.old)) }
+        ensures fits { OnOk result (RankFits (abstraction.rank head.new)) }
         ensures err { OnErr result (head.new ≡ head.old) };
 
     /// The value of the head.
     fn value(alloc: Global, head: &Self::Head) -> Result<(Self, Exactness), AllocError>
-        ensures values { IfOk result (λ r. Values meaning head.now r.1 r.0) }
-        ensures dims { IfOk result (λ r. meaning.dims r.0 ≡ meaning.head_dims head.now) }
-        ensures capped { IfOk result (λ r. CapsWithin (meaning.head_capped head.now) (meaning.capped r.0)) };
+        ensures values { IfOk result (λ r. Values abstraction head.now r.1 r.0) }
+        ensures dims { IfOk result (λ r. abstraction.dims r.0 ≡ abstraction.head_dims head.now) }
+        ensures capped { IfOk result (λ r. CapsWithin (abstraction.head_capped head.now) (abstraction.capped r.0)) };
 
     /// The rank of the head; a head that is held is formed.
     fn rank(head: &Self::Head) -> Rank
-        ensures formed { meaning.head_formed head.now }
-        ensures rank { result ≡ meaning.rank head.now };
+        ensures formed { abstraction.head_well_formed head.now }
+        ensures rank { result ≡ abstraction.rank head.now };
 
     /// What the meaning keeps.
-    ghost laws: { Laws meaning };
+    ghost laws: { Laws abstraction };
 }
 
 /// A domain whose values are what their parts tell: each list of `dims` numbers at which all rows of some part hold is
 /// a store. Boxes, octagons, polyhedra and sets of them are such: their rows alone can stand for them.
-pub trait Told: Domain {
+pub trait ExactParts: Domain {
     /// Does nothing: its contract is the way back from the parts of the value to its stores.
-    fn parts_tell_all(&self)
-        ensures { PartsTell Self.meaning self.now };
+    fn parts_are_exact(&self)
+        ensures { PartsAreExact Self.abstraction self.now };
 }
 
 /// A domain whose values have one part at most: polyhedra, boxes, octagons. Its ranks begin with 1. Its meaning allows
 /// one universal value, one join of two values, one head that starts with a value, and one value of a head.
-pub trait Plain: Domain {
+pub trait BaseDomain: Domain {
     /// What the meaning keeps further, so that sets of such values can be made.
-    ghost plain: { PlainLaws Self.meaning };
+    ghost base_laws: { BaseLaws Self.abstraction };
 }

@@ -2,7 +2,7 @@
 
 ghost use Rattle.std.specs.Prelude.{◌≡◌, ◌⊎◌};
 ghost use Rattle.lra_domain.specs.declared.Exactness.TheVariants.{Exact, Flagged};
-ghost use Rattle.lra_domain.specs.Meaning.{worse};
+ghost use Rattle.lra_domain.specs.Abstraction.{worse};
 
 use crate::Exactness;
 

@@ -9,7 +9,7 @@ pub mod flags;
 
 pub use backward::Backward;
 pub use changes::{Change, change_all};
-pub use domain::{Domain, Plain, Told};
+pub use domain::{BaseDomain, Domain, ExactParts};
 pub use flags::worse;
 
 /// Whether a result is the defined one, or only covers it because a number or a count passed its limit.

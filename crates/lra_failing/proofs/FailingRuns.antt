@@ -3,11 +3,11 @@
 use Rattle.std.proofs.Common.{◌≡◌, ◌≢◌, ℕ, zero, suc, ℤ, List, [], ◌∷◌, Option, None, Some, refl, sym, ◌∙◌, subst}
 use Rattle.std.specs.Prelude.{slice_get}
 use Rattle.std.proofs.lemmas.Option.{same_Some, none-some}
-use Rattle.lra_domain.specs.Backward.{Retracing}
+use Rattle.lra_domain.specs.Backward.{BackwardAbstraction}
 use Rattle.lra_domain.specs.Laws.{Laws}
-use Rattle.lra_domain.specs.Meaning.{Meaning}
+use Rattle.lra_domain.specs.Abstraction.{Abstraction}
 use Rattle.lra_domain.specs.Moves.{SomeLeads}
-use Rattle.lra_domain.specs.Stores.{Has}
+use Rattle.lra_domain.specs.Gammas.{InGamma}
 use Rattle.lra_program.specs.Program.{Program}
 use Rattle.lra_program.specs.Step.{Config, next}
 use Rattle.lra_program.specs.Run.{Fails, IsFailing, IsOn, Point, Reaches, Steps, label_on, start}
@@ -128,7 +128,7 @@ module _ (P : Program) (g : Node) (well : IsWellFormed P) (is : IsGraph P g) (he
     ahead_on label on =
         let point : Point = record { path = c.here.path; label = label } in
         let top : IsOn c point = record { label = on; path = refl } in
-        let (q, s, at, same) = (graphs_agree P g (distinct_sites P well) is).others point c.state.store (c, run, top, refl) in
+        let (q, s, at, same) = (graphs_agree P g (distinct_sites P well) is).interference point c.state.store (c, run, top, refl) in
         let here : IsOn c (point_of s) = subst (λ (r : Point). IsOn c r) same top in
         ahead_at c q s at run here (before c q ahead.number s ahead.site ahead.there.state.store at ahead.at run here
         (cover.goes c ahead.there q ahead.number s ahead.site at ahead.at run (piece_on label (point_of s) on same) ahead.on) ahead.holds)
@@ -179,7 +179,8 @@ module _ (P : Program) (g : Node) (well : IsWellFormed P) (is : IsGraph P g) (he
 
 -- over a domain ------------------------------------------------------------------------------------------------------------
 
-module _ {V H : Type 0} (m : Meaning V H) (b : Retracing V) (laws : Laws m) (P : Program) (g : Node) (forward values : List V) (f flag : Option ℕ) (p : ℕ)
+module _ {V H : Type 0} (m : Abstraction V H) (b : BackwardAbstraction V) (laws : Laws m) (P : Program) (g : Node) (forward values : List V) (f flag : Option ℕ)
+    (p : ℕ)
     (well : IsWellFormed P) (is : IsGraph P g) (fit : PathsFit P.globals (sites_of P) g) (wide : AreWide m (sites_of P) forward)
     (holds : HoldsAtPoints m P forward)
     (z : Backs (dropping m b) P.globals (sites_of P) g forward f p values flag) where
@@ -200,16 +201,16 @@ module _ {V H : Type 0} (m : Meaning V H) (b : Retracing V) (laws : Laws m) (P :
       ((all_paths_cover P g well is).denied c p s at run on fails)
 
   found_at : (q : ℕ) (s : Site) (c : Config) → slice_get (sites_of P) q ≡ Some s → Reaches P c → IsOn c (point_of s) → Held q c.state.store
-      → (v : V) × (slice_get values q ≡ Some v) × Has m v c.state.store
+      → (v : V) × (slice_get values q ≡ Some v) × InGamma m v c.state.store
   found_at q s c at run on own =
       let (x, value, has) = holds q s c.state.store at (c, run, on, refl) in
       found_has m b laws P.globals (sites_of P) g forward f p values flag z q x c.state.store value has own
 
   found_stores : (s r : Site) (q : ℕ) (store : List ℤ) → slice_get (sites_of P) p ≡ Some s → slice_get (sites_of P) q ≡ Some r
-      → FailsFrom P (point_of s) (point_of r) store → (v : V) × (slice_get values q ≡ Some v) × Has m v store
+      → FailsFrom P (point_of s) (point_of r) store → (v : V) × (slice_get values q ≡ Some v) × InGamma m v store
   found_stores s r q store at there fails =
       let own = held_where_fails P g well is Held p s at before_held (denied_held s at) r q store there fails in
-      subst (λ (t : List ℤ). (v : V) × (slice_get values q ≡ Some v) × Has m v t) fails.store_is
+      subst (λ (t : List ℤ). (v : V) × (slice_get values q ≡ Some v) × InGamma m v t) fails.store_is
       (found_at q r fails.there there fails.reached fails.on (subst (λ t. Held q t) (sym fails.store_is) own))
 
   nothing_leads : (q : ℕ) (s t : List ℤ) → SomeLeads (leading P g 0 (comes_to q)) s t → leading P g 0 (comes_to q) ≢ []
@@ -224,6 +225,6 @@ module _ {V H : Type 0} (m : Meaning V H) (b : Retracing V) (laws : Laws m) (P :
   hold_where_runs_fail : HoldWhereRunsFail m P g p values
   hold_where_runs_fail = record { stores = found_stores; proved = never_fails }
 
-pub traced_sound : {V H : Type 0} (m : Meaning V H) (b : Retracing V) → Laws m → TracedAreSound m b
+pub traced_sound : {V H : Type 0} (m : Abstraction V H) (b : BackwardAbstraction V) → Laws m → TracedAreSound m b
 traced_sound m b laws P g forward values f flag p well is fit wide holds z =
     hold_where_runs_fail m b laws P g forward values f flag p well is fit wide holds z

@@ -4,7 +4,7 @@ use Rattle.std.proofs.Common.{◌⊎◌, inl, inr, refl, sym, ap, ◌∙◌, sub
 use Rattle.std.specs.Prelude.{◌≢◌, nat_eq, slice_get}
 use Rattle.std.proofs.lemmas.Bool.{eqb-true, eq-eqb}
 use Rattle.std.proofs.lemmas.Option.{same_Some}
-use Rattle.lra_domain.specs.Meaning.{Meaning}
+use Rattle.lra_domain.specs.Abstraction.{Abstraction}
 use Rattle.lra_program.specs.Program.{Stmt, BlockItems, Program}
 use Rattle.lra_program.specs.Sites.{Site, sites_of}
 use Rattle.lra_operations.specs.Graph.{normal, Node, point, seq}
@@ -157,7 +157,7 @@ module _ (P : Program) (g : Node) (q : ℕ) (stops : StopsAt g q) where
 pub one_first : OnePointIsFirst
 one_first P g is = let x = graph_stops P g is in (x.0, first_stop P g x.0 x.3 x.1 x.2)
 
-pub nothing_left : {V H : Type 0} (m : Meaning V H) → NothingLeftAtFirst m
+pub nothing_left : {V H : Type 0} (m : Abstraction V H) → NothingLeftAtFirst m
 nothing_left m P g q values v first is = (
   λ nothing. nothing q v is first.leads,
   λ left r u there some.

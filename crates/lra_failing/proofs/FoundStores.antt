@@ -8,12 +8,12 @@ use Rattle.std.proofs.lemmas.List.{append-nil}
 use Rattle.std.proofs.lemmas.Option.{same_Some, none-some, slice_get_within}
 use Rattle.lra_linear_spec.proofs.Membership.{contains_head, contains_tail}
 use Rattle.lra_domain.specs.Actions.{Action}
-use Rattle.lra_domain.specs.Backward.{Retracing}
+use Rattle.lra_domain.specs.Backward.{BackwardAbstraction}
 use Rattle.lra_domain.specs.Changes.{AllCanBeMade}
 use Rattle.lra_domain.specs.Laws.{Laws}
-use Rattle.lra_domain.specs.Meaning.{Meaning, worse}
+use Rattle.lra_domain.specs.Abstraction.{Abstraction, worse}
 use Rattle.lra_domain.specs.Moves.{LeadsAll, SomeLeads}
-use Rattle.lra_domain.specs.Stores.{Has, HeadHas}
+use Rattle.lra_domain.specs.Gammas.{InGamma, InHeadGamma}
 use Rattle.lra_program.specs.Program.{Cond}
 use Rattle.lra_program.specs.Step.{test}
 use Rattle.lra_program.specs.Sites.{Site}
@@ -48,12 +48,12 @@ denial_leads live base c s t led =
     let (u, leads, ends) = leads_then s t (sides (guard live base false c)) ([] ∷ []) led in
     elim ends [ inl same ↦ subst (λ v. SomeLeads (sides (guard live base false c)) s v) (sym same) leads | inr none ↦ absurd none ]
 
-module _ {V H : Type 0} (m : Meaning V H) (b : Retracing V) (laws : Laws m) where
+module _ {V H : Type 0} (m : Abstraction V H) (b : BackwardAbstraction V) (laws : Laws m) where
   -- values ---------------------------------------------------------------------------------------------------------------
 
   pub met_has : (q : ℕ) (f : Option ℕ) (heads : List H) (forward : List V) (g : Option ℕ) (values : List V) → AreMet (dropping m b) q f heads forward g values
-      → (i : ℕ) (h : H) (x : V) (s : List ℤ) → slice_get heads i ≡ Some h → slice_get forward i ≡ Some x → HeadHas m h s → Has m x s
-      → (v : V) × (slice_get values i ≡ Some v) × Has m v s
+      → (i : ℕ) (h : H) (x : V) (s : List ℤ) → slice_get heads i ≡ Some h → slice_get forward i ≡ Some x → InHeadGamma m h s → InGamma m x s
+      → (v : V) × (slice_get values i ≡ Some v) × InGamma m v s
   met_has q f [] [] g values met i h x s at there own ahead = absurd (none-some h at)
   met_has q f [] (y ∷ forward) g values met i h x s at there own ahead = absurd met
   met_has q f (k ∷ heads) [] g values met i h x s at there own ahead = absurd met
@@ -62,11 +62,11 @@ module _ {V H : Type 0} (m : Meaning V H) (b : Retracing V) (laws : Laws m) wher
       (found, ap (λ vs. slice_get vs i) same ∙ place, has)
     where
       by : (i : ℕ) → slice_get (k ∷ heads) i ≡ Some h → slice_get (y ∷ forward) i ≡ Some x
-          → ((j : ℕ) → slice_get heads j ≡ Some h → slice_get forward j ≡ Some x → (z : V) × (slice_get more j ≡ Some z) × Has m z s)
-          → (z : V) × (slice_get (w ∷ more) i ≡ Some z) × Has m z s
+          → ((j : ℕ) → slice_get heads j ≡ Some h → slice_get forward j ≡ Some x → (z : V) × (slice_get more j ≡ Some z) × InGamma m z s)
+          → (z : V) × (slice_get (w ∷ more) i ≡ Some z) × InGamma m z s
       by zero at there on =
-          let held : HeadHas m k s = subst (λ z. HeadHas m z s) (sym (same_Some k h at)) own in
-          let fits : Has m y s = subst (λ z. Has m z s) (sym (same_Some y x there)) ahead in
+          let held : InHeadGamma m k s = subst (λ z. InHeadGamma m z s) (sym (same_Some k h at)) own in
+          let fits : InGamma m y s = subst (λ z. InGamma m z s) (sym (same_Some y x there)) ahead in
           (w, refl, (met.0.formed, met.0.stores s (valued.0.stores s held.1) fits.1))
       by (suc j) at there on = on j at there
 
@@ -79,12 +79,12 @@ module _ {V H : Type 0} (m : Meaning V H) (b : Retracing V) (laws : Laws m) wher
 
     -- the last head of the point has the store
     abbrev pub IsHeld : ℕ → List ℤ → Type 0
-    IsHeld q s = (h : H) × (slice_get z.last q ≡ Some h) × HeadHas m h s
+    IsHeld q s = (h : H) × (slice_get z.last q ≡ Some h) × InHeadGamma m h s
 
     last_heads : AreLast m b task (length forward) z.last
     last_heads = heads_are_last m b task (length forward) (noted p z.exactness f) z.first z.rounds_flag z.last z.started z.rounds
 
-    stable_holds : (q : ℕ) (r : IsStable m b task last_heads.mode z.last q) (s : List ℤ) → Has m r.next s → IsHeld q s
+    stable_holds : (q : ℕ) (r : IsStable m b task last_heads.mode z.last q) (s : List ℤ) → InGamma m r.next s → IsHeld q s
     stable_holds q r s own = (
       r.head,
       r.head_at,
@@ -97,7 +97,7 @@ module _ {V H : Type 0} (m : Meaning V H) (b : Retracing V) (laws : Laws m) wher
 
     -- from which a path leads to a store of a head
     pub held_before : AreWide m sites forward → PathsFit globals sites g → (q r : ℕ) (at behind : Site) (x : V) (s t : List ℤ) → slice_get sites q ≡ Some at
-        → slice_get sites r ≡ Some behind → slice_get forward q ≡ Some x → Has m x s → SomeLeads (leading_in globals sites g (suc q) (comes_to r)) s t
+        → slice_get sites r ≡ Some behind → slice_get forward q ≡ Some x → InGamma m x s → SomeLeads (leading_in globals sites g (suc q) (comes_to r)) s t
         → IsHeld r t
         → IsHeld q s
     held_before wide fit q r at behind x s t here there value own led (h, place, held) =
@@ -105,18 +105,18 @@ module _ {V H : Type 0} (m : Meaning V H) (b : Retracing V) (laws : Laws m) wher
         let long : at.live ≡ length s = sym (laws.sized x s own.0 own.1 ∙ (wide.1 q at x here value).0) in
         let made : AllCanBeMade path (length s) = subst (λ n. AllCanBeMade path n) long (fit q r at behind path here there among).0 in
         let turn = last_heads.stable q (slice_get_within forward q x value) in
-        let ahead : Has m turn.value s = subst (λ y. Has m y s) (same_Some x turn.value (sym value ∙ turn.value_at)) own in
+        let ahead : InGamma m turn.value s = subst (λ y. InGamma m y s) (same_Some x turn.value (sym value ∙ turn.value_at)) own in
         stable_holds q turn s ((next_at q turn).led r h s place (ahead, (path, t, among, made, leads, held)))
 
     -- the seed's
-    held_seed : (s : List ℤ) → Has m z.seed s → IsHeld p s
+    held_seed : (s : List ℤ) → InGamma m z.seed s → IsHeld p s
     held_seed s own =
         let turn = last_heads.stable p (slice_get_within forward p z.at_assertion z.is_there) in
         let there : seed_at task p ≡ Some z.seed = ap (λ y. cond y (Some z.seed) None) (eq-eqb p p refl) in
         stable_holds p turn s ((next_at p turn).seeded s (subst (λ o. SomeHas m o s) (sym there) own))
 
     -- from which a path leads to where the assertion is false
-    pub held_denied : AreWide m sites forward → (at : Site) (x : V) (s t : List ℤ) → slice_get sites p ≡ Some at → slice_get forward p ≡ Some x → Has m x s
+    pub held_denied : AreWide m sites forward → (at : Site) (x : V) (s t : List ℤ) → slice_get sites p ≡ Some at → slice_get forward p ≡ Some x → InGamma m x s
         → SomeLeads (leading_in globals sites g (suc p) (denies p)) s t → IsHeld p t
     held_denied wide at x s t here value own led =
         let one : SomeLeads (written (live_of (slice_get sites p)) (does (test z.base z.condition false) ∷ []) ++ []) s t =
@@ -126,12 +126,13 @@ module _ {V H : Type 0} (m : Meaning V H) (b : Retracing V) (laws : Laws m) wher
         (subst (λ paths. SomeLeads paths s t) (append-nil (written (live_of (slice_get sites p)) (does (test z.base z.condition false) ∷ []))) one) in
         let few : live_of (slice_get sites p) ≡ m.dims x = ap live_of here ∙ sym (wide.1 p at x here value).0 in
         let same : x ≡ z.at_assertion = same_Some x z.at_assertion (sym value ∙ z.is_there) in
-        let there : Has m z.at_assertion s = subst (λ y. Has m y s) same own in
+        let there : InGamma m z.at_assertion s = subst (λ y. InGamma m y s) same own in
         let live : live_of (slice_get sites p) ≡ m.dims z.at_assertion = few ∙ ap m.dims same in
         held_seed t (moves_keep V H m laws (guard (m.dims z.at_assertion) z.base false z.condition) z.at_assertion z.exactness z.seed z.denied s t there
         ((sides_lead (guard (m.dims z.at_assertion) z.base false z.condition) s t).1
         (subst (λ n. SomeLeads (sides (guard n z.base false z.condition)) s t) live leads)))
 
     -- the value that is found has each store of the head that the forward value has
-    pub found_has : (q : ℕ) (x : V) (s : List ℤ) → slice_get forward q ≡ Some x → Has m x s → IsHeld q s → (v : V) × (slice_get values q ≡ Some v) × Has m v s
+    pub found_has : (q : ℕ) (x : V) (s : List ℤ) → slice_get forward q ≡ Some x → InGamma m x s → IsHeld q s →
+        (v : V) × (slice_get values q ≡ Some v) × InGamma m v s
     found_has q x s value own (h, place, held) = met_has 0 z.rounds_flag z.last forward flag values z.met q h x s place value held own

@@ -4,8 +4,8 @@ use Rattle.std.proofs.Common.{◌≡◌, ◌<◌, ℕ, zero, suc, List, [], ◌�
 use Rattle.std.specs.Prelude.{slice_get, slice_set, ◌&&◌}
 use Rattle.std.proofs.lemmas.List.{set-get_or}
 use Rattle.std.proofs.lemmas.Option.{same_Some, none-some, get_or_from_slice_get}
-use Rattle.lra_domain.specs.Backward.{Retracing}
-use Rattle.lra_domain.specs.Meaning.{Meaning}
+use Rattle.lra_domain.specs.Backward.{BackwardAbstraction}
+use Rattle.lra_domain.specs.Abstraction.{Abstraction}
 use Rattle.lra_domain.specs.declared.Exactness.{Exactness}
 use Rattle.lra_domain.specs.declared.Mode.{Mode}
 use Rattle.lra_domain.specs.declared.Mode.TheVariants.{Join, Widen}
@@ -21,13 +21,13 @@ below_cases zero (suc p) low = inr (omega arith)
 below_cases (suc q) zero low = absurd (omega (arith, low))
 below_cases (suc q) (suc p) low = elim (below_cases q p (omega (arith, low))) [ inl same ↦ inl (ap suc same) | inr less ↦ inr (omega (arith, less)) ]
 
-module _ {V H : Type 0} (m : Meaning V H) (b : Retracing V) where
+module _ {V H : Type 0} (m : Abstraction V H) (b : BackwardAbstraction V) where
   abbrev pub AreFormed : List H → Type 0
-  AreFormed heads = (p : ℕ) (h : H) → slice_get heads p ≡ Some h → m.head_formed h
+  AreFormed heads = (p : ℕ) (h : H) → slice_get heads p ≡ Some h → m.head_well_formed h
 
-  set_formed : (heads : List H) (p : ℕ) (k : H) → AreFormed heads → m.head_formed k → AreFormed (slice_set heads p k)
+  set_formed : (heads : List H) (p : ℕ) (k : H) → AreFormed heads → m.head_well_formed k → AreFormed (slice_set heads p k)
   set_formed [] p k formed fine q h at = absurd (none-some h at)
-  set_formed (x ∷ heads) zero k formed fine zero h at = subst (λ y. m.head_formed y) (same_Some k h at) fine
+  set_formed (x ∷ heads) zero k formed fine zero h at = subst (λ y. m.head_well_formed y) (same_Some k h at) fine
   set_formed (x ∷ heads) zero k formed fine (suc q) h at = formed (suc q) h at
   set_formed (x ∷ heads) (suc p) k formed fine zero h at = formed 0 h at
   set_formed (x ∷ heads) (suc p) k formed fine (suc q) h at = set_formed heads p k (λ i y there. formed (suc i) y there) fine q h at
@@ -36,13 +36,13 @@ module _ {V H : Type 0} (m : Meaning V H) (b : Retracing V) where
   started_formed [] [] started q h at = absurd (none-some h at)
   started_formed [] (y ∷ heads) started q h at = absurd started
   started_formed (x ∷ forward) [] started q h at = absurd started
-  started_formed (x ∷ forward) (y ∷ heads) (v, none, start, rest) zero h at = subst (λ z. m.head_formed z) (same_Some y h at) start.0.formed
+  started_formed (x ∷ forward) (y ∷ heads) (v, none, start, rest) zero h at = subst (λ z. m.head_well_formed z) (same_Some y h at) start.0.formed
   started_formed (x ∷ forward) (y ∷ heads) (v, none, start, rest) (suc q) h at = started_formed forward heads rest q h at
 
   turned_formed : (mode : Mode) (h : H) (next : V) (e : Exactness) (stable : Bool) (k : H) → StaysOrGrows (dropping m b) mode h next e stable k
-      → m.head_formed h
-      → m.head_formed k
-  turned_formed mode h next e true k (stays, same, exact) fine = subst (λ y. m.head_formed y) (sym same) fine
+      → m.head_well_formed h
+      → m.head_well_formed k
+  turned_formed mode h next e true k (stays, same, exact) fine = subst (λ y. m.head_well_formed y) (sym same) fine
   turned_formed mode h next e false k grown fine = grown.0.formed
 
   module _ (task : Task V) where

@@ -51,7 +51,7 @@ use Rattle.lra_failing.proofs.MadeLists.{all_one, all_pairs}
 
 -- they can be made of a value of n dimensions, and leave m
 abbrev pub LeadOn : ℕ → ℕ → List Action → Type 0
-LeadOn n m path = AllCanBeMade path n × (changes.dims_behind path n ≡ m)
+LeadOn n m path = AllCanBeMade path n × (changes.dims_after_actions path n ≡ m)
 
 lead_then : (i j : List Action) (n k m : ℕ) → LeadOn n k i → LeadOn k m j → LeadOn n m (i ++ j)
 lead_then [] j n k m one two = subst (λ z. LeadOn z m j) (sym one.1) two

@@ -5,12 +5,12 @@ use Rattle.std.specs.Prelude.{slice_get, Contains}
 use Rattle.std.proofs.lemmas.Option.{same_Some, none-some}
 use Rattle.lra_linear_spec.proofs.Membership.{contains_none, contains_cases}
 use Rattle.lra_domain.specs.Actions.{Action}
-use Rattle.lra_domain.specs.Backward.{Retracing}
+use Rattle.lra_domain.specs.Backward.{BackwardAbstraction}
 use Rattle.lra_domain.specs.Changes.{AllCanBeMade}
 use Rattle.lra_domain.specs.Laws.{Laws}
-use Rattle.lra_domain.specs.Meaning.{Meaning}
+use Rattle.lra_domain.specs.Abstraction.{Abstraction}
 use Rattle.lra_domain.specs.Moves.{LeadsAll}
-use Rattle.lra_domain.specs.Stores.{Has, HeadHas}
+use Rattle.lra_domain.specs.Gammas.{InGamma, InHeadGamma}
 use Rattle.lra_domain.specs.declared.Exactness.{Exactness}
 use Rattle.lra_flow.specs.Operations as forward
 use Rattle.lra_flow.specs.Pass.{JoinsRunning, RunsFrom}
@@ -20,27 +20,27 @@ use Rattle.lra_back.specs.GoingBack.{AllComeBack, ComesBack, ComesFromAll, IsNex
 use Rattle.lra_failing.proofs.Retraced.{gone_over}
 
 -- the list is a store of the value that is there
-abbrev pub SomeHas : {V H : Type 0} → Meaning V H → Option V → List ℤ → Type 0
+abbrev pub SomeHas : {V H : Type 0} → Abstraction V H → Option V → List ℤ → Type 0
 SomeHas m None s = ⊥
-SomeHas m (Some v) s = Has m v s
+SomeHas m (Some v) s = InGamma m v s
 
-module _ {V H : Type 0} (m : Meaning V H) (b : Retracing V) (laws : Laws m) where
+module _ {V H : Type 0} (m : Abstraction V H) (b : BackwardAbstraction V) (laws : Laws m) where
   -- joins ---------------------------------------------------------------------------------------------------------------
 
-  joins_so : (so : Option V) (u : V) (e : Exactness) (w : V) → JoinsRunning (forward.dropping m) so u e w → (s : List ℤ) → SomeHas m so s → Has m w s
+  joins_so : (so : Option V) (u : V) (e : Exactness) (w : V) → JoinsRunning (forward.dropping m) so u e w → (s : List ℤ) → SomeHas m so s → InGamma m w s
   joins_so None u e w joins s own = absurd own
   joins_so (Some v) u e w joins s own = covered_has m laws v w joins.0.formed joins.0.left s own
 
-  joins_new : (so : Option V) (u : V) (e : Exactness) (w : V) → JoinsRunning (forward.dropping m) so u e w → (s : List ℤ) → Has m u s → Has m w s
-  joins_new None u e w (same, exact) s own = subst (λ x. Has m x s) (sym same) own
+  joins_new : (so : Option V) (u : V) (e : Exactness) (w : V) → JoinsRunning (forward.dropping m) so u e w → (s : List ℤ) → InGamma m u s → InGamma m w s
+  joins_new None u e w (same, exact) s own = subst (λ x. InGamma m x s) (sym same) own
   joins_new (Some v) u e w joins s own = covered_has m laws u w joins.0.formed joins.0.right s own
 
   -- paths ---------------------------------------------------------------------------------------------------------------
 
   comes_back : (x : V) (target : H) (path : List Action) (e : Exactness) (w : V) → ComesBack (dropping m b) x target path e w → (s t : List ℤ)
-      → AllCanBeMade path (length s) → LeadsAll path s t → HeadHas m target t → Has m x s → Has m w s
+      → AllCanBeMade path (length s) → LeadsAll path s t → InHeadGamma m target t → InGamma m x s → InGamma m w s
   comes_back x target path e w (v, u, c, d, i, valued, over, met, worst) s t fits led own ahead =
-      let behind : Has m v t = (valued.0.formed, valued.0.stores t own.1) in
+      let behind : InGamma m v t = (valued.0.formed, valued.0.stores t own.1) in
       (met.0.formed, met.0.stores s (gone_over m b laws path v d u over s t fits led behind).1 ahead.1)
 
   -- what was so stays, and what a path brings is there
@@ -50,10 +50,10 @@ module _ {V H : Type 0} (m : Meaning V H) (b : Retracing V) (laws : Laws m) wher
 
   -- some path leads from the store to one of the head
   abbrev pub LeadTo : List (List Action) → H → List ℤ → Type 0
-  LeadTo paths target s = (path : List Action) × (t : List ℤ) × Contains paths path × AllCanBeMade path (length s) × LeadsAll path s t × HeadHas m target t
+  LeadTo paths target s = (path : List Action) × (t : List ℤ) × Contains paths path × AllCanBeMade path (length s) × LeadsAll path s t × InHeadGamma m target t
 
   abbrev pub LeadFrom : V → List (List Action) → H → List ℤ → Type 0
-  LeadFrom x paths target s = Has m x s × LeadTo paths target s
+  LeadFrom x paths target s = InGamma m x s × LeadTo paths target s
 
   all_come_back : (x : V) (target : H) (paths : List (List Action)) (so : Option V) (e : Exactness) (all : Option V)
       → AllComeBack (dropping m b) x target paths so e all
@@ -105,13 +105,13 @@ module _ {V H : Type 0} (m : Meaning V H) (b : Retracing V) (laws : Laws m) wher
     comes = λ s own. subst (λ o. SomeHas m o s) (sym same) (joins_new so seed e w joins s own);
   }
 
-  runs_from : (live cap : ℕ) (all : Option V) (w : V) → RunsFrom (forward.dropping m) live cap all w → (s : List ℤ) → SomeHas m all s → Has m w s
+  runs_from : (live cap : ℕ) (all : Option V) (w : V) → RunsFrom (forward.dropping m) live cap all w → (s : List ℤ) → SomeHas m all s → InGamma m w s
   runs_from live cap None w runs s own = absurd own
-  runs_from live cap (Some v) w same s own = subst (λ x. Has m x s) (sym same) own
+  runs_from live cap (Some v) w same s own = subst (λ x. InGamma m x s) (sym same) own
 
   pub record NextHas (paths : ℕ → List (List Action)) (x : V) (seed : Option V) (heads : List H) (next : V) : Type 0 where
-    pub led : (q : ℕ) (h : H) (s : List ℤ) → slice_get heads q ≡ Some h → LeadFrom x (paths q) h s → Has m next s
-    pub seeded : (s : List ℤ) → SomeHas m seed s → Has m next s
+    pub led : (q : ℕ) (h : H) (s : List ℤ) → slice_get heads q ≡ Some h → LeadFrom x (paths q) h s → InGamma m next s
+    pub seeded : (s : List ℤ) → SomeHas m seed s → InGamma m next s
 
   pub next_has : (paths : ℕ → List (List Action)) (x : V) (seed : Option V) (heads : List H) (e : Exactness) (w : V)
       → IsNext (dropping m b) paths x seed heads e w → NextHas paths x seed heads w

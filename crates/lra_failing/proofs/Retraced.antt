@@ -4,12 +4,12 @@ use Rattle.std.proofs.lemmas.List.{length-append, length-set, set-get_or, set-se
 use Rattle.std.proofs.Math.Seq.{take-append_seam}
 use Rattle.lra_linear_forms.specs.Form.{form_value}
 use Rattle.lra_domain.specs.Actions.{Action, assign, forget, test, embed, remove_last, dims_after, Leads}
-use Rattle.lra_domain.specs.Backward.{Retracing}
+use Rattle.lra_domain.specs.Backward.{BackwardAbstraction}
 use Rattle.lra_domain.specs.Changes.{AllCanBeMade, CanBeMade}
 use Rattle.lra_domain.specs.Laws.{Laws}
-use Rattle.lra_domain.specs.Meaning.{Meaning, Meets}
+use Rattle.lra_domain.specs.Abstraction.{Abstraction, TransfersTo}
 use Rattle.lra_domain.specs.Moves.{LeadsAll}
-use Rattle.lra_domain.specs.Stores.{Has}
+use Rattle.lra_domain.specs.Gammas.{InGamma}
 use Rattle.lra_domain.specs.declared.Exactness.{Exactness}
 use Rattle.lra_back.specs.Operations.{Undoes, dropping}
 use Rattle.lra_back.specs.GoingBack.{GoesOver}
@@ -44,14 +44,14 @@ length_behind (test kind f) s t fits (holds, e) = ap length e
 length_behind (embed k) s t fits (added, few, e) = ap length e ∙ length-append s added ∙ ap (λ n. length s + n) few
 length_behind (remove_last k) s t fits e = ap length e ∙ length-take-le (length s - k) s (omega arith)
 
-module _ {V H : Type 0} (m : Meaning V H) (b : Retracing V) (laws : Laws m) where
+module _ {V H : Type 0} (m : Abstraction V H) (b : BackwardAbstraction V) (laws : Laws m) where
   -- one change ----------------------------------------------------------------------------------------------------------
 
-  changed_back : (step : Action) (v : V) (e : Exactness) (w : V) → Meets m step v e w → (s t : List ℤ) → Has m v t → Leads step t s → Has m w s
+  changed_back : (step : Action) (v : V) (e : Exactness) (w : V) → TransfersTo m step v e w → (s t : List ℤ) → InGamma m v t → Leads step t s → InGamma m w s
   changed_back step v e w meets s t own led = (meets.formed, laws.kept_stores step v w own.0 meets.formed meets.keeps t s own.1 led)
 
   undone_has : (step : Action) (v : V) (e : Exactness) (w : V) → Undoes (dropping m b) step v e w → (s t : List ℤ) → CanBeMade step (length s) → Leads step s t
-      → Has m v t → Has m w s
+      → InGamma m v t → InGamma m w s
   undone_has (assign x f) v e w undone s t fits led own = (undone.0.formed, undone.0.stores s t own.1 led)
   undone_has (forget x) v e w undone s t fits led own = changed_back (forget x) v e w undone.0 s t own (forgotten_back x s t led)
   undone_has (test kind f) v e w undone s t fits led own = (undone.0.formed, undone.0.stores s t own.1 led)
@@ -61,8 +61,8 @@ module _ {V H : Type 0} (m : Meaning V H) (b : Retracing V) (laws : Laws m) wher
   -- a path ---------------------------------------------------------------------------------------------------------------
 
   pub gone_over : (path : List Action) (v : V) (e : Exactness) (w : V) → GoesOver (dropping m b) path v e w → (s t : List ℤ) → AllCanBeMade path (length s)
-      → LeadsAll path s t → Has m v t → Has m w s
-  gone_over [] v e w (same, exact) s t fits led own = subst (λ x. Has m x s) (sym same) (subst (λ u. Has m v u) led own)
+      → LeadsAll path s t → InGamma m v t → InGamma m w s
+  gone_over [] v e w (same, exact) s t fits led own = subst (λ x. InGamma m x s) (sym same) (subst (λ u. InGamma m v u) led own)
   gone_over (step ∷ path) v e w (u, c, d, over, undone, worst) s t (fits, later) (between, led, on) own =
       undone_has step u d w undone s between fits led
       (gone_over path v c u over between t (subst (λ n. AllCanBeMade path n) (sym (length_behind step s between fits led)) later) on own)

@@ -1,6 +1,6 @@
 -- What the trees of programs owe to going back.
 use Rattle.std.specs.Prelude.{◌≡◌, ◌≢◌, ◌≤◌, ◌↔◌, ℕ, List, [], length, Some, slice_get}
-use Rattle.lra_domain.specs.Meaning.{Meaning}
+use Rattle.lra_domain.specs.Abstraction.{Abstraction}
 use Rattle.lra_program.specs.Program.{Program}
 use Rattle.lra_program.specs.declared.program.GlobalVariable.{GlobalVariable}
 use Rattle.lra_program.specs.Sites.{Site, sites_of}
@@ -36,6 +36,6 @@ abbrev pub OnePointIsFirst : Type 0
 OnePointIsFirst = (P : Program) (g : Node) → IsGraph P g → (q : ℕ) × IsFirst P g q
 
 -- nothing is left at the start exactly where nothing is left at that point
-abbrev pub NothingLeftAtFirst : {V H : Type 0} → Meaning V H → Type 0
+abbrev pub NothingLeftAtFirst : {V H : Type 0} → Abstraction V H → Type 0
 NothingLeftAtFirst {V} m = (P : Program) (g : Node) (q : ℕ) (values : List V) (v : V) → IsFirst P g q →
     slice_get values q ≡ Some v → (NothingLeftAtStart m P.globals (sites_of P) g values ↔ IsUnreachable m v)

@@ -9,7 +9,7 @@ use lra_domain::{Backward, Domain};
 /// What is found by going back over values that hold in all runs has each store with which a run is at a point from
 /// which it goes on to fail; where it leaves nothing at the start, no run fails.
 pub fn traced_are_sound<D: Backward>()
-    ensures { TracedAreSound D.meaning D.retracing }
+    ensures { TracedAreSound D.abstraction D.backward_abstraction }
 {}
 
 /// A tree whose operations can be made, and which comes to its points with as many variables as live there, has paths
@@ -31,5 +31,5 @@ pub fn one_point_is_first()
 
 /// Nothing is left at the start exactly where the value at that point has nothing.
 pub fn nothing_left_at_first<D: Domain>()
-    ensures { NothingLeftAtFirst D.meaning }
+    ensures { NothingLeftAtFirst D.abstraction }
 {}

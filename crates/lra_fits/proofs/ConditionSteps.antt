@@ -8,7 +8,7 @@ use Rattle.lra_base.specs.OperatorViews.{comparison_view}
 use Rattle.lra_base.specs.declared.operators.Comparison as declared_comparison
 use Rattle.lra_domain.specs.declared.Exactness.{Exactness}
 use Rattle.lra_domain.specs.declared.Exactness.TheVariants.{Exact, Flagged}
-use Rattle.lra_domain.specs.Meaning.{Meaning, worse}
+use Rattle.lra_domain.specs.Abstraction.{Abstraction, worse}
 use Rattle.lra_program.specs.declared.program.Cond as declared_cond
 use Rattle.lra_program.specs.declared.program.Cond.{Compare, Nonzero, Opposite, All, Any, the_lemmas}
 use Rattle.lra_program.specs.declared.program.Expr as declared_expr
@@ -36,7 +36,7 @@ sides_one : (wanted : Bool) (c : Cond) → sides_of wanted c [] ≡ c
 sides_one true c = refl
 sides_one false c = refl
 
-module _ {V H A : Type 0} (m : Meaning V H) (Both : ℕ → Expr → Expr → V → List A → Exactness → Type 0)
+module _ {V H A : Type 0} (m : Abstraction V H) (Both : ℕ → Expr → Expr → V → List A → Exactness → Type 0)
     (One : ℕ → Expr → V → List A → Exactness → Type 0) (base : ℕ) where
   abbrev Told : Cond → V → List A → Exactness → Type 0
   Told c v xs e = CondTold (dropping m) Both One base c v xs e

@@ -5,7 +5,7 @@ use Rattle.std.proofs.Common.{refl, sym, ap, subst, append_assoc, append-nil, ne
 use Rattle.std.specs.Prelude.{Result, Ok, Err, IfOk, OnOk}
 use Rattle.std.proofs.lemmas.List.{map_more, take_all}
 use Rattle.lra_linear_forms.specs.Form.{Form}
-use Rattle.lra_domain.specs.Meaning.{Meaning}
+use Rattle.lra_domain.specs.Abstraction.{Abstraction}
 use Rattle.lra_base.specs.Operators.{Operator}
 use Rattle.lra_base.specs.OperatorViews.{operator_view}
 use Rattle.lra_base.specs.declared.number_types.NumberType.{NumberType}
@@ -76,7 +76,7 @@ chained_more e os i o h is =
     ap (chained e) (map_more operation_view os i o h ∙ ap (λ (x : Operation). so_many ++ operation_view x ∷ []) (sym is)) ∙
     chained_last e so_many (operation_view o) ∙ ap (λ (p : Operator × Expr). binary p.0 (chained e so_many) p.1) (operation_is o)
 
-module _ {V H : Type 0} (m : Meaning V H) (v : V) (base : ℕ) where
+module _ {V H : Type 0} (m : Abstraction V H) (v : V) (base : ℕ) where
   -- a sign behind what is computed
   pub sign_computed : (e : Expr) (before old new : List Bool) (inner c : Computed) (b : Bool) → c.number_type ≡ inner.number_type
       → c.form ≡ with_other_sign inner.form → Answers m v b (LiesIn m v inner.number_type c.form) → new ≡ old ++ b ∷ []

@@ -3,7 +3,7 @@
 use Rattle.std.specs.Prelude.{◌≡◌, ◌<◌, ◌⊎◌, ℕ, suc, ℤ, List, [], ◌∷◌, ◌++◌, length, Option, None, Some, Bool, true}
 use Rattle.std.specs.Prelude.{false, ◌||◌, filter, slice_get, Contains, ⊤}
 use Rattle.lra_linear_forms.specs.Form.{Form}
-use Rattle.lra_domain.specs.Meaning.{Meaning, worse}
+use Rattle.lra_domain.specs.Abstraction.{Abstraction, worse}
 use Rattle.lra_domain.specs.declared.Exactness.{Exactness}
 use Rattle.lra_base.specs.declared.number_types.NumberType.{NumberType}
 use Rattle.lra_base.specs.NumberTypes.{fits}
@@ -43,7 +43,7 @@ sides_of false c cs = any_of c cs
 abbrev pub HasAnswers : {A : Type 0} → (List A → Type 0) → List A → List A → Type 0
 HasAnswers {A} are old new = (xs : List A) × are xs × (new ≡ old ++ xs)
 
-module _ {V H : Type 0} (m : Meaning V H) where
+module _ {V H : Type 0} (m : Abstraction V H) where
   -- the answers on the expression came behind the others, and this is its type and its form
   pub record IsComputed (v : V) (base : ℕ) (e : Expr) (old : List Bool) (c : Computed) (new : List Bool)
       : Type 0 where

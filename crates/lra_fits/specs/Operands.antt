@@ -1,6 +1,6 @@
 -- The operands of a chain of conditions, one behind the other.
 use Rattle.std.specs.Prelude.{◌≡◌, ℕ, Bool, List}
-use Rattle.lra_domain.specs.Meaning.{worse}
+use Rattle.lra_domain.specs.Abstraction.{worse}
 use Rattle.lra_domain.specs.declared.Exactness.{Exactness}
 use Rattle.lra_program.specs.Program.{Expr, Cond}
 use Rattle.lra_flow.specs.Operations.{Operations}

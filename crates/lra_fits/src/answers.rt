@@ -25,9 +25,9 @@ fn is_within(number_type: NumberType, bound: Option<i128>) -> bool
 
 /// Whether what is told of the form's values lies in the type.
 fn lies_in<D: Domain>(value: &D, number_type: NumberType, form: &Option<LinExpr>) -> bool
-    requires formed { D.meaning.formed value.now }
-    requires wide { IsWide (D.meaning.dims value.now) form.now }
-    ensures { IsTrue result ↔ LiesIn D.meaning value.now number_type form.now }
+    requires formed { D.abstraction.well_formed value.now }
+    requires wide { IsWide (D.abstraction.dims value.now) form.now }
+    ensures { IsTrue result ↔ LiesIn D.abstraction value.now number_type form.now }
 {
     match form {
         None => false,
@@ -40,8 +40,9 @@ fn lies_in<D: Domain>(value: &D, number_type: NumberType, form: &Option<LinExpr>
 
 /// Whether what is told of the form's values lies in the type, or no run comes here.
 pub fn form_fits<D: Domain>(value: &D, number_type: NumberType, form: &Option<LinExpr>) -> bool
-    requires { IsWide (D.meaning.dims value.now) form.now }
-    ensures { Answers D.meaning value.now result (LiesIn D.meaning value.now number_type form.now) }
+    requires { IsWide (D.abstraction.dims value.now) form.now }
+    ensures { Answers D.abstraction value.now result
+        (LiesIn D.abstraction value.now number_type form.now) }
 {
     value.is_empty() || lies_in(value, number_type, form)
 }
@@ -64,9 +65,10 @@ pub fn operator_fits<D: Domain>(
     form: &Option<LinExpr>,
     right: &Option<LinExpr>,
 ) -> bool
-    requires { IsWide (D.meaning.dims value.now) form.now }
-    ensures { Answers D.meaning value.now result
-        (OperatorFits D.meaning value.now number_type (operator_view operator) form.now right.now) }
+    requires { IsWide (D.abstraction.dims value.now) form.now }
+    ensures { Answers D.abstraction value.now result
+        (OperatorFits D.abstraction value.now number_type (operator_view operator) form.now
+        right.now) }
 {
     match operator {
         Operator::Plus | Operator::Minus | Operator::Times => form_fits(value, number_type, form),

@@ -40,7 +40,7 @@ pub trait Leaf<D: Domain> {
         value: &D,
         told: &mut Vec<Self::Told>,
     ) -> Result<Exactness, AllocError>
-        requires { D.meaning.dims value.now ≤ most_live }
+        requires { D.abstraction.dims value.now ≤ most_live }
         ensures { IfOk result (λ e. HasAnswers
             (λ xs. both around.base (expr_view left.now) (expr_view right.now) value.now xs e)
             told.old.items told.new.items) };
@@ -52,7 +52,7 @@ pub trait Leaf<D: Domain> {
         value: &D,
         told: &mut Vec<Self::Told>,
     ) -> Result<Exactness, AllocError>
-        requires { D.meaning.dims value.now ≤ most_live }
+        requires { D.abstraction.dims value.now ≤ most_live }
         ensures { IfOk result (λ a. HasAnswers (λ xs. one around.base (expr_view e.now) value.now xs a)
             told.old.items told.new.items) };
 }
@@ -65,8 +65,8 @@ pub fn judge_condition<D: Domain, L: Leaf<D>>(
     value: &D,
     told: &mut Vec<L::Told>,
 ) -> Result<Exactness, AllocError>
-    requires { D.meaning.dims value.now ≤ most_live }
-    ensures { IfOk result (λ e. IsTold (dropping D.meaning) L.both L.one around.base
+    requires { D.abstraction.dims value.now ≤ most_live }
+    ensures { IfOk result (λ e. IsTold (dropping D.abstraction) L.both L.one around.base
         (cond_view condition.now) value.now told.old.items e told.new.items) }
 {
     match condition {
@@ -92,10 +92,10 @@ fn pass_operand<D: Domain, L: Leaf<D>>(
     before: Exactness,
     told: &mut Vec<L::Told>,
 ) -> Result<Exactness, AllocError>
-    requires { D.meaning.dims value.old ≤ most_live }
-    ensures passed { IfOk result (λ e. IsPassed (dropping D.meaning) L.both L.one around.base
+    requires { D.abstraction.dims value.old ≤ most_live }
+    ensures passed { IfOk result (λ e. IsPassed (dropping D.abstraction) L.both L.one around.base
         (cond_view operand.now) wanted value.old before told.old.items value.new e told.new.items) }
-    ensures dims { OnOk result (D.meaning.dims value.new ≡ D.meaning.dims value.old) }
+    ensures dims { OnOk result (D.abstraction.dims value.new ≡ D.abstraction.dims value.old) }
 {
     let judged = judge_condition::<D, L>(around, operand, value, told)?;
     leave(
@@ -118,8 +118,8 @@ fn judge_sides<D: Domain, L: Leaf<D>>(
     from: &D,
     told: &mut Vec<L::Told>,
 ) -> Result<Exactness, AllocError>
-    requires { D.meaning.dims from.now ≤ most_live }
-    ensures { IfOk result (λ e. IsTold (dropping D.meaning) L.both L.one around.base
+    requires { D.abstraction.dims from.now ≤ most_live }
+    ensures { IfOk result (λ e. IsTold (dropping D.abstraction) L.both L.one around.base
         (sides_of wanted (cond_view first.now) (map cond_view rest.now))
         from.now told.old.items e told.new.items) }
 {

@@ -42,9 +42,9 @@ fn judge_leaf<D: Domain>(
     number_type: NumberType,
     e: &Expr,
 ) -> Result<Computed, AllocError>
-    requires { D.meaning.dims value.now < 2 ^ 62 }
+    requires { D.abstraction.dims value.now < 2 ^ 62 }
     ensures { IfOk result (λ c. (c.number_type ≡ number_type) ×
-        (c.form ≡ form_of (D.meaning.dims value.now) base (expr_view e.now))) }
+        (c.form ≡ form_of (D.abstraction.dims value.now) base (expr_view e.now))) }
 {
     let form = form_of_expression(alloc, value.dims(), base, e)?;
     Ok(Computed { number_type, form })
@@ -57,10 +57,10 @@ fn judge_sign<D: Domain>(
     inner: Computed,
     answers: &mut Vec<bool>,
 ) -> Result<Computed, AllocError>
-    requires { IsWide (D.meaning.dims value.now) inner.form }
+    requires { IsWide (D.abstraction.dims value.now) inner.form }
     ensures { IfOk result (λ c. (base : ℕ) → (e : ProgramExpr) → (before : List Bool) →
-        IsComputed D.meaning value.now base e before inner answers.old.items →
-        IsComputed D.meaning value.now base (negate e) before c answers.new.items) }
+        IsComputed D.abstraction value.now base e before inner answers.old.items →
+        IsComputed D.abstraction value.now base (negate e) before c answers.new.items) }
 {
     let form = negate(alloc, &inner.form)?;
     answers.push(form_fits(value, inner.number_type, &form))?;
@@ -79,14 +79,14 @@ fn judge_operator<D: Domain>(
     right: Computed,
     answers: &mut Vec<bool>,
 ) -> Result<Computed, AllocError>
-    requires left { IsWide (D.meaning.dims value.now) left.form }
-    requires right { IsWide (D.meaning.dims value.now) right.form }
-    ensures wide { IfOk result (λ c. IsWide (D.meaning.dims value.now) c.form) }
+    requires left { IsWide (D.abstraction.dims value.now) left.form }
+    requires right { IsWide (D.abstraction.dims value.now) right.form }
+    ensures wide { IfOk result (λ c. IsWide (D.abstraction.dims value.now) c.form) }
     ensures computes { IfOk result (λ c. (base : ℕ) → (a b : ProgramExpr) →
         (before between : List Bool) →
-        IsComputed D.meaning value.now base a before left between →
-        IsComputed D.meaning value.now base b between right answers.old.items →
-        IsComputed D.meaning value.now base (binary (operator_view operator) a b) before c
+        IsComputed D.abstraction value.now base a before left between →
+        IsComputed D.abstraction value.now base b between right answers.old.items →
+        IsComputed D.abstraction value.now base (binary (operator_view operator) a b) before c
         answers.new.items) }
 {
     let number_type = left.number_type.wider(right.number_type);
@@ -104,8 +104,8 @@ pub fn judge_expression<D: Domain>(
     e: &Expr,
     answers: &mut Vec<bool>,
 ) -> Result<Computed, AllocError>
-    requires { D.meaning.dims value.now < 2 ^ 62 }
-    ensures { IfOk result (λ c. IsComputed D.meaning value.now base (expr_view e.now)
+    requires { D.abstraction.dims value.now < 2 ^ 62 }
+    ensures { IfOk result (λ c. IsComputed D.abstraction value.now base (expr_view e.now)
         answers.old.items c answers.new.items) }
 {
     match e {
@@ -140,11 +140,12 @@ fn judge_chain<D: Domain>(
     operations: &[Operation],
     answers: &mut Vec<bool>,
 ) -> Result<Computed, AllocError>
-    requires few { D.meaning.dims value.now < 2 ^ 62 }
-    requires wide { IsWide (D.meaning.dims value.now) first.form }
+    requires few { D.abstraction.dims value.now < 2 ^ 62 }
+    requires wide { IsWide (D.abstraction.dims value.now) first.form }
     ensures { IfOk result (λ c. (e : ProgramExpr) → (before : List Bool) →
-        IsComputed D.meaning value.now base e before first answers.old.items →
-        IsComputed D.meaning value.now base (chained e (map operation_view operations.now)) before c
+        IsComputed D.abstraction value.now base e before first answers.old.items →
+        IsComputed D.abstraction value.now base (chained e (map operation_view operations.now))
+        before c
         answers.new.items) }
 {
     let mut so_far = first;
@@ -164,9 +165,9 @@ pub fn judge_given<D: Domain>(
     e: &Expr,
     answers: &mut Vec<bool>,
 ) -> Result<(), AllocError>
-    requires { D.meaning.dims value.now < 2 ^ 62 }
+    requires { D.abstraction.dims value.now < 2 ^ 62 }
     ensures { OnOk result (HasAnswers
-        (GivenJudged D.meaning value.now base receiver (expr_view e.now))
+        (GivenJudged D.abstraction value.now base receiver (expr_view e.now))
         answers.old.items answers.new.items) }
 {
     let computed = judge_expression(alloc, base, value, e, answers)?;
@@ -185,9 +186,9 @@ pub fn judge_arguments<D: Domain>(
     arguments: &[Argument],
     answers: &mut Vec<bool>,
 ) -> Result<(), AllocError>
-    requires { D.meaning.dims value.now < 2 ^ 62 }
+    requires { D.abstraction.dims value.now < 2 ^ 62 }
     ensures { OnOk result (HasAnswers
-        (ArgumentsJudged D.meaning value.now base (map argument_view arguments.now))
+        (ArgumentsJudged D.abstraction value.now base (map argument_view arguments.now))
         answers.old.items answers.new.items) }
 {
     'arguments: for argument in arguments {
@@ -206,10 +207,10 @@ pub fn judge_element<D: Domain>(
     e: &Expr,
     answers: &mut Vec<bool>,
 ) -> Result<(), AllocError>
-    requires { D.meaning.dims value.now < 2 ^ 62 }
+    requires { D.abstraction.dims value.now < 2 ^ 62 }
     ensures { OnOk result (HasAnswers
-        (IndexJudged D.meaning value.now base (expr_view element.now.index)
-        (GivenJudged D.meaning value.now base (waiting_in element.now.array) (expr_view e.now)))
+        (IndexJudged D.abstraction value.now base (expr_view element.now.index)
+        (GivenJudged D.abstraction value.now base (waiting_in element.now.array) (expr_view e.now)))
         answers.old.items answers.new.items) }
 {
     let _index = judge_expression(alloc, base, value, &element.index, answers)?;
@@ -226,10 +227,10 @@ pub fn judge_arguments_for<D: Domain>(
     arguments: &[Argument],
     answers: &mut Vec<bool>,
 ) -> Result<(), AllocError>
-    requires { D.meaning.dims value.now < 2 ^ 62 }
+    requires { D.abstraction.dims value.now < 2 ^ 62 }
     ensures { OnOk result (HasAnswers
-        (IndexJudged D.meaning value.now base (expr_view element.now.index)
-        (ArgumentsJudged D.meaning value.now base (map argument_view arguments.now)))
+        (IndexJudged D.abstraction value.now base (expr_view element.now.index)
+        (ArgumentsJudged D.abstraction value.now base (map argument_view arguments.now)))
         answers.old.items answers.new.items) }
 {
     let _index = judge_expression(alloc, base, value, &element.index, answers)?;

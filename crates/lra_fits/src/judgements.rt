@@ -29,9 +29,9 @@ pub fn judge<D: Domain>(
     values: &[D],
     flagged: Option<usize>,
 ) -> Result<Fitting, AllocError>
-    requires few { All (λ v. D.meaning.dims v < most_live) values.now }
+    requires few { All (λ v. D.abstraction.dims v < most_live) values.now }
     requires below { AreBelow (length values.now) (asked_in None (node_view tree.now)) }
-    ensures { IfOk result (λ f. Judges D.meaning (dropping D.meaning) (node_view tree.now)
+    ensures { IfOk result (λ f. Judges D.abstraction (dropping D.abstraction) (node_view tree.now)
         values.now flagged f.verdicts.items f.flagged) }
 {
     let found = find::<D, Fit>(alloc, tree, values, flagged)?;

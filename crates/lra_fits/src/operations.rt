@@ -28,9 +28,9 @@ pub struct Fit;
 impl<D: Domain> Leaf<D> for Fit {
     type Told = bool;
 
-    ghost both = { BothJudged D.meaning };
+    ghost both = { BothJudged D.abstraction };
 
-    ghost one = { OneJudged D.meaning };
+    ghost one = { OneJudged D.abstraction };
 
     fn tell_both(
         around: Surroundings,
@@ -74,8 +74,8 @@ fn answer_operation<D: Domain>(
     value: &D,
     answers: &mut Vec<bool>,
 ) -> Result<Exactness, AllocError>
-    requires { D.meaning.dims value.now ≤ most_live }
-    ensures { IfOk result (λ e. IsOpJudged D.meaning (op_view op.now)
+    requires { D.abstraction.dims value.now ≤ most_live }
+    ensures { IfOk result (λ e. IsOpJudged D.abstraction (op_view op.now)
         value.now answers.old.items e answers.new.items) }
 {
     match op {
@@ -111,8 +111,8 @@ fn answer_doing<D: Domain>(
     value: &D,
     answers: &mut Vec<bool>,
 ) -> Result<Exactness, AllocError>
-    requires { D.meaning.dims value.now ≤ most_live }
-    ensures { IfOk result (λ e. IsOpJudged D.meaning (doing_view doing.entry)
+    requires { D.abstraction.dims value.now ≤ most_live }
+    ensures { IfOk result (λ e. IsOpJudged D.abstraction (doing_view doing.entry)
         value.now answers.old.items e answers.new.items) }
 {
     match doing {
@@ -132,7 +132,7 @@ impl<D: Domain> Question<D> for Fit {
 
     ghost asks = { op_computes };
 
-    ghost told = { OpFits D.meaning (dropping D.meaning) };
+    ghost told = { OpFits D.abstraction (dropping D.abstraction) };
 
     fn is_asked(_alloc: Global, doing: Doing<'_>) -> Result<bool, AllocError> {
         Ok(match doing {

@@ -46,7 +46,7 @@ pub trait Question<D: Domain> {
         doing: Doing<'_>,
         value: &D,
     ) -> Result<Verdict<Self::Answer>, AllocError>
-        requires { D.meaning.dims value.now ≤ most_live }
+        requires { D.abstraction.dims value.now ≤ most_live }
         ensures { IfOk result (λ j. told (doing_view doing.entry) value.now j.answer j.exactness) };
 }
 
@@ -83,8 +83,8 @@ fn answer_done<D: Domain, Q: Question<D>>(
     done: &Done<'_>,
     value: &D,
 ) -> Result<Verdict<Q::Answer>, AllocError>
-    requires { D.meaning.dims value.now < most_live }
-    ensures { IfOk result (λ j. IsAnswered (dropping D.meaning) Q.told (done_view done.now)
+    requires { D.abstraction.dims value.now < most_live }
+    ensures { IfOk result (λ j. IsAnswered (dropping D.abstraction) Q.told (done_view done.now)
         value.now j.answer j.exactness) }
 {
     match done.fresh {
@@ -108,10 +108,10 @@ fn fill_table<D: Domain, Q: Question<D>>(
     values: &[D],
     table: &mut Vec<Option<Verdict<Q::Answer>>>,
 ) -> Result<(), AllocError>
-    requires few { All (λ v. D.meaning.dims v < most_live) values.now }
+    requires few { All (λ v. D.abstraction.dims v < most_live) values.now }
     requires long { length table.old.items ≡ length values.now }
     requires below { AreBelow (length values.now) (asked_by Q.asks (map done_view doings.now)) }
-    ensures { OnOk result (Fills (dropping D.meaning) Q.told values.now
+    ensures { OnOk result (Fills (dropping D.abstraction) Q.told values.now
         (asked_by Q.asks (map done_view doings.now)) table.old.items table.new.items) }
 {
     'doings: for done in doings {
@@ -169,9 +169,9 @@ pub fn find<D: Domain, Q: Question<D>>(
     values: &[D],
     flagged: Option<usize>,
 ) -> Result<Found<Q::Answer>, AllocError>
-    requires few { All (λ v. D.meaning.dims v < most_live) values.now }
+    requires few { All (λ v. D.abstraction.dims v < most_live) values.now }
     requires below { AreBelow (length values.now) (asking_in Q.asks None (node_view tree.now)) }
-    ensures { IfOk result (λ f. Finds (dropping D.meaning) Q.told
+    ensures { IfOk result (λ f. Finds (dropping D.abstraction) Q.told
         (asking_in Q.asks None (node_view tree.now)) values.now flagged f.answers.items f.flagged) }
 {
     let doings = list_doings(alloc, tree)?;

@@ -4,7 +4,7 @@ use Rattle.std.proofs.Common.{◌≡◌, ℕ, ℤ, pos, negsuc, List, [], ◌∷
 use Rattle.lra_linear_spec.specs.declared.ConKind.TheVariants.{Ge}
 use Rattle.lra_linear_forms.specs.Form.{Form}
 use Rattle.lra_linear_forms.specs.declared.test.Test.{Test}
-use Rattle.lra_domain.specs.Meaning.{Meaning, worse}
+use Rattle.lra_domain.specs.Abstraction.{Abstraction, worse}
 use Rattle.lra_domain.specs.declared.Exactness.{Exactness}
 use Rattle.lra_domain.specs.declared.Exactness.TheVariants.{Exact, Flagged}
 use Rattle.lra_base.specs.declared.refusals.Place.{Place}
@@ -62,7 +62,7 @@ a = record { declared = at 6; length = 3; number_type = Long }
 abbrev a_at : Expr → ℕ → Element
 a_at i c = record { array = a; place = at c; index = i }
 
-module _ {V H : Type 0} (m : Meaning V H) (ops : Operations V H) (v : V) where
+module _ {V H : Type 0} (m : Abstraction V H) (ops : Operations V H) (v : V) where
   -- an index that isn't linear lies inside only where no run comes
   input_inside_nowhere : (b : Bool) → AccessJudged m ops v 0 (a_at input 30) b Exact → b ≡ true → m.parts v ≡ []
   input_inside_nowhere b judged is = elim (judged.0.0 is) [ inl none ↦ none | inr never ↦ absurd never ]

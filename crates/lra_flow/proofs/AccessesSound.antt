@@ -7,7 +7,7 @@ use Rattle.std.proofs.lemmas.Int.{ints}
 use Rattle.std.proofs.lemmas.Option.{same_Some, slice_get_within, slice_get-get_or}
 use Rattle.lra_linear_forms.specs.Form.{Form, form_value}
 use Rattle.lra_linear_forms.specs.declared.test.Test.{Test}
-use Rattle.lra_domain.specs.Meaning.{Meaning}
+use Rattle.lra_domain.specs.Abstraction.{Abstraction}
 use Rattle.lra_domain.specs.Laws.{Laws}
 use Rattle.lra_domain.specs.Moves.{make}
 use Rattle.lra_domain.specs.declared.Exactness.{Exactness}
@@ -85,7 +85,7 @@ abbrev SaysInside : Told → ℕ → Type 0
 SaysInside js n = (place : Place) × (slice_get js n ≡ Some (place, true))
 
 -- as many answers as accesses
-module _ {V H : Type 0} (m : Meaning V H) (base : ℕ) where
+module _ {V H : Type 0} (m : Abstraction V H) (base : ℕ) where
   each_long : (v : V) (xs : List Element) (js : Told) (e : Exactness) → EachJudged m (dropping m) v base xs js e → length js ≡ length xs
   each_long v [] js e (none, exact) = ap length none
   each_long v (x ∷ xs) js e (b, cs, c, d, first, later, is, flags) = ap length is ∙ ap suc (each_long v xs cs d later)
@@ -99,7 +99,7 @@ module _ {V H : Type 0} (m : Meaning V H) (base : ℕ) where
   cond_long (either_of c d) v js e (xs, ys, w, f, g, h, one, leaves, two, is, flags) =
       ap length is ∙ both_long xs ys (cond_accesses c) (cond_accesses d) (cond_long c v xs f one) (cond_long d w ys h two)
 
-module _ {V H : Type 0} (m : Meaning V H) (laws : Laws m) (s : Scene) where
+module _ {V H : Type 0} (m : Abstraction V H) (laws : Laws m) (s : Scene) where
   module _ (v : V) (held : Has m v s.store) where
     no_parts : (w : V) → Has m w s.store → IsUnreachable m w → ⊥
     no_parts w has none = laws.partless w has.0 none s.store has.1
@@ -165,7 +165,7 @@ module _ {V H : Type 0} (m : Meaning V H) (laws : Laws m) (s : Scene) where
 
 -- operations -------------------------------------------------------------------------------------------------------------
 
-module _ {V H : Type 0} (m : Meaning V H) (laws : Laws m) where
+module _ {V H : Type 0} (m : Abstraction V H) (laws : Laws m) where
   op_inside : (op : Op) (v : V) (js : Told) (e : Exactness) (s : State) (n : ℕ) → Has m v s.store → OpInside m (dropping m) op v js e →
       SaysInside js n → OpStrays op s n → ⊥
   op_inside (append t) v js e s n held judged told strays = strays

@@ -8,8 +8,8 @@ use Rattle.lra_linear_spec.specs.declared.ConKind.{ConKind}
 use Rattle.lra_domain.specs.Actions.{Action}
 use Rattle.lra_domain.specs.declared.Mode.{Mode}
 use Rattle.lra_domain.specs.declared.Exactness.{Exactness}
-use Rattle.lra_others.specs.Others.{Others}
-use Rattle.lra_domain.specs.Meaning.{Meaning}
+use Rattle.lra_interference.specs.Interference.{Interference}
+use Rattle.lra_domain.specs.Abstraction.{Abstraction}
 use Rattle.lra_domain.specs.Laws.{Laws}
 use Rattle.lra_base.specs.declared.case_labels.CaseLabel.{CaseLabel}
 use Rattle.lra_base.specs.declared.case_labels.CaseLabel.TheVariants.{Case, Default}
@@ -213,10 +213,10 @@ module _ (V H : Type 0) (ops : Operations V H) (set : Plan) (Good : V → Type 0
   given_good [] q place v h there = absurd (contains_none (given q place v) there)
   given_good (x ∷ xs) q place v h there = elim (contains_cases x (given q place v) xs there) [ inl same ↦ subst IsGood same h.0 | inr later ↦ given_good xs q place v h.1 later ]
 
-module _ {V H : Type 0} (m : Meaning V H) (laws : Laws m) (set : Plan) (some : 1 ≤ set.parts) where
+module _ {V H : Type 0} (m : Abstraction V H) (laws : Laws m) (set : Plan) (some : 1 ≤ set.parts) where
   caps_kept : Preserves (dropping m) set.parts (λ v. m.capped v set.parts) (λ h. m.head_capped h set.parts)
   caps_kept = record {
-    void = λ n v is. laws.void_capped n set.parts v some is.0;
+    void = λ n v is. laws.bottom_capped n set.parts v some is.0;
     changed = λ step v e w h g. h.2 set.parts g;
     joined = λ u v e w h g k. h.3 set.parts (g, k);
     started = λ v rows h is g. is.2 set.parts g;
@@ -230,7 +230,7 @@ module _ {V H : Type 0} (m : Meaning V H) (laws : Laws m) (set : Plan) (some : 1
       → AllByRecursion (IsGood V H (dropping m) set (λ x. m.capped x set.parts) (λ h. m.head_capped h set.parts) caps_kept) r.entries
   capped_entries admission admits P tree r (whole, first, e, universal, begun, pass) =
       let begins = made_good V H (dropping m) set (λ x. m.capped x set.parts) (λ h. m.head_capped h set.parts) caps_kept (first_values 0 P.globals) whole e first begun
-      (laws.universal_capped 0 set.parts whole some universal.0) in
+      (laws.top_capped 0 set.parts whole some universal.0) in
       (pass_good_among V H (dropping m) set (λ x. m.capped x set.parts) (λ h. m.head_capped h set.parts) caps_kept admission admits tree (noted 0 e None) first r pass begins).entries
 
   capped_values : (r : Result V) (values : List V) (verdicts : List (ℕ × Bool)) (flagged : Option ℕ) → Solves m r values verdicts flagged
@@ -246,20 +246,20 @@ module _ {V H : Type 0} (m : Meaning V H) (laws : Laws m) (set : Plan) (some : 1
       capped_values r values verdicts flagged solves (capped_entries nothing_admitted (λ v e w is g. subst (λ (x : V). m.capped x set.parts) (sym is.0) g) P tree r derived)
 
   -- among others, too, and so have those that are noted
-  pub solved_capped_among : (o : Others V) (P : Program) (tree : Node) (r : Result V) (values : List V) (verdicts : List (ℕ × Bool)) (flagged : Option ℕ)
+  pub solved_capped_among : (o : Interference V) (P : Program) (tree : Node) (r : Result V) (values : List V) (verdicts : List (ℕ × Bool)) (flagged : Option ℕ)
       → DerivationAmong o m set P tree r → Solves m r values verdicts flagged → (v : V) → Contains values v → m.capped v set.parts
   solved_capped_among o P tree r values verdicts flagged derived solves =
       capped_values r values verdicts flagged solves (capped_entries (admitted o m) (λ v e w is g. is.2 set.parts g) P tree r derived)
 
-  pub noted_capped : (o : Others V) (P : Program) (tree : Node) (r : Result V) → DerivationAmong o m set P tree r
+  pub noted_capped : (o : Interference V) (P : Program) (tree : Node) (r : Result V) → DerivationAmong o m set P tree r
       → (q place : ℕ) (v : V) → Contains r.entries (given q place v) → m.capped v set.parts
   noted_capped o P tree r derived q place v there =
       given_good V H (dropping m) set (λ x. m.capped x set.parts) (λ h. m.head_capped h set.parts) caps_kept r.entries q place v
       (capped_entries (admitted o m) (λ v e w is g. is.2 set.parts g) P tree r derived) there
 
 -- what a domain's operations give is held
-module _ {V H : Type 0} (m : Meaning V H) (set : Plan) where
-  held_kept : Preserves (dropping m) set.parts m.formed m.head_formed
+module _ {V H : Type 0} (m : Abstraction V H) (set : Plan) where
+  held_kept : Preserves (dropping m) set.parts m.well_formed m.head_well_formed
   held_kept = record {
     void = λ n v is. is.1;
     changed = λ step v e w is fine. is.0.formed;
@@ -269,30 +269,30 @@ module _ {V H : Type 0} (m : Meaning V H) (set : Plan) where
     valued = λ h e v is fine. is.0.formed;
   }
 
-  formed_entries : (admission : Admission V) → ((v : V) (e : Exactness) (w : V) → admission v e w → m.formed v → m.formed w)
+  formed_entries : (admission : Admission V) → ((v : V) (e : Exactness) (w : V) → admission v e w → m.well_formed v → m.well_formed w)
       → (P : Program) (tree : Node) (r : Result V) → IterationAmong (dropping m) admission set P tree r
-      → AllByRecursion (IsGood V H (dropping m) set m.formed m.head_formed held_kept) r.entries
+      → AllByRecursion (IsGood V H (dropping m) set m.well_formed m.head_well_formed held_kept) r.entries
   formed_entries admission admits P tree r (whole, first, e, universal, begun, pass) =
-      let begins = made_good V H (dropping m) set m.formed m.head_formed held_kept (first_values 0 P.globals) whole e first begun universal.1 in
-      (pass_good_among V H (dropping m) set m.formed m.head_formed held_kept admission admits tree (noted 0 e None) first r pass begins).entries
+      let begins = made_good V H (dropping m) set m.well_formed m.head_well_formed held_kept (first_values 0 P.globals) whole e first begun universal.1 in
+      (pass_good_among V H (dropping m) set m.well_formed m.head_well_formed held_kept admission admits tree (noted 0 e None) first r pass begins).entries
 
   formed_values : (r : Result V) (values : List V) (verdicts : List (ℕ × Bool)) (flagged : Option ℕ) → Solves m r values verdicts flagged
-      → AllByRecursion (IsGood V H (dropping m) set m.formed m.head_formed held_kept) r.entries → (v : V) → Contains values v → m.formed v
+      → AllByRecursion (IsGood V H (dropping m) set m.well_formed m.head_well_formed held_kept) r.entries → (v : V) → Contains values v → m.well_formed v
   formed_values r values verdicts flagged solves all v there =
-      value_good V H (dropping m) set m.formed m.head_formed held_kept r.entries there.0 v all
+      value_good V H (dropping m) set m.well_formed m.head_well_formed held_kept r.entries there.0 v all
       ((solves.is_value there.0 v).0 (slice_get_read values (length values) there.0 v refl there.1 (sym there.2)))
 
   pub solved_formed : (P : Program) (tree : Node) (r : Result V) (values : List V) (verdicts : List (ℕ × Bool)) (flagged : Option ℕ) → Derivation m set P tree r → Solves m r values verdicts flagged
-      → (v : V) → Contains values v → m.formed v
+      → (v : V) → Contains values v → m.well_formed v
   solved_formed P tree r values verdicts flagged derived solves =
-      formed_values r values verdicts flagged solves (formed_entries nothing_admitted (λ v e w is g. subst m.formed (sym is.0) g) P tree r derived)
+      formed_values r values verdicts flagged solves (formed_entries nothing_admitted (λ v e w is g. subst m.well_formed (sym is.0) g) P tree r derived)
 
-  pub solved_formed_among : (o : Others V) (P : Program) (tree : Node) (r : Result V) (values : List V) (verdicts : List (ℕ × Bool)) (flagged : Option ℕ)
-      → DerivationAmong o m set P tree r → Solves m r values verdicts flagged → (v : V) → Contains values v → m.formed v
+  pub solved_formed_among : (o : Interference V) (P : Program) (tree : Node) (r : Result V) (values : List V) (verdicts : List (ℕ × Bool)) (flagged : Option ℕ)
+      → DerivationAmong o m set P tree r → Solves m r values verdicts flagged → (v : V) → Contains values v → m.well_formed v
   solved_formed_among o P tree r values verdicts flagged derived solves =
       formed_values r values verdicts flagged solves (formed_entries (admitted o m) (λ v e w is g. is.0.formed) P tree r derived)
 
-  pub noted_formed : (o : Others V) (P : Program) (tree : Node) (r : Result V) → DerivationAmong o m set P tree r
-      → (q place : ℕ) (v : V) → Contains r.entries (given q place v) → m.formed v
+  pub noted_formed : (o : Interference V) (P : Program) (tree : Node) (r : Result V) → DerivationAmong o m set P tree r
+      → (q place : ℕ) (v : V) → Contains r.entries (given q place v) → m.well_formed v
   noted_formed o P tree r derived q place v there =
-      given_good V H (dropping m) set m.formed m.head_formed held_kept r.entries q place v (formed_entries (admitted o m) (λ v e w is g. is.0.formed) P tree r derived) there
+      given_good V H (dropping m) set m.well_formed m.head_well_formed held_kept r.entries q place v (formed_entries (admitted o m) (λ v e w is g. is.0.formed) P tree r derived) there

@@ -1,7 +1,7 @@
 -- What is asked of operations, on small ones, over any value.
 use Rattle.std.proofs.Common.{◌≡◌, ℕ, pos, negsuc, List, [], ◌∷◌, ◌++◌, Some, None, Bool, true, false, refl, inl, inr}
 use Rattle.lra_linear_forms.specs.Form.{Form}
-use Rattle.lra_domain.specs.Meaning.{Meaning}
+use Rattle.lra_domain.specs.Abstraction.{Abstraction}
 use Rattle.lra_domain.specs.Laws.{Laws}
 use Rattle.lra_domain.specs.declared.Exactness.TheVariants.{Exact, Flagged}
 use Rattle.lra_base.specs.Operators.{plus, times}
@@ -57,7 +57,7 @@ behind_long_converted = refl
 nobody_converts_not : converts_to Long nobody ≡ false
 nobody_converts_not = refl
 
-module _ {V H : Type 0} (m : Meaning V H) (v : V) where
+module _ {V H : Type 0} (m : Abstraction V H) (v : V) where
   -- answers ----------------------------------------------------------------------------------------------------------------
 
   -- one for each operator and sign, in the order in which they are computed: here the product's, the sign's, the sum's
@@ -88,7 +88,7 @@ module _ {V H : Type 0} (m : Meaning V H) (v : V) where
   greatest_lies : (f : Form) → m.bounded v f (Some (pos 0)) (Some (pos 2147483647)) → LiesIn m v Int (Some f)
   greatest_lies f bounded = (pos 0, pos 2147483647, bounded, refl, refl)
 
-  one_more_lies_not : Laws m → (f : Form) → m.formed v → m.bounded v f (Some (pos 0)) (Some (pos 2147483648)) → LiesIn m v Int (Some f) → ⊥
+  one_more_lies_not : Laws m → (f : Form) → m.well_formed v → m.bounded v f (Some (pos 0)) (Some (pos 2147483648)) → LiesIn m v Int (Some f) → ⊥
   one_more_lies_not laws f formed bounded (l, h, also, low, high) =
       let same = laws.one_bounded v f (Some l) (Some h) (Some (pos 0)) (Some (pos 2147483648)) formed also bounded in
       let is : h ≡ pos 2147483648 = let e = same.1 in cc in

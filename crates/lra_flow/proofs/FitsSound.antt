@@ -9,7 +9,7 @@ use Rattle.std.proofs.lemmas.Int.{ints}
 use Rattle.std.proofs.lemmas.Option.{same_Some}
 use Rattle.std.proofs.Math.Nat.{div-le_self, div-mul-le_self, mul-le-mul, mod-le}
 use Rattle.lra_linear_forms.specs.Form.{Form, form_value}
-use Rattle.lra_domain.specs.Meaning.{Meaning}
+use Rattle.lra_domain.specs.Abstraction.{Abstraction}
 use Rattle.lra_domain.specs.Laws.{Laws}
 use Rattle.lra_domain.specs.Moves.{MayLead}
 use Rattle.lra_domain.specs.declared.Exactness.{Exactness}
@@ -135,7 +135,7 @@ last_so b e = (and_parts b true e).0
 
 -- one value ------------------------------------------------------------------------------------------------------------
 
-module _ {V H : Type 0} (m : Meaning V H) (laws : Laws m) (s : Scene) where
+module _ {V H : Type 0} (m : Abstraction V H) (laws : Laws m) (s : Scene) where
   module _ (v : V) (held : Has m v s.store) where
     sized : m.dims v ≡ length s.store
     sized = sym (laws.sized v s.store held.0 held.1)
@@ -311,7 +311,7 @@ module _ {V H : Type 0} (m : Meaning V H) (laws : Laws m) (s : Scene) where
 
 -- operations -------------------------------------------------------------------------------------------------------------
 
-module _ {V H : Type 0} (m : Meaning V H) (laws : Laws m) where
+module _ {V H : Type 0} (m : Abstraction V H) (laws : Laws m) where
   -- behind an element's index
   still_held : (base : ℕ) (x : Element) (v : V) (s n : State) → Has m v s.store → aim base x s ≡ Some n → Has m v n.store
   still_held base x v s n held aimed = subst (λ (xs : List ℤ). Has m v xs) (sym (aim_keeps base x s n aimed)) held

@@ -1,7 +1,7 @@
 -- A pass with drops covers the runs of its tree: moves with drops keep each store to which they may lead.
 use Rattle.std.proofs.Common.{ℕ, ℤ, List, Option, sym, subst, inl, inr}
 use Rattle.lra_domain.specs.declared.Exactness.{Exactness}
-use Rattle.lra_domain.specs.Meaning.{Meaning}
+use Rattle.lra_domain.specs.Abstraction.{Abstraction}
 use Rattle.lra_domain.specs.Laws.{Laws}
 use Rattle.lra_program.specs.Step.{State, scene_at}
 use Rattle.lra_operations.specs.Graph.{Node}
@@ -16,7 +16,7 @@ use Rattle.lra_flow.proofs.Keeping.{op_leads}
 use Rattle.lra_flow.proofs.CondKeeping.{value_leads}
 use Rattle.lra_flow.proofs.Sound.{covers}
 
-module _ (V H : Type 0) (m : Meaning V H) (laws : Laws m) where
+module _ (V H : Type 0) (m : Abstraction V H) (laws : Laws m) where
   pub moves_keep : (p : Moves) (v : V) (e : Exactness) (w : V) → AreMade (dropping m) p v e w → (s t : List ℤ) → Has m v s → MayLead p s t → Has m w t
   moves_keep stay v e w (same, exact) s t h led = subst (λ (x : V). Has m x t) (sym same) (subst (λ (xs : List ℤ). Has m v xs) (sym led) h)
   moves_keep (make step) v e w made s t h led = (made.0.formed, laws.kept_stores step v w h.0 made.0.formed made.0.keeps s t h.1 led)
@@ -37,6 +37,7 @@ module _ (V H : Type 0) (m : Meaning V H) (laws : Laws m) where
       (value_leads (scene_at base s) e z wanted s.draws left y got is))
 
 -- from one of its value's stores, a pass with drops covers the tree's runs
-pub pass_covers : {V H : Type 0} (m : Meaning V H) → Laws m → (set : Plan) (g : Node) (f : Option ℕ) (v : V) (r : Result V) → Pass V H (dropping m) set g f v r
+pub pass_covers : {V H : Type 0} (m : Abstraction V H) → Laws m → (set : Plan) (g : Node) (f : Option ℕ) (v : V) (r : Result V) →
+    Pass V H (dropping m) set g f v r
     → (s : State) → Has m v s.store → Covers m g s r
 pass_covers {V} {H} m laws set g f v r pass s h = covers V H m laws (changes_keep V H m laws) (values_keep V H m laws) set g f v r pass s h

@@ -6,7 +6,7 @@ use Rattle.std.specs.Prelude.{◌↔◌, not}
 use Rattle.lra_base.specs.Operators.{Comparison, below, at_most, above, at_least, equal, differs}
 use Rattle.lra_domain.specs.Actions as action
 use Rattle.lra_domain.specs.Actions.{Action, assign, forget, embed, remove_last}
-use Rattle.lra_domain.specs.Meaning.{worse}
+use Rattle.lra_domain.specs.Abstraction.{worse}
 use Rattle.lra_domain.specs.declared.Exactness.{Exactness}
 use Rattle.lra_domain.specs.declared.Exactness.TheVariants.{Exact}
 use Rattle.lra_linear_forms.specs.declared.test.Test.{Test}

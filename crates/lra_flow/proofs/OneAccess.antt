@@ -3,7 +3,7 @@
 use Rattle.std.proofs.Common.{◌≡◌, ◌∙◌, ℕ, List, [], ◌∷◌, ◌++◌, Option, Some, None, Bool, refl, sym, subst}
 use Rattle.lra_linear_forms.specs.declared.test.Test.{Test}
 use Rattle.lra_domain.specs.Laws.{Laws}
-use Rattle.lra_domain.specs.Meaning.{Meaning}
+use Rattle.lra_domain.specs.Abstraction.{Abstraction}
 use Rattle.lra_domain.specs.declared.Exactness.{Exactness}
 use Rattle.lra_domain.specs.declared.Exactness.TheVariants.{Exact}
 use Rattle.lra_base.specs.declared.refusals.Place.{Place}
@@ -27,7 +27,7 @@ use Rattle.lra_flow.proofs.Unflagged.{none_flagged, any_matters, exact_ones, str
 abbrev Told : Type 0
 Told = List (Place × Bool)
 
-module _ {V H : Type 0} (m : Meaning V H) (ops : Operations V H) (single : Single ops) where
+module _ {V H : Type 0} (m : Abstraction V H) (ops : Operations V H) (single : Single ops) where
   one_index : (v : V) (o : Option (Test × Test)) (b c : Bool) (e f : Exactness) → IndexJudged m ops v o b e → IndexJudged m ops v o c f → b ≡ c
   one_index v None b c e f (x, exact) (y, also) = one_answer m v ⊥ b c x y
   one_index v (Some tests) b c e f (u, w, g, h, one, two, answer, flags) (x, y, i, j, first, second, other, same) =
@@ -67,7 +67,7 @@ module _ {V H : Type 0} (m : Meaning V H) (ops : Operations V H) (single : Singl
 
 -- from drops to what is defined --------------------------------------------------------------------------------------------
 
-module _ {V H : Type 0} (m : Meaning V H) (b : Operations V H) (Keeps : Exactness → Type 0) (Fine : Option ℕ → Type 0) (matters : Matters Keeps Fine)
+module _ {V H : Type 0} (m : Abstraction V H) (b : Operations V H) (Keeps : Exactness → Type 0) (Fine : Option ℕ → Type 0) (matters : Matters Keeps Fine)
     (moves : Transfers Keeps (dropping m) b)
     (same_dims : (p : Operations V H → Type 0) → p (record b { dims = m.dims }) → p b) where
   index_moved : (v : V) (o : Option (Test × Test)) (so : Bool) (e : Exactness) → Keeps e → IndexJudged m (dropping m) v o so e →
@@ -117,13 +117,13 @@ module _ {V H : Type 0} (m : Meaning V H) (b : Operations V H) (Keeps : Exactnes
       fine j
 
 -- without a flag what is judged is so by the written iteration's operations; a first flag is where one of them strains
-pub accesses_written : {V H : Type 0} (m : Meaning V H) → Laws m → (g : Node) (values : List V) (flagged : Option ℕ) (inside : List (ℕ × Told))
+pub accesses_written : {V H : Type 0} (m : Abstraction V H) → Laws m → (g : Node) (values : List V) (flagged : Option ℕ) (inside : List (ℕ × Told))
     (behind : Option ℕ) → behind ≡ None → JudgesAccesses m (dropping m) g values flagged inside behind →
     JudgesAccesses m (defined m) g values flagged inside behind
 accesses_written m laws g values flagged inside behind none j =
     accesses_moved m (defined m) (λ e. e ≡ Exact) (λ f. f ≡ None) none_flagged (exact_ones m laws) (λ p h. h) g values flagged inside behind none j
 
-pub accesses_strained : {V H : Type 0} (m : Meaning V H) → Laws m → (g : Node) (values : List V) (flagged : Option ℕ) (inside : List (ℕ × Told))
+pub accesses_strained : {V H : Type 0} (m : Abstraction V H) → Laws m → (g : Node) (values : List V) (flagged : Option ℕ) (inside : List (ℕ × Told))
     (behind : Option ℕ) → JudgesAccesses m (dropping m) g values flagged inside behind → JudgesAccesses m (straining m) g values flagged inside behind
 accesses_strained m laws g values flagged inside behind j =
     accesses_moved m (straining m) (λ e. Unit {0}) (λ f. Unit {0}) any_matters (strained_ones m laws) (λ p h. h) g values flagged inside behind tt j

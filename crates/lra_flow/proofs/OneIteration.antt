@@ -4,7 +4,7 @@ use Rattle.lra_systems.specs.LinearSystems.{LinearSystem}
 use Rattle.lra_linear_spec.specs.declared.ConKind.{ConKind}
 use Rattle.lra_domain.specs.Actions.{Action}
 use Rattle.lra_domain.specs.Laws.{SingleLaws}
-use Rattle.lra_domain.specs.Meaning.{Meaning}
+use Rattle.lra_domain.specs.Abstraction.{Abstraction}
 use Rattle.lra_domain.specs.declared.Mode.{Mode}
 use Rattle.lra_domain.specs.declared.Exactness.{Exactness}
 use Rattle.lra_base.specs.declared.case_labels.CaseLabel.{CaseLabel}
@@ -33,11 +33,11 @@ pub record Single {V H : Type 0} (ops : Operations V H) : Type 0 where
   pub grown : (h : H) (v : V) (mode : Mode) (e d : Exactness) (i j : H) → ops.grown h v mode e i → ops.grown h v mode d j → (e ≡ d) × (i ≡ j)
   pub valued : (h : H) (e d : Exactness) (v w : V) → ops.valued h e v → ops.valued h d w → (e ≡ d) × (v ≡ w)
 
-pub defined_single : {V H : Type 0} (m : Meaning V H) → SingleLaws m → Single (defined m)
+pub defined_single : {V H : Type 0} (m : Abstraction V H) → SingleLaws m → Single (defined m)
 defined_single m laws = record {
-  universal = laws.one_universal;
-  void = laws.one_void;
-  changed = λ step v e d w x a b. (a.0 ∙ sym b.0, laws.one_done step v w x a.1 b.1);
+  universal = laws.one_top;
+  void = laws.one_bottom;
+  changed = λ step v e d w x a b. (a.0 ∙ sym b.0, laws.one_transferred step v w x a.1 b.1);
   joined = λ u v e d w x a b. (a.0 ∙ sym b.0, laws.one_joined u v w x a.1 b.1);
   started = laws.one_started;
   apart = λ h v mode e next s g. g.1 s;
@@ -204,5 +204,5 @@ module _ (V H : Type 0) (ops : Operations V H) (single : Single ops) where
       let (l, m) = one_made (first_values 0 P.globals) none e e' first first' values (rw k values') in
       one_pass set g (noted 0 e None) first r s pass (rw (l, m) pass')
 
-pub one_written : {V H : Type 0} (m : Meaning V H) → SingleLaws m → (set : Plan) (P : Program) (g : Node) (r s : Result V) → Written m set P g r → Written m set P g s → r ≡ s
+pub one_written : {V H : Type 0} (m : Abstraction V H) → SingleLaws m → (set : Plan) (P : Program) (g : Node) (r s : Result V) → Written m set P g r → Written m set P g s → r ≡ s
 one_written {V} {H} m laws set P g r s a b = one_iteration V H (defined m) (defined_single m laws) set P g r s a b

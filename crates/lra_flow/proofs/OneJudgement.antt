@@ -4,7 +4,7 @@ use Rattle.std.proofs.Common.{◌≡◌, ◌∙◌, ℕ, List, [], ◌∷◌, Op
 use Rattle.std.specs.Prelude.{◌↔◌, IsTrue}
 use Rattle.std.specs.List.{list_all}
 use Rattle.lra_domain.specs.Laws.{Laws}
-use Rattle.lra_domain.specs.Meaning.{Meaning}
+use Rattle.lra_domain.specs.Abstraction.{Abstraction}
 use Rattle.lra_domain.specs.declared.Exactness.{Exactness}
 use Rattle.lra_domain.specs.declared.Exactness.TheVariants.{Exact}
 use Rattle.lra_program.specs.declared.receivers.Receiver.{Receiver}
@@ -31,7 +31,7 @@ one_truth true false e = sym (e.0 refl)
 one_truth false true e = e.1 refl
 one_truth false false e = refl
 
-module _ {V H : Type 0} (m : Meaning V H) where
+module _ {V H : Type 0} (m : Abstraction V H) where
   pub one_answer : (v : V) (so : Type 0) (a b : Bool) → Answers m v a so → Answers m v b so → a ≡ b
   one_answer v so a b x y = one_truth a b (λ h. y.1 (x.0 h), λ h. x.1 (y.0 h))
 
@@ -88,7 +88,7 @@ module _ {V H : Type 0} (m : Meaning V H) where
 
 -- from drops to what is defined --------------------------------------------------------------------------------------------
 
-module _ {V H : Type 0} (m : Meaning V H) (b : Operations V H) (Keeps : Exactness → Type 0) (Fine : Option ℕ → Type 0) (matters : Matters Keeps Fine)
+module _ {V H : Type 0} (m : Abstraction V H) (b : Operations V H) (Keeps : Exactness → Type 0) (Fine : Option ℕ → Type 0) (matters : Matters Keeps Fine)
     (moves : Transfers Keeps (dropping m) b)
     (same_dims : (p : Operations V H → Type 0) → p (record b { dims = m.dims }) → p b) where
   op_moved : (op : Op) (v : V) (bs : List Bool) (e : Exactness) → Keeps e → OpJudged m (dropping m) op v bs e → OpJudged m b op v bs e
@@ -112,14 +112,14 @@ module _ {V H : Type 0} (m : Meaning V H) (b : Operations V H) (Keeps : Exactnes
       finds_moved m b Keeps Fine matters moves same_dims (OpFits m (dropping m)) (OpFits m b) fits_moved (asked_in None g) values flagged fitting behind fine j
 
 -- without a flag what is judged is so by the written iteration's operations; a first flag is where one of them strains
-pub judged_written : {V H : Type 0} (m : Meaning V H) → Laws m → (b : Bool) (g : Node) (values : List V) (flagged : Option ℕ) (fitting : List (ℕ × Bool))
+pub judged_written : {V H : Type 0} (m : Abstraction V H) → Laws m → (b : Bool) (g : Node) (values : List V) (flagged : Option ℕ) (fitting : List (ℕ × Bool))
     (behind : Option ℕ) → behind ≡ None
     → JudgesIf m (dropping m) b g values flagged fitting behind → JudgesIf m (defined m) b g values flagged fitting behind
 judged_written m laws true g values flagged fitting behind none j =
     judges_moved m (defined m) (λ e. e ≡ Exact) (λ f. f ≡ None) none_flagged (exact_ones m laws) (λ p h. h) g values flagged fitting behind none j
 judged_written m laws false g values flagged fitting behind none j = j
 
-pub judged_strained : {V H : Type 0} (m : Meaning V H) → Laws m → (b : Bool) (g : Node) (values : List V) (flagged : Option ℕ) (fitting : List (ℕ × Bool))
+pub judged_strained : {V H : Type 0} (m : Abstraction V H) → Laws m → (b : Bool) (g : Node) (values : List V) (flagged : Option ℕ) (fitting : List (ℕ × Bool))
     (behind : Option ℕ)
     → JudgesIf m (dropping m) b g values flagged fitting behind → JudgesIf m (straining m) b g values flagged fitting behind
 judged_strained m laws true g values flagged fitting behind j =

@@ -4,7 +4,7 @@ use Rattle.std.proofs.Common.{◌≡◌, ◌∙◌, ℕ, List, [], ◌∷◌, Op
 use Rattle.std.specs.Prelude.{Contains}
 use Rattle.std.proofs.lemmas.Option.{same_Some}
 use Rattle.lra_linear_spec.proofs.Membership.{contains_cases, contains_none}
-use Rattle.lra_domain.specs.Meaning.{Meaning, worse}
+use Rattle.lra_domain.specs.Abstraction.{Abstraction, worse}
 use Rattle.lra_domain.specs.declared.Exactness.{Exactness}
 use Rattle.lra_base.specs.declared.number_types.NumberType.{NumberType}
 use Rattle.lra_program.specs.Program.{Expr, Cond, compare, nonzero, opposite, both_of, either_of}
@@ -62,7 +62,7 @@ module _ {V H : Type 0} (ops : Operations V H) (single : Single ops) where
 
 -- from drops to other operations -----------------------------------------------------------------------------------------
 
-module _ {V H : Type 0} (m : Meaning V H) (b : Operations V H) (Keeps : Exactness → Type 0) (Fine : Option ℕ → Type 0) (matters : Matters Keeps Fine)
+module _ {V H : Type 0} (m : Abstraction V H) (b : Operations V H) (Keeps : Exactness → Type 0) (Fine : Option ℕ → Type 0) (matters : Matters Keeps Fine)
     (moves : Transfers Keeps (dropping m) b)
     (same_dims : (p : Operations V H → Type 0) → p (record b { dims = m.dims }) → p b) where
   moved_left : (base : ℕ) (c : Cond) (wanted : Bool) (v : V) (e : Exactness) (w : V) → Keeps e → Leaves (dropping m) base c wanted v e w → Leaves b base c

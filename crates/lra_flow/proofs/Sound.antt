@@ -5,7 +5,7 @@ use Rattle.std.specs.List.{Contains}
 use Rattle.std.proofs.lemmas.List.Elements.{Contains-append_left, Contains-append_right}
 use Rattle.lra_linear_spec.proofs.Membership.{contains_cases, contains_head, contains_tail}
 use Rattle.lra_domain.specs.Actions.{Within}
-use Rattle.lra_domain.specs.Meaning.{Meaning}
+use Rattle.lra_domain.specs.Abstraction.{Abstraction}
 use Rattle.lra_domain.specs.Laws.{Laws}
 use Rattle.lra_domain.specs.declared.Exactness.{Exactness}
 use Rattle.lra_program.specs.Program.{Expr, Cond}
@@ -72,7 +72,7 @@ behind_jump returned broken r v f n u h = h
 behind_jump returned continued r v f n u h = h
 behind_jump returned returned r v f n u h = absurd (n refl)
 
-module _ (V H : Type 0) (m : Meaning V H) (laws : Laws m) (keeps : ChangesKeep m) where
+module _ (V H : Type 0) (m : Abstraction V H) (laws : Laws m) (keeps : ChangesKeep m) where
   -- joins
   joined_all : (v : V) (us : List V) (e : Exactness) (w : V) → AreJoined (dropping m) v us e w
       → ((st : List ℤ) → Has m v st → Has m w st) × ((u : V) → Contains us u → (st : List ℤ) → Has m u st → Has m w st)
@@ -105,7 +105,7 @@ module _ (V H : Type 0) (m : Meaning V H) (laws : Laws m) (keeps : ChangesKeep m
 abbrev Round : ℕ → Cond → Node → State → State → Type 0
 Round base c a u v = (w : State) × (run_op (test base c true) u ≡ Some w) × Ends a w normal v
 
-module _ (V H : Type 0) (m : Meaning V H) (laws : Laws m) (keeps : ChangesKeep m) (set : Plan) (q base : ℕ) (c : Cond) (a : Node)
+module _ (V H : Type 0) (m : Abstraction V H) (laws : Laws m) (keeps : ChangesKeep m) (set : Plan) (q base : ℕ) (c : Cond) (a : Node)
     (inside : (f : Option ℕ) (v : V) (r : Result V) → Pass V H (dropping m) set a f v r → (s : State) → Has m v s.store → Covers m a s r) where
   round_keeps : (f : Option ℕ) (v : V) (r : Result V) → GoesRound V H (dropping m) q base c (Pass V H (dropping m) set a) f v r
       → (s t : State) → Has m v s.store → Round base c a s t → Has m r.normal t.store
@@ -174,7 +174,7 @@ either : (a b : Bool) → a ≡ false → b ≡ false → (a || b) ≡ false
 either true b e f = absurd cc
 either false b e f = f
 
-module _ (V H : Type 0) (m : Meaning V H) (laws : Laws m) (keeps : ChangesKeep m) (holds : ValuesKeep m) where
+module _ (V H : Type 0) (m : Abstraction V H) (laws : Laws m) (keeps : ChangesKeep m) (holds : ValuesKeep m) where
   -- what comes in at a label that is the value's, and what has no match
   module _ (base : ℕ) (e : Expr) (s : State) (z : ℤ) (left : List ℤ) (got : value_of e (scene_at base s) s.draws ≡ Some (z, left)) where
     no_match : (labels : List CaseLabel) (v : V) (x : Exactness) (w : V) → MatchesNone (dropping m) base e labels v x w

@@ -12,7 +12,7 @@ use Rattle.lra_operations.specs.declared.asides.Aside.TheVariants.{Entering, Not
 use Rattle.lra_operations.specs.Graph.{Exit, broken, continued, returned, Node, empty, point, aside, act, check, seq, choose, iterate, catch, leave, select, Arms}
 use Rattle.lra_operations.specs.Graph.{no_arms, entry, arm, entries_of}
 use Rattle.lra_flow.specs.Plan.{Plan, Widening, mode_at}
-use Rattle.lra_domain.specs.Meaning.{worse}
+use Rattle.lra_domain.specs.Abstraction.{worse}
 use Rattle.lra_flow.specs.Operations.{Operations}
 use Rattle.lra_domain.specs.Moves.{Moves, stay, make, first_then, join_of}
 use Rattle.lra_flow.specs.Moves.{AreMade}

@@ -1,14 +1,14 @@
 -- What a derivation with drops says of the written iteration.
 use Rattle.std.proofs.Common.{◌≡◌, ℕ, Option, None, Some, refl, inl, inr}
-use Rattle.lra_others.specs.Others.{Others, nobody}
-use Rattle.lra_domain.specs.Meaning.{Meaning}
+use Rattle.lra_interference.specs.Interference.{Interference, no_interference}
+use Rattle.lra_domain.specs.Abstraction.{Abstraction}
 use Rattle.lra_domain.specs.Laws.{Laws}
 use Rattle.lra_domain.specs.declared.Exactness.{Exactness}
 use Rattle.lra_domain.specs.declared.Exactness.TheVariants.{Exact, Flagged}
 use Rattle.lra_program.specs.Program.{Program}
 use Rattle.lra_operations.specs.Graph.{Node}
 use Rattle.lra_flow.specs.Plan.{Plan}
-use Rattle.lra_domain.specs.Meaning.{worse}
+use Rattle.lra_domain.specs.Abstraction.{worse}
 use Rattle.lra_flow.specs.Operations.{Operations, defined, dropping, straining}
 use Rattle.lra_flow.specs.MovesOf.{first_values}
 use Rattle.lra_flow.specs.Pass.{Result, noted, nothing_admitted, PassAmong, Pass}
@@ -32,7 +32,7 @@ none_flagged = record { parts = exact_parts; before = exact_before }
 pub any_matters : Matters (λ e. Unit {0}) (λ f. Unit {0})
 any_matters = record { parts = λ c d k. (tt, tt); before = λ q e f k. (tt, tt) }
 
-pub exact_ones : {V H : Type 0} (m : Meaning V H) → Laws m → Transfers (λ e. e ≡ Exact) (dropping m) (defined m)
+pub exact_ones : {V H : Type 0} (m : Abstraction V H) → Laws m → Transfers (λ e. e ≡ Exact) (dropping m) (defined m)
 exact_ones m laws = record {
   changed = λ step v e w k h. (k, h.0.exact k);
   joined = λ u v e w k h. (k, h.0.exact k);
@@ -43,7 +43,7 @@ exact_ones m laws = record {
   void = λ n cap v is. is.0;
 }
 
-pub strained_ones : {V H : Type 0} (m : Meaning V H) → Laws m → Transfers (λ e. Unit {0}) (dropping m) (straining m)
+pub strained_ones : {V H : Type 0} (m : Abstraction V H) → Laws m → Transfers (λ e. Unit {0}) (dropping m) (straining m)
 strained_ones m laws = record {
   changed = λ step v e w k h. (h.0.exact, h.0.flagged);
   joined = λ u v e w k h. (h.0.exact, h.0.flagged);
@@ -55,21 +55,21 @@ strained_ones m laws = record {
 }
 
 -- a derivation without a flag is the written iteration
-pub unflagged_is_written : {V H : Type 0} (m : Meaning V H) → Laws m → (set : Plan) (P : Program) (g : Node) (r : Result V) → Derivation m set P g r → r.flag ≡ None → Written m set P g r
+pub unflagged_is_written : {V H : Type 0} (m : Abstraction V H) → Laws m → (set : Plan) (P : Program) (g : Node) (r : Result V) → Derivation m set P g r → r.flag ≡ None → Written m set P g r
 unflagged_is_written {V} {H} m laws set P g r (none, first, e, universal, values, pass) is =
     let p = passes V H (dropping m) (defined m) (λ e. e ≡ Exact) (λ f. f ≡ None) none_flagged (exact_ones m laws) set g (noted 0 e None) first r is pass in
     let k = exact_before 0 e None p.0 in
     (none, first, e, universal.0, made V H (dropping m) (defined m) (λ e. e ≡ Exact) (λ f. f ≡ None) none_flagged (exact_ones m laws) (first_values 0 P.globals) none e first k.0 values, p.1)
 
 -- the first flagged operation strains on the operands of the written iteration
-pub flagged_strains : {V H : Type 0} (m : Meaning V H) → Laws m → (set : Plan) (P : Program) (g : Node) (r : Result V) (q : ℕ) → Derivation m set P g r → r.flag ≡ Some q → Strains m set P g q
+pub flagged_strains : {V H : Type 0} (m : Abstraction V H) → Laws m → (set : Plan) (P : Program) (g : Node) (r : Result V) (q : ℕ) → Derivation m set P g r → r.flag ≡ Some q → Strains m set P g q
 flagged_strains {V} {H} m laws set P g r q (none, first, e, universal, values, pass) is =
     let p = passes V H (dropping m) (straining m) (λ e. Unit {0}) (λ f. Unit {0}) any_matters (strained_ones m laws) set g (noted 0 e None) first r tt pass in
     let began = made V H (dropping m) (straining m) (λ e. Unit {0}) (λ f. Unit {0}) any_matters (strained_ones m laws) (first_values 0 P.globals) none e first tt values in
     (r, (none, first, e, universal.0, began, p.1), is)
 
 -- among others, too
-pub unflagged_is_written_among : {V H : Type 0} (o : Others V) (m : Meaning V H) → Laws m → (set : Plan) (P : Program) (g : Node) (r : Result V)
+pub unflagged_is_written_among : {V H : Type 0} (o : Interference V) (m : Abstraction V H) → Laws m → (set : Plan) (P : Program) (g : Node) (r : Result V)
     → DerivationAmong o m set P g r → r.flag ≡ None → WrittenAmong o m set P g r
 unflagged_is_written_among {V} {H} o m laws set P g r (none, first, e, universal, values, pass) is =
     let p = passes_among V H (dropping m) (defined m) (λ e. e ≡ Exact) (λ f. f ≡ None) none_flagged (exact_ones m laws) (admitted o m) (admitted_exactly o)
@@ -77,7 +77,7 @@ unflagged_is_written_among {V} {H} o m laws set P g r (none, first, e, universal
     let k = exact_before 0 e None p.0 in
     (none, first, e, universal.0, made V H (dropping m) (defined m) (λ e. e ≡ Exact) (λ f. f ≡ None) none_flagged (exact_ones m laws) (first_values 0 P.globals) none e first k.0 values, p.1)
 
-pub flagged_strains_among : {V H : Type 0} (o : Others V) (m : Meaning V H) → Laws m → (set : Plan) (P : Program) (g : Node) (r : Result V) (q : ℕ)
+pub flagged_strains_among : {V H : Type 0} (o : Interference V) (m : Abstraction V H) → Laws m → (set : Plan) (P : Program) (g : Node) (r : Result V) (q : ℕ)
     → DerivationAmong o m set P g r → r.flag ≡ Some q → StrainsAmong o m set P g q
 flagged_strains_among {V} {H} o m laws set P g r q (none, first, e, universal, values, pass) is =
     let p = passes_among V H (dropping m) (straining m) (λ e. Unit {0}) (λ f. Unit {0}) any_matters (strained_ones m laws) (admitted o m) (admitted_straining o)
@@ -97,15 +97,16 @@ same_ones ops = record {
   void = λ n cap v is. is;
 }
 
-nothing_done : {V H : Type 0} (m : Meaning V H) (v : V) (e : Exactness) (w : V) → admitted nobody m v e w → nothing_admitted v e w
+nothing_done : {V H : Type 0} (m : Abstraction V H) (v : V) (e : Exactness) (w : V) → admitted no_interference m v e w → nothing_admitted v e w
 nothing_done m v Exact w h = (h.0.exact refl, refl)
 nothing_done m v Flagged w h = absurd (h.0.flagged refl)
 
-pub alone_among_nobody : {V H : Type 0} (m : Meaning V H) (set : Plan) (g : Node) (f : Option ℕ) (v : V) (r : Result V)
-    → PassAmong V H (dropping m) (admitted nobody m) set g f v r → Pass V H (dropping m) set g f v r
+pub alone_among_nobody : {V H : Type 0} (m : Abstraction V H) (set : Plan) (g : Node) (f : Option ℕ) (v : V) (r : Result V)
+    → PassAmong V H (dropping m) (admitted no_interference m) set g f v r → Pass V H (dropping m) set g f v r
 alone_among_nobody {V} {H} m set g f v r pass =
-    (passes_among V H (dropping m) (dropping m) (λ e. Unit {0}) (λ f. Unit {0}) any_matters (same_ones (dropping m)) (admitted nobody m) nothing_admitted
+    (passes_among V H (dropping m) (dropping m) (λ e. Unit {0}) (λ f. Unit {0}) any_matters (same_ones (dropping m)) (admitted no_interference m)
+    nothing_admitted
     (λ v e w k h. nothing_done m v e w h) set g f v r tt pass).1
 
-pub derived_among_nobody : {V H : Type 0} (m : Meaning V H) (set : Plan) (P : Program) (g : Node) (r : Result V) → DerivationAmong nobody m set P g r → Derivation m set P g r
+pub derived_among_nobody : {V H : Type 0} (m : Abstraction V H) (set : Plan) (P : Program) (g : Node) (r : Result V) → DerivationAmong no_interference m set P g r → Derivation m set P g r
 derived_among_nobody m set P g r (none, first, e, universal, values, pass) = (none, first, e, universal, values, alone_among_nobody m set g (noted 0 e None) first r pass)

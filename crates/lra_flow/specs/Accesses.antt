@@ -6,7 +6,7 @@
 use Rattle.std.specs.Prelude.{◌≡◌, ◌++◌, ℕ, List, [], ◌∷◌, Option, None, Some, Bool, true, slice_get}
 use Rattle.lra_linear_forms.specs.Form.{Form}
 use Rattle.lra_linear_forms.specs.declared.test.Test.{Test}
-use Rattle.lra_domain.specs.Meaning.{Meaning, worse}
+use Rattle.lra_domain.specs.Abstraction.{Abstraction, worse}
 use Rattle.lra_domain.specs.declared.Exactness.{Exactness}
 use Rattle.lra_domain.specs.declared.Exactness.TheVariants.{Exact}
 use Rattle.lra_base.specs.declared.refusals.Place.{Place}
@@ -32,7 +32,7 @@ outside e n = comparison_test below e >>= λ under. at_least_zero (less_by n e) 
 abbrev pub outside_of : Option Form → ℕ → Option (Test × Test)
 outside_of e n = e >>= λ f. outside f n
 
-module _ {V H : Type 0} (m : Meaning V H) (ops : Operations V H) where
+module _ {V H : Type 0} (m : Abstraction V H) (ops : Operations V H) where
   -- whether neither test leaves a part: each is made of the value itself
   abbrev pub IndexJudged : V → Option (Test × Test) → Bool → Exactness → Type 0
   IndexJudged v None b e = Answers m v b ⊥ × (e ≡ Exact)
@@ -82,8 +82,8 @@ module _ {V H : Type 0} (m : Meaning V H) (ops : Operations V H) where
       Finds ops OpInside (accessed_in None g) values flagged inside behind
 
 -- An access that is judged to be inside by a value with a run's store isn't one by which that run strays.
-abbrev pub InsideNeverStray : {V H : Type 0} → Meaning V H → Type 0
+abbrev pub InsideNeverStray : {V H : Type 0} → Abstraction V H → Type 0
 InsideNeverStray {V} m = (values : List V) (a : Asked) (js : List (Place × Bool)) (e : Exactness) (v : V) (s : State)
-    (n : ℕ) (place : Place) → slice_get values a.point ≡ Some v → m.formed v → m.has v s.store
+    (n : ℕ) (place : Place) → slice_get values a.point ≡ Some v → m.well_formed v → m.gamma v s.store
     → AskedInside m (dropping m) values a js e → slice_get js n ≡ Some (place, true)
     → AskedMeets (λ op t. OpStrays op t n) a s → ⊥

@@ -1,7 +1,7 @@
 -- The iteration over a whole program, and what is reported of it. Points are numbered from 0 here; a report's numbers
 -- are one more.
 use Rattle.std.specs.Prelude.{◌≡◌, ◌↔◌, ◌<◌, ℕ, List, [], Option, None, Some, Bool, IsTrue, Contains, slice_get}
-use Rattle.lra_domain.specs.Meaning.{Meaning}
+use Rattle.lra_domain.specs.Abstraction.{Abstraction}
 use Rattle.lra_domain.specs.declared.Exactness.{Exactness}
 use Rattle.lra_program.specs.Program.{Program}
 use Rattle.lra_operations.specs.Graph.{Node}
@@ -19,25 +19,25 @@ Iteration {V} {H} ops set P g r =
     × Pass V H ops set g (noted 0 e None) first r
 
 -- the written iteration
-abbrev pub Written : {V H : Type 0} → Meaning V H → Plan → Program → Node → Result V → Type 0
+abbrev pub Written : {V H : Type 0} → Abstraction V H → Plan → Program → Node → Result V → Type 0
 Written m set P g r = Iteration (defined m) set P g r
 
 -- one in which operations that strain may have dropped something
-abbrev pub Derivation : {V H : Type 0} → Meaning V H → Plan → Program → Node → Result V → Type 0
+abbrev pub Derivation : {V H : Type 0} → Abstraction V H → Plan → Program → Node → Result V → Type 0
 Derivation m set P g r = Iteration (dropping m) set P g r
 
 -- an operation of this point strains on the operands that the written iteration has there
-abbrev pub Strains : {V H : Type 0} → Meaning V H → Plan → Program → Node → ℕ → Type 0
+abbrev pub Strains : {V H : Type 0} → Abstraction V H → Plan → Program → Node → ℕ → Type 0
 Strains {V} m set P g q = (r : Result V) × Iteration (straining m) set P g r × (r.flag ≡ Some q)
 
 -- no part: no run comes there
-abbrev pub IsUnreachable : {V H : Type 0} → Meaning V H → V → Type 0
+abbrev pub IsUnreachable : {V H : Type 0} → Abstraction V H → V → Type 0
 IsUnreachable m v = m.parts v ≡ []
 
 -- values are in the order of their points' numbers, and so are verdicts, one for each assertion; a verdict is a point's
 -- number, and whether the assertion is proved: exactly where nothing is left of the value at which its condition is
 -- false
-pub record Solves {V H : Type 0} (m : Meaning V H) (r : Result V) (values : List V) (verdicts : List (ℕ × Bool))
+pub record Solves {V H : Type 0} (m : Abstraction V H) (r : Result V) (values : List V) (verdicts : List (ℕ × Bool))
     (flagged : Option ℕ) : Type 0 where
   pub is_value : (q : ℕ) (v : V) → (slice_get values q ≡ Some v) ↔ Contains r.entries (value q v)
   pub is_verdict : (q : ℕ) (proved : Bool) → Contains verdicts (q, proved) → (u : V) ×

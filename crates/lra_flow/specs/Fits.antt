@@ -5,7 +5,7 @@ use Rattle.std.specs.Prelude.{◌≡◌, ◌≢◌, ◌++◌, ℕ, ℤ, pos, neg
 use Rattle.std.specs.Prelude.{IsTrue, slice_get}
 use Rattle.std.specs.List.{list_all}
 use Rattle.lra_linear_forms.specs.Form.{Form}
-use Rattle.lra_domain.specs.Meaning.{Meaning}
+use Rattle.lra_domain.specs.Abstraction.{Abstraction}
 use Rattle.lra_domain.specs.declared.Exactness.{Exactness}
 use Rattle.lra_domain.specs.declared.Exactness.TheVariants.{Exact}
 use Rattle.lra_base.specs.declared.number_types.NumberType.{NumberType}
@@ -28,7 +28,7 @@ abbrev pub IsDivisor : Option Form → Type 0
 IsDivisor None = ⊥
 IsDivisor (Some f) = IsTrue (is_constant f) × (f.constant ≢ pos 0) × (f.constant ≢ negsuc 0)
 
-module _ {V H : Type 0} (m : Meaning V H) where
+module _ {V H : Type 0} (m : Abstraction V H) where
   -- what one value tells ---------------------------------------------------------------------------------------------
 
   module _ (v : V) where
@@ -122,7 +122,8 @@ module _ {V H : Type 0} (m : Meaning V H) where
     JudgesIf false g values flagged fitting behind = (fitting ≡ []) × (behind ≡ flagged)
 
 -- What is judged to fit by a value with a run's store doesn't stop that run by a number.
-abbrev pub FittingNeverOverflow : {V H : Type 0} → Meaning V H → Type 0
+abbrev pub FittingNeverOverflow : {V H : Type 0} → Abstraction V H → Type 0
 FittingNeverOverflow {V} m = (values : List V) (a : Asked) (e : Exactness) (v : V) (s : State)
-    → slice_get values a.point ≡ Some v → m.formed v → m.has v s.store → AskedJudged m (dropping m) values a true e
+    → slice_get values a.point ≡ Some v → m.well_formed v → m.gamma v s.store →
+    AskedJudged m (dropping m) values a true e
     → AskedOverflows a s → ⊥

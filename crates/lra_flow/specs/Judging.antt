@@ -3,7 +3,7 @@
 -- to it. What has to be made for that may be flagged.
 use Rattle.std.specs.Prelude.{◌≡◌, ◌↔◌, ◌⊎◌, ◌<◌, ◌++◌, ℕ, List, [], ◌∷◌, map, Option, None, Some, Bool, true, false}
 use Rattle.std.specs.Prelude.{IsTrue, Contains, slice_get}
-use Rattle.lra_domain.specs.Meaning.{Meaning, worse}
+use Rattle.lra_domain.specs.Abstraction.{Abstraction, worse}
 use Rattle.lra_domain.specs.declared.Exactness.{Exactness}
 use Rattle.lra_domain.specs.declared.Exactness.TheVariants.{Exact}
 use Rattle.lra_base.specs.declared.number_types.NumberType.{NumberType}
@@ -30,7 +30,7 @@ first_flagged f [] = f
 first_flagged f (j ∷ js) = first_flagged (noted j.point j.exactness f) js
 
 -- an answer: it is so, or no run comes here
-abbrev pub Answers : {V H : Type 0} → Meaning V H → V → Bool → Type 0 → Type 0
+abbrev pub Answers : {V H : Type 0} → Abstraction V H → V → Bool → Type 0 → Type 0
 Answers m v b so = IsTrue b ↔ (IsUnreachable m v ⊎ so)
 
 module _ {V H : Type 0} (ops : Operations V H) where

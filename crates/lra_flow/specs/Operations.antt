@@ -10,7 +10,7 @@ use Rattle.lra_domain.specs.declared.Exactness.{Exactness}
 use Rattle.lra_domain.specs.declared.Exactness.TheVariants.{Exact, Flagged}
 use Rattle.lra_domain.specs.declared.Included.TheVariants.{Yes}
 use Rattle.lra_domain.specs.Parts.{CapsWithin}
-use Rattle.lra_domain.specs.Meaning.{Meaning, Meets, Joins, Starts, GrowthStrains, Grew, Values}
+use Rattle.lra_domain.specs.Abstraction.{Abstraction, TransfersTo, Joins, Starts, GrowthStrains, Grew, Values}
 
 pub record Operations (V H : Type 0) : Type 1 where
   pub dims : V → ℕ
@@ -26,12 +26,12 @@ pub record Operations (V H : Type 0) : Type 1 where
   pub valued : H → Exactness → V → Type 0
 
 -- every operation is exact and gives its defined result
-abbrev pub defined : {V H : Type 0} → Meaning V H → Operations V H
+abbrev pub defined : {V H : Type 0} → Abstraction V H → Operations V H
 defined m = record {
   dims = m.dims;
-  universal = m.universal;
-  void = m.void;
-  changed = λ step v e w. (e ≡ Exact) × m.done step v w;
+  universal = m.top;
+  void = m.bottom;
+  changed = λ step v e w. (e ≡ Exact) × m.transferred step v w;
   joined = λ u v e w. (e ≡ Exact) × m.joined u v w;
   started = m.started;
   stays = m.stays;
@@ -42,12 +42,12 @@ defined m = record {
 -- an operation that strains on the operands that it has may be flagged; its result then covers the defined one.
 -- Operands and results have the dimensions that they must have, and results are held; a result has the caps that all
 -- its operands have
-abbrev pub dropping : {V H : Type 0} → Meaning V H → Operations V H
+abbrev pub dropping : {V H : Type 0} → Abstraction V H → Operations V H
 dropping m = record {
   dims = m.dims;
-  universal = λ n cap v. m.universal n cap v × m.formed v;
-  void = λ n cap v. m.void n cap v × m.formed v;
-  changed = λ step v e w. Meets m step v e w × (m.dims w ≡ dims_after step (m.dims v)) ×
+  universal = λ n cap v. m.top n cap v × m.well_formed v;
+  void = λ n cap v. m.bottom n cap v × m.well_formed v;
+  changed = λ step v e w. TransfersTo m step v e w × (m.dims w ≡ dims_after step (m.dims v)) ×
       CapsWithin (m.capped v) (m.capped w);
   joined = λ u v e w. Joins m u v e w × (m.dims v ≡ m.dims u) × (m.dims w ≡ m.dims u) ×
       CapsWithin (λ c. m.capped u c × m.capped v c) (m.capped w);
@@ -60,12 +60,12 @@ dropping m = record {
 
 -- an operation that strains may be flagged, and then gives anything: so what comes before the first flag is as it is
 -- defined, and the first flagged operation strains on the operands that the written iteration has there
-abbrev pub straining : {V H : Type 0} → Meaning V H → Operations V H
+abbrev pub straining : {V H : Type 0} → Abstraction V H → Operations V H
 straining m = record {
   dims = m.dims;
-  universal = m.universal;
-  void = m.void;
-  changed = λ step v e w. (e ≡ Exact → m.done step v w) × (e ≡ Flagged → m.strains step v);
+  universal = m.top;
+  void = m.bottom;
+  changed = λ step v e w. (e ≡ Exact → m.transferred step v w) × (e ≡ Flagged → m.strains step v);
   joined = λ u v e w. (e ≡ Exact → m.joined u v w) × (e ≡ Flagged → m.join_strains u v);
   started = m.started;
   stays = m.stays;

@@ -16,7 +16,7 @@ use Rattle.lra_operations.specs.Graph.{choose}
 use Rattle.lra_operations.specs.Graph.{iterate, catch, leave, select, Arms, no_arms, entry, arm, entries_of}
 use Rattle.lra_flow.specs.Plan.{Plan, Widening, mode_at}
 use Rattle.lra_flow.specs.Operations.{Operations}
-use Rattle.lra_domain.specs.Meaning.{worse}
+use Rattle.lra_domain.specs.Abstraction.{worse}
 use Rattle.lra_flow.specs.Moves.{AreMade}
 use Rattle.lra_flow.specs.MovesOf.{guard, value_moves, moves_of}
 use Rattle.lra_flow.specs.Thresholds.{loop_rows}

@@ -10,7 +10,7 @@ use Rattle.lra_base.specs.declared.operators.Comparison.TheVariants.{Below}
 use Rattle.lra_base.specs.Operators.{below}
 use Rattle.lra_domain.specs.declared.Exactness.{Exactness}
 use Rattle.lra_domain.specs.declared.Exactness.TheVariants.{Exact, Flagged}
-use Rattle.lra_domain.specs.Meaning.{Meaning, worse}
+use Rattle.lra_domain.specs.Abstraction.{Abstraction, worse}
 use Rattle.lra_program.specs.Program.{Element}
 use Rattle.lra_program.specs.Value.{◌>>=◌}
 use Rattle.lra_array.specs.declared.listing.Access.{Access}
@@ -44,7 +44,7 @@ worst_in_turn : (so_far one rest : Exactness) → worse so_far (worse one rest) 
 worst_in_turn Exact one rest = refl
 worst_in_turn Flagged one rest = refl
 
-module _ {V H : Type 0} (m : Meaning V H) (v : V) (base : ℕ) where
+module _ {V H : Type 0} (m : Abstraction V H) (v : V) (base : ℕ) where
   abbrev Are : List Element → List (Place × Bool) → Exactness → Type 0
   Are xs js e = EachJudged m (dropping m) v base xs js e
 

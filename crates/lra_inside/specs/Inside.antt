@@ -2,7 +2,7 @@
 use Rattle.std.specs.Prelude.{◌≡◌, ℕ, List, Bool, Option, None, Some, Vec, length, ⊤}
 use Rattle.std.specs.declared.alloc.Global.{Global}
 use Rattle.lra_linear_forms.specs.declared.test.Test.{Test}
-use Rattle.lra_domain.specs.Meaning.{Meaning}
+use Rattle.lra_domain.specs.Abstraction.{Abstraction}
 use Rattle.lra_domain.specs.declared.Exactness.{Exactness}
 use Rattle.lra_base.specs.declared.refusals.Place.{Place}
 use Rattle.lra_program.specs.Program.{Element}
@@ -20,7 +20,7 @@ abbrev pub AreWide : ℕ → Option (Test × Test) → Type 0
 AreWide n None = ⊤
 AreWide n (Some tests) = (length tests.0.expr.coefficients ≡ n) × (length tests.1.expr.coefficients ≡ n)
 
-module _ {V H : Type 0} (m : Meaning V H) where
+module _ {V H : Type 0} (m : Abstraction V H) where
   -- what is told of each access, and of those of an operation, came behind the others
   abbrev pub IsEachTold : V → ℕ → List Element → List (Place × Bool) → Exactness → List (Place × Bool) → Type 0
   IsEachTold v base xs old e new = HasAnswers (λ js. EachJudged m (dropping m) v base xs js e) old new

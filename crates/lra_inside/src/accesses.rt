@@ -36,10 +36,10 @@ fn rule_out<D: Domain>(
     value: &D,
     test: &Test,
 ) -> Result<(bool, Exactness), AllocError>
-    requires { length test.now.expr.coefficients ≡ D.meaning.dims value.now }
+    requires { length test.now.expr.coefficients ≡ D.abstraction.dims value.now }
     ensures { IfOk result (λ r. (left : D) ×
-        (dropping D.meaning).changed (tested test.now) value.now r.1 left ×
-        (IsTrue r.0 ↔ IsUnreachable D.meaning left)) }
+        (dropping D.abstraction).changed (tested test.now) value.now r.1 left ×
+        (IsTrue r.0 ↔ IsUnreachable D.abstraction left)) }
 {
     let mut left = value.copy(alloc)?;
     let exactness = left.test(test)?;
@@ -53,8 +53,9 @@ fn judge_tests<D: Domain>(
     value: &D,
     tests: &Option<(Test, Test)>,
 ) -> Result<(bool, Exactness), AllocError>
-    requires { AreWide (D.meaning.dims value.now) tests.now }
-    ensures { IfOk result (λ r. IndexJudged D.meaning (dropping D.meaning) value.now tests.now
+    requires { AreWide (D.abstraction.dims value.now) tests.now }
+    ensures { IfOk result
+        (λ r. IndexJudged D.abstraction (dropping D.abstraction) value.now tests.now
         r.0 r.1) }
 {
     match tests {
@@ -92,8 +93,9 @@ fn judge_access<D: Domain>(
     value: &D,
     access: &Access<'_>,
 ) -> Result<(bool, Exactness), AllocError>
-    requires { D.meaning.dims value.now ≤ most_live }
-    ensures { IfOk result (λ r. AccessJudged D.meaning (dropping D.meaning) value.now around.base
+    requires { D.abstraction.dims value.now ≤ most_live }
+    ensures { IfOk result
+        (λ r. AccessJudged D.abstraction (dropping D.abstraction) value.now around.base
         (access_view access.now) r.0 r.1) }
 {
     let live = value.dims();
@@ -109,8 +111,8 @@ fn judge_each<D: Domain>(
     accesses: &[Access<'_>],
     told: &mut Vec<(Place, bool)>,
 ) -> Result<Exactness, AllocError>
-    requires { D.meaning.dims value.now ≤ most_live }
-    ensures { IfOk result (λ e. IsEachTold D.meaning value.now around.base
+    requires { D.abstraction.dims value.now ≤ most_live }
+    ensures { IfOk result (λ e. IsEachTold D.abstraction value.now around.base
         (map access_view accesses.now) told.old.items e told.new.items) }
 {
     let mut so_far = Exactness::Exact;
@@ -129,8 +131,8 @@ fn judge_expression<D: Domain>(
     value: &D,
     told: &mut Vec<(Place, bool)>,
 ) -> Result<Exactness, AllocError>
-    requires { D.meaning.dims value.now ≤ most_live }
-    ensures { IfOk result (λ a. IsEachTold D.meaning value.now around.base
+    requires { D.abstraction.dims value.now ≤ most_live }
+    ensures { IfOk result (λ a. IsEachTold D.abstraction value.now around.base
         (expr_accesses (expr_view e.now)) told.old.items a told.new.items) }
 {
     let mut all = Vec::new(around.alloc);
@@ -141,9 +143,9 @@ fn judge_expression<D: Domain>(
 impl<D: Domain> Leaf<D> for Accesses {
     type Told = (Place, bool);
 
-    ghost both = { BothInside D.meaning (dropping D.meaning) };
+    ghost both = { BothInside D.abstraction (dropping D.abstraction) };
 
-    ghost one = { OneInside D.meaning (dropping D.meaning) };
+    ghost one = { OneInside D.abstraction (dropping D.abstraction) };
 
     fn tell_both(
         around: Surroundings,
@@ -175,8 +177,8 @@ fn judge_all<D: Domain>(
     value: &D,
     told: &mut Vec<(Place, bool)>,
 ) -> Result<Exactness, AllocError>
-    requires { D.meaning.dims value.now ≤ most_live }
-    ensures { IfOk result (λ e. IsEachTold D.meaning value.now around.base
+    requires { D.abstraction.dims value.now ≤ most_live }
+    ensures { IfOk result (λ e. IsEachTold D.abstraction value.now around.base
         (op_accesses (op_view op.now)) told.old.items e told.new.items) }
 {
     let all = accesses(around.alloc, Doing::Change(op))?;
@@ -190,8 +192,8 @@ fn judge_change<D: Domain>(
     value: &D,
     told: &mut Vec<(Place, bool)>,
 ) -> Result<Exactness, AllocError>
-    requires { D.meaning.dims value.now ≤ most_live }
-    ensures { IfOk result (λ e. IsOpTold D.meaning (op_view op.now)
+    requires { D.abstraction.dims value.now ≤ most_live }
+    ensures { IfOk result (λ e. IsOpTold D.abstraction (op_view op.now)
         value.now told.old.items e told.new.items) }
 {
     match op {
@@ -216,8 +218,8 @@ fn judge_doing<D: Domain>(
     value: &D,
     told: &mut Vec<(Place, bool)>,
 ) -> Result<Exactness, AllocError>
-    requires { D.meaning.dims value.now ≤ most_live }
-    ensures { IfOk result (λ e. IsOpTold D.meaning (doing_view doing.entry)
+    requires { D.abstraction.dims value.now ≤ most_live }
+    ensures { IfOk result (λ e. IsOpTold D.abstraction (doing_view doing.entry)
         value.now told.old.items e told.new.items) }
 {
     match doing {
@@ -234,7 +236,7 @@ impl<D: Domain> Question<D> for Accesses {
 
     ghost asks = { op_accesses_any };
 
-    ghost told = { λ op v js e. OpInside D.meaning (dropping D.meaning) op v js.items e };
+    ghost told = { λ op v js e. OpInside D.abstraction (dropping D.abstraction) op v js.items e };
 
     fn is_asked(alloc: Global, doing: Doing<'_>) -> Result<bool, AllocError> {
         let all = accesses(alloc, doing)?;

@@ -32,9 +32,10 @@ pub fn judge_accesses<D: Domain>(
     values: &[D],
     flagged: Option<usize>,
 ) -> Result<Inside, AllocError>
-    requires few { All (λ v. D.meaning.dims v < most_live) values.now }
+    requires few { All (λ v. D.abstraction.dims v < most_live) values.now }
     requires below { AreBelow (length values.now) (accessed_in None (node_view tree.now)) }
-    ensures { IfOk result (λ i. JudgesAccesses D.meaning (dropping D.meaning) (node_view tree.now)
+    ensures { IfOk result
+        (λ i. JudgesAccesses D.abstraction (dropping D.abstraction) (node_view tree.now)
         values.now flagged (map told_view i.verdicts.items) i.flagged) }
 {
     let found = find::<D, Accesses>(alloc, tree, values, flagged)?;

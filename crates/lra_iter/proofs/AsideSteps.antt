@@ -1,9 +1,9 @@
 -- What is done beside a program's own operations is passed as it is defined.
 use Rattle.std.proofs.Common.{Vec, Global, map, ◌≡◌, ℕ, List, [], ◌∷◌, ◌++◌, Option, refl, sym, ap, subst, ◌∙◌}
 use Rattle.std.proofs.lemmas.List.{map-append}
-use Rattle.lra_domain.specs.Meaning.{Meaning}
+use Rattle.lra_domain.specs.Abstraction.{Abstraction}
 use Rattle.lra_domain.specs.declared.Exactness.{Exactness}
-use Rattle.lra_others.specs.Others.{Others}
+use Rattle.lra_interference.specs.Interference.{Interference}
 use Rattle.lra_operations.specs.declared.asides.Aside.TheVariants.{Entering, Noting}
 use Rattle.lra_operations.specs.Graph.{aside}
 use Rattle.lra_flow.specs.Plan.{Plan}
@@ -33,7 +33,7 @@ module _ {V : Type 0} (begun : Outcome V) (v : V) (f : Option ℕ)
       ap (λ (xs : List (Entry V)). record (seen begun) { entries = xs }) all
       ∙ ap (λ (x : Result V). record x { entries = given q place v ∷ [] }) begun_seen
 
-module _ {V H : Type 0} (o : Others V) (m : Meaning V H) (set : Plan) (q : ℕ) (f : Option ℕ) (v : V) where
+module _ {V H : Type 0} (o : Interference V) (m : Abstraction V H) (set : Plan) (q : ℕ) (f : Option ℕ) (v : V) where
   pub entering_passed : (w : V) (e : Exactness) (r : Result V) → admitted o m v e w → r ≡ goes_on [] w (noted q e f) →
       IsPassed o m set (aside q Entering) f v r
   entering_passed w e r admits is = subst (λ (x : Result V). IsPassed o m set (aside q Entering) f v x) (sym is) (record {

@@ -5,8 +5,8 @@ use Rattle.std.specs.Prelude as outcome_or
 use Rattle.std.proofs.Math.Nat.{suc-mul}
 use Rattle.std.proofs.lemmas.Result.{IfOk-weaker}
 use Rattle.lra_flow.specs.Plan.{Plan}
-use Rattle.lra_domain.specs.Meaning.{Meaning}
-use Rattle.lra_others.specs.Others.{Others}
+use Rattle.lra_domain.specs.Abstraction.{Abstraction}
+use Rattle.lra_interference.specs.Interference.{Interference}
 use Rattle.lra_outcomes.specs.declared.memory.Memory.{Memory}
 use Rattle.lra_outcomes.specs.declared.outcome.Outcome.{Outcome}
 use Rattle.lra_places.specs.declared.places.Entering.{Entering}
@@ -27,7 +27,7 @@ round_more k t = omega (arith, suc-mul k (suc t))
 round_again : (k t : ℕ) → 1 + k * suc t < 1 + suc k * suc t
 round_again k t = omega (arith, suc-mul k (suc t))
 
-module _ {V H E : Type 0} (m : Meaning V H) (set : Plan) (R : outcome_or.Result (next.Next V H) E) where
+module _ {V H E : Type 0} (m : Abstraction V H) (set : Plan) (R : outcome_or.Result (next.Next V H) E) where
   -- a loop whose head grows
   module _ (g : GrowingPlace V H) where
     abbrev OpensHere : Entering V → Type 0
@@ -37,7 +37,7 @@ module _ {V H E : Type 0} (m : Meaning V H) (set : Plan) (R : outcome_or.Result 
     AgainHere r = IfOk R (λ n. (b : Box (GrowingPlace V H) Global) × (p : Box (place.Place V H) Global) ×
         (n ≡ Again p r) × (p.value ≡ Growing b) × (b.value ≡ g))
 
-    pub growing_leads : (o : Others V) (tree : Entering V) (whole : Due V) (memory : Memory V) → OpensHere tree →
+    pub growing_leads : (o : Interference V) (tree : Entering V) (whole : Due V) (memory : Memory V) → OpensHere tree →
         IsGrowing o m set g whole (due tree memory) × MayBePassed o m set (due tree memory) →
         IfOk R (λ n. Leads o m set whole n memory)
     growing_leads o tree whole memory h leads = IfOk-weaker R
@@ -46,7 +46,7 @@ module _ {V H E : Type 0} (m : Meaning V H) (set : Plan) (R : outcome_or.Result 
         (λ n at. subst (λ (x : next.Next V H). Leads o m set whole x memory) (sym at.1)
         (subst (λ (x : GrowingPlace V H). IsGrowing o m set x whole (due tree memory)) (sym at.2) leads.0, leads.1)) h
 
-    pub growing_made : (o : Others V) (r : Outcome V) (whole : Due V) (memory : Memory V) → AgainHere r →
+    pub growing_made : (o : Interference V) (r : Outcome V) (whole : Due V) (memory : Memory V) → AgainHere r →
         ((part : Due V) × IsGrowing o m set g whole part × IsMade o m set part (seen r) memory) →
         IfOk R (λ n. Leads o m set whole n memory)
     growing_made o r whole memory h made = IfOk-weaker R
@@ -101,7 +101,7 @@ module _ {V H E : Type 0} (m : Meaning V H) (set : Plan) (R : outcome_or.Result 
     AgainThere r = IfOk R (λ n. (b : Box (NarrowingPlace V) Global) × (p : Box (place.Place V H) Global) ×
         (n ≡ Again p r) × (p.value ≡ Narrowing b) × (b.value ≡ g))
 
-    pub narrowing_leads : (o : Others V) (tree : Entering V) (whole : Due V) (memory : Memory V) → OpensThere tree →
+    pub narrowing_leads : (o : Interference V) (tree : Entering V) (whole : Due V) (memory : Memory V) → OpensThere tree →
         IsNarrowing o m set g whole (due tree memory) × MayBePassed o m set (due tree memory) →
         IfOk R (λ n. Leads o m set whole n memory)
     narrowing_leads o tree whole memory h leads = IfOk-weaker R
@@ -110,7 +110,7 @@ module _ {V H E : Type 0} (m : Meaning V H) (set : Plan) (R : outcome_or.Result 
         (λ n at. subst (λ (x : next.Next V H). Leads o m set whole x memory) (sym at.1)
         (subst (λ (x : NarrowingPlace V). IsNarrowing o m set x whole (due tree memory)) (sym at.2) leads.0, leads.1)) h
 
-    pub narrowing_made : (o : Others V) (r : Outcome V) (whole : Due V) (memory : Memory V) → AgainThere r →
+    pub narrowing_made : (o : Interference V) (r : Outcome V) (whole : Due V) (memory : Memory V) → AgainThere r →
         ((part : Due V) × IsNarrowing o m set g whole part × IsMade o m set part (seen r) memory) →
         IfOk R (λ n. Leads o m set whole n memory)
     narrowing_made o r whole memory h made = IfOk-weaker R

@@ -3,7 +3,7 @@ use Rattle.std.proofs.Common.{◌≡◌, ℕ, ◌≤◌, [], List, length, Optio
 use Rattle.std.specs.Prelude.{ℤ, slice_get}
 use Rattle.std.specs.List.{Contains}
 use Rattle.std.proofs.lemmas.Option.{same_Some}
-use Rattle.lra_domain.specs.Meaning.{Meaning}
+use Rattle.lra_domain.specs.Abstraction.{Abstraction}
 use Rattle.lra_domain.specs.Laws.{Laws}
 use Rattle.lra_domain.specs.declared.Exactness.{Exactness}
 use Rattle.lra_program.specs.Program.{Program}
@@ -27,14 +27,14 @@ use Rattle.lra_iter.proofs.Counting.{one_failing, asserts_few}
 
 -- the globals at their first values ---------------------------------------------------------------------------------
 
-module _ {V H : Type 0} (m : Meaning V H) where
+module _ {V H : Type 0} (m : Abstraction V H) where
   module _ (laws : Laws m) where
     -- from the globals on, whatever is drawn, a pass has the stores of the tree's runs
-    pub begun_covers : (set : Plan) (P : Program) → AreGoodGlobals P.globals → (tree : Node) (whole first : V) (e : Exactness) (r : Result V) → m.universal 0 set.parts whole × m.formed whole →
+    pub begun_covers : (set : Plan) (P : Program) → AreGoodGlobals P.globals → (tree : Node) (whole first : V) (e : Exactness) (r : Result V) → m.top 0 set.parts whole × m.well_formed whole →
         AreMade (dropping m) (first_values 0 P.globals) whole e first
         → Pass V H (dropping m) set tree (noted 0 e None) first r → (draws : List ℤ) → Covers m tree (begun P draws) r
     begun_covers set P good tree whole first e r universal done pass draws =
-        let all = laws.universal_stores 0 set.parts whole universal.1 universal.0 [] refl in
+        let all = laws.top_stores 0 set.parts whole universal.1 universal.0 [] refl in
         let has = moves_keep V H m laws (first_values 0 P.globals) whole e first done [] (begun P draws).store (universal.1, all) (first_lead P.globals good []) in
         pass_covers m laws set tree (noted 0 e None) first r pass (begun P draws) has
 
@@ -44,7 +44,7 @@ module _ {V H : Type 0} (m : Meaning V H) where
         → AreCounted T r.entries → Solves m r values verdicts flagged → HoldsInTree m P tree values verdicts
     covered_holds P tree r T values verdicts flagged covers counted solves = record { stores = stores; proved = proved; unreached = unreached }
       where
-        stores : (q : ℕ) (draws : List ℤ) (t : State) → Comes tree (begun P draws) q t → (v : V) × (slice_get values q ≡ Some v) × m.has v t.store × (m.dims v ≡ length t.store)
+        stores : (q : ℕ) (draws : List ℤ) (t : State) → Comes tree (begun P draws) q t → (v : V) × (slice_get values q ≡ Some v) × m.gamma v t.store × (m.dims v ≡ length t.store)
         stores q draws t comes =
             let (v, found, has) = (covers draws).comes q t comes in
             (v, (solves.is_value q v).1 found, has.1, sym (laws.sized v t.store has.0 has.1))

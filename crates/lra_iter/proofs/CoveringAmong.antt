@@ -3,10 +3,10 @@ use Rattle.std.proofs.Common.{◌≡◌, ◌↔◌, ℕ, ◌<◌, ◌≤◌, [],
 use Rattle.std.specs.Prelude.{ℤ, slice_get, Option}
 use Rattle.std.specs.List.{Contains}
 use Rattle.std.proofs.lemmas.Option.{same_Some}
-use Rattle.lra_domain.specs.Meaning.{Meaning}
+use Rattle.lra_domain.specs.Abstraction.{Abstraction}
 use Rattle.lra_domain.specs.Laws.{Laws}
 use Rattle.lra_domain.specs.declared.Exactness.{Exactness}
-use Rattle.lra_others.specs.Others.{Others, none}
+use Rattle.lra_interference.specs.Interference.{Interference, none}
 use Rattle.lra_program.specs.Program.{Program}
 use Rattle.lra_program.specs.WellFormed.{AreGoodGlobals}
 use Rattle.lra_program.specs.Step.{State}
@@ -32,23 +32,23 @@ use Rattle.lra_iter.specs.Counts.{failing_at, AreCounted}
 use Rattle.lra_iter.specs.Among.{begins, GoesAmong, GivesAmong, HoldsAmong}
 use Rattle.lra_iter.proofs.Counting.{one_failing, asserts_few}
 
-module _ {V H : Type 0} (o : Others V) (m : Meaning V H) (laws : Laws m) where
+module _ {V H : Type 0} (o : Interference V) (m : Abstraction V H) (laws : Laws m) where
   -- from the globals on, whatever is drawn, a pass has the stores of the runs of the program's own tree
   pub begun_covers_among : (set : Plan) (P : Program) → AreGoodGlobals P.globals → (g : Node) (whole first : V) (e : Exactness) (r : Result V) →
-      m.universal 0 set.parts whole × m.formed whole → AreMade (dropping m) (first_values 0 P.globals) whole e first →
+      m.top 0 set.parts whole × m.well_formed whole → AreMade (dropping m) (first_values 0 P.globals) whole e first →
       PassAmong V H (dropping m) (admitted o m) set (opened (length P.globals) g) (noted 0 e None) first r → (draws : List ℤ) →
-      CoversAmong (λ (q : ℕ). q) (MayBecome o.may) (length P.globals) m g (begins P draws) r
+      CoversAmong (λ (q : ℕ). q) (MayBecome o.rely) (length P.globals) m g (begins P draws) r
   begun_covers_among set P good g whole first e r universal done pass draws =
-      let all = laws.universal_stores 0 set.parts whole universal.1 universal.0 [] refl in
+      let all = laws.top_stores 0 set.parts whole universal.1 universal.0 [] refl in
       let has = moves_keep V H m laws (first_values 0 P.globals) whole e first done [] (begun P draws).store
       (universal.1, all) (first_lead P.globals good []) in
-      covers_among (λ (q : ℕ). q) (MayBecome o.may) (length P.globals) o m laws
+      covers_among (λ (q : ℕ). q) (MayBecome o.rely) (length P.globals) o m laws
       (λ s t becomes. becomes.store) set g (noted 0 e None) first r pass (begins P draws) has
 
   -- so values, notes and verdicts hold in them
   pub covered_among : (P : Program) (g : Node) (r : Result V) (T : List Site) (values : List V)
       (notes : List (ℕ × ℕ × V)) (verdicts : List (ℕ × Bool)) (flagged : Option ℕ) →
-      ((draws : List ℤ) → CoversAmong (λ (q : ℕ). q) (MayBecome o.may) (length P.globals) m g (begins P draws) r) → AreCounted T r.entries →
+      ((draws : List ℤ) → CoversAmong (λ (q : ℕ). q) (MayBecome o.rely) (length P.globals) m g (begins P draws) r) → AreCounted T r.entries →
       Solves m r values verdicts flagged → ((q place : ℕ) (v : V) → Contains notes (q, place, v) ↔ Contains r.entries (given q place v)) →
       HoldsAmong o m P g values notes verdicts
   covered_among P g r T values notes verdicts flagged covers counted solves noted_so = record {
@@ -58,8 +58,8 @@ module _ {V H : Type 0} (o : Others V) (m : Meaning V H) (laws : Laws m) where
     gives = gives;
   }
     where
-      stores : (q : ℕ) (draws : List ℤ) (a : Trail ℕ) (t : State) → GoesAmong o P g draws (to_point q) a → MayBecome o.may a.state t →
-          (v : V) × (slice_get values q ≡ Some v) × m.has v t.store × (m.dims v ≡ length t.store)
+      stores : (q : ℕ) (draws : List ℤ) (a : Trail ℕ) (t : State) → GoesAmong o P g draws (to_point q) a → MayBecome o.rely a.state t →
+          (v : V) × (slice_get values q ≡ Some v) × m.gamma v t.store × (m.dims v ≡ length t.store)
       stores q draws a t goes becomes =
           let (v, found, has) = (covers draws).finds (stop (to_point q)) a goes t becomes in
           (v, (solves.is_value q v).1 found, has.1, sym (laws.sized v t.store has.0 has.1))
@@ -79,6 +79,6 @@ module _ {V H : Type 0} (o : Others V) (m : Meaning V H) (laws : Laws m) where
           laws.partless v own.0 is a.state.store own.1
 
       gives : (q place : ℕ) (draws : List ℤ) (a : Trail ℕ) → place < length P.globals → GivesAmong o P g draws q place a →
-          (v : V) × Contains notes (q, place, v) × m.has v a.state.store
+          (v : V) × Contains notes (q, place, v) × m.gamma v a.state.store
       gives q place draws a low gift_there =
           let (v, found, has) = (covers draws).finds (gift q place) a gift_there low in (v, (noted_so q place v).1 found, has.1)

@@ -10,7 +10,7 @@ use Rattle.std.specs.Vec.Iter.{into_iter_items, into_iter_len, into_iter_steps}
 use Rattle.std.specs.declared.vec.IntoIter.{IntoIter}
 use Rattle.std.proofs.lemmas.Iterator.Adapters.{YieldsList-from_vec}
 use Rattle.std.proofs.lemmas.Iterator.Consumers.{YieldsList-end, YieldsList-so_far, YieldsList-turn}
-use Rattle.lra_domain.specs.Meaning.{Meaning}
+use Rattle.lra_domain.specs.Abstraction.{Abstraction}
 use Rattle.lra_flow.specs.Pass.{value, failing}
 use Rattle.lra_flow.specs.Pass as pass
 use Rattle.lra_flow.specs.Analysis.{IsUnreachable}
@@ -64,7 +64,7 @@ module _ {V : Type 0} (n : ℕ) (all front : List (Entry V)) (x : Entry V) (apar
   pub failing_place : (p : ℕ) (v : V) → x ≡ Failing p v → p < n
   failing_place p v is = failing_inside V n p v (map (entry_view {V = V}) all) apart (subst (λ (e : Entry V). Contains (map (entry_view {V = V}) all) (entry_view e)) is in_all)
 
-  module _ {H : Type 0} (m : Meaning V H) (values : List (Option V)) (verdicts : List (Option Bool)) (tabled : AreTabled m n seen_front values verdicts) (p : ℕ) (v : V) where
+  module _ {H : Type 0} (m : Abstraction V H) (values : List (Option V)) (verdicts : List (Option Bool)) (tabled : AreTabled m n seen_front values verdicts) (p : ℕ) (v : V) where
     pub value_filled : x ≡ Value p v → AreTabled m n (map (entry_view {V = V}) (front ++ x ∷ [])) (slice_set values p (Some v)) verdicts
     value_filled is =
         let one : values_at p (seen_front ++ entry_view x ∷ []) ≤ 1 = few_before V p (seen_front ++ entry_view x ∷ []) (map (entry_view {V = V}) next.rest)

@@ -1,8 +1,8 @@
 -- Places at loops: what their bodies are passed from, and what comes behind a round.
 use Rattle.std.proofs.Common.{◌≡◌, ◌≤◌, ℕ, suc, Option, Some, None, refl, sym, ap, subst, ◌∙◌}
-use Rattle.lra_domain.specs.Meaning.{Meaning}
+use Rattle.lra_domain.specs.Abstraction.{Abstraction}
 use Rattle.lra_domain.specs.Rank.{RankFits}
-use Rattle.lra_others.specs.Others.{Others}
+use Rattle.lra_interference.specs.Interference.{Interference}
 use Rattle.lra_domain.specs.declared.Exactness.{Exactness}
 use Rattle.lra_program.specs.ProgramViews.{cond_view}
 use Rattle.lra_operations.specs.Graph.{Node, iterate}
@@ -39,7 +39,7 @@ use Rattle.lra_outcomes.proofs.PassSteps.{loop_passed}
 abbrev at : {V : Type 0} → Loop → V → Option ℕ → Memory V → Due V
 at l value flag memory = record { tree = node_view l.body.now; value = value; flag = flag; memory = memory }
 
-module _ {V H : Type 0} (o : Others V) (m : Meaning V H) (set : Plan) where
+module _ {V H : Type 0} (o : Interference V) (m : Abstraction V H) (set : Plan) where
   -- a body that is entered from a value at the head
   module _ (l : Loop) (whole : Due V) (may : MayBePassed o m set whole)
       (is : whole.tree ≡ iterate l.point l.base (cond_view l.condition.now) (node_view l.body.now)) where

@@ -4,7 +4,7 @@ use Rattle.std.specs.Prelude.{slice_get, IsTrue}
 use Rattle.std.specs.List.{Contains}
 use Rattle.std.proofs.lemmas.Option.{same_Some, none-some}
 use Rattle.lra_domain.specs.Laws.{SingleLaws}
-use Rattle.lra_domain.specs.Meaning.{Meaning}
+use Rattle.lra_domain.specs.Abstraction.{Abstraction}
 use Rattle.lra_program.specs.Program.{Program}
 use Rattle.lra_program.specs.Sites.{sites_of}
 use Rattle.lra_operations.specs.Graph.{Node}
@@ -32,7 +32,7 @@ same_bool false false f g = refl
 same_bool true false f g = sym (f refl)
 same_bool false true f g = g refl
 
-module _ {V H : Type 0} (m : Meaning V H) (r : Result V) where
+module _ {V H : Type 0} (m : Abstraction V H) (r : Result V) where
   pub one_values : (xs ys : List V) (vs ws : List (ℕ × Bool)) (f g : Option ℕ) → Solves m r xs vs f → Solves m r ys ws g → xs ≡ ys
   one_values xs ys vs ws f g a b = same_list xs ys (λ i x. (λ h. (b.is_value i x).1 ((a.is_value i x).0 h), λ h. (a.is_value i x).1 ((b.is_value i x).0 h)))
 
@@ -45,7 +45,7 @@ module _ {V H : Type 0} (m : Meaning V H) (r : Result V) where
       let same : u ≡ v = once q u v at there in
       same_bool a b (λ h. says.1 (subst (IsUnreachable m) same (tells.0 h))) (λ h. tells.1 (subst (IsUnreachable m) (sym same) (says.0 h)))
 
-pub one_solution : {V H : Type 0} (m : Meaning V H) → SingleLaws m → (set : Plan) (P : Program) (g : Node) (r s : Result V) (xs ys : List V) (vs ws : List (ℕ × Bool)) (e f : Option ℕ)
+pub one_solution : {V H : Type 0} (m : Abstraction V H) → SingleLaws m → (set : Plan) (P : Program) (g : Node) (r s : Result V) (xs ys : List V) (vs ws : List (ℕ × Bool)) (e f : Option ℕ)
     → IsNumbered (sites_of P) g → Written m set P g r → Written m set P g s → Solves m r xs vs e → Solves m s ys ws f
     → (xs ≡ ys) × ((q : ℕ) (a b : Bool) → Contains vs (q, a) → Contains ws (q, b) → a ≡ b)
 one_solution {V} {H} m laws set P g r s xs ys vs ws e f numbered a b x y =

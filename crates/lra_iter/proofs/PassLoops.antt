@@ -6,8 +6,8 @@ use Rattle.lra_domain.specs.declared.Rank.{Rank}
 use Rattle.lra_domain.specs.declared.Mode.TheVariants.{Join}
 use Rattle.lra_domain.specs.Rank.{RankFits, RankBelow}
 use Rattle.lra_domain.specs.Parts.{CapsWithin}
-use Rattle.lra_domain.specs.Meaning.{Meaning, Values, Grew}
-use Rattle.lra_others.specs.Others.{Others}
+use Rattle.lra_domain.specs.Abstraction.{Abstraction, Values, Grew}
+use Rattle.lra_interference.specs.Interference.{Interference}
 use Rattle.lra_domain.proofs.RankNumbers.{phased, phased_joins, phased_falls}
 use Rattle.lra_domain.specs.declared.Exactness.{Exactness}
 use Rattle.lra_program.specs.Program.{Cond}
@@ -25,7 +25,7 @@ use Rattle.lra_outcomes.specs.Memory.{StaysKept}
 use Rattle.lra_places.specs.Open.{GrowLoop, HeadLoop, NarrowLoop}
 use Rattle.lra_outcomes.specs.Outcome.{headed, seen, AllHave, AreKept, HasGrown, IsKept, IsTurned, JumpsFit, NarrowsTo}
 
-module _ {V H : Type 0} (o : Others V) (m : Meaning V H) (set : Plan) (q base : ℕ) (c : Cond) (a : graph.Node) where
+module _ {V H : Type 0} (o : Interference V) (m : Abstraction V H) (set : Plan) (q base : ℕ) (c : Cond) (a : graph.Node) where
   -- a head begins
   pub grow_starts : (first : V) (f : Option ℕ) (head : H) (memory : Memory V) →
       (dropping m).started first (loop_rows set.widening (m.dims first) base c a) head → RankFits (m.rank head)
@@ -170,13 +170,13 @@ pub grow_falls : (widening : Widening) (left left' : ℕ) (r r' : Rank) → Rank
 grow_falls widening zero left' r r' fits is below = phased_falls zero left' r r' fits is (below (not_join widening))
 grow_falls widening (suc k) left' r r' fits is below = phased_joins (suc k) left' r r' fits (omega arith)
 
-have_append : {V H : Type 0} (m : Meaning V H) (k : ℕ) (vs : List V) (n : V) → AllHave m k vs → m.dims n ≡ k →
+have_append : {V H : Type 0} (m : Abstraction V H) (k : ℕ) (vs : List V) (n : V) → AllHave m k vs → m.dims n ≡ k →
     AllHave m k (vs ++ n ∷ [])
 have_append m k [] n h is = (is, tt)
 have_append m k (v ∷ vs) n h is = (h.0, have_append m k vs n h.1 is)
 
 -- what comes out behind a call has as many dimensions as its end
-pub returns_have : {V H : Type 0} (m : Meaning V H) (rs ys xs : List V) (n x : V) → ys ≡ rs ++ n ∷ [] →
+pub returns_have : {V H : Type 0} (m : Abstraction V H) (rs ys xs : List V) (n x : V) → ys ≡ rs ++ n ∷ [] →
     x ≡ slice_index_or ys 0 x → xs ≡ take 0 ys ++ drop 1 ys → AllHave m (m.dims n) rs
     → (m.dims x ≡ m.dims n) × AllHave m (m.dims x) xs
 returns_have {V} m [] ys xs n x is first others have =

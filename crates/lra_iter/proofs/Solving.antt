@@ -2,8 +2,8 @@
 use Rattle.std.proofs.Common.{◌≡◌, ◌↔◌, ℕ, List, Option, None, Bool, sym, ◌∙◌, subst}
 use Rattle.lra_program.specs.declared.program.GlobalVariable.{GlobalVariable}
 use Rattle.std.specs.List.{Contains}
-use Rattle.lra_domain.specs.Meaning.{Meaning}
-use Rattle.lra_others.specs.Others.{Others}
+use Rattle.lra_domain.specs.Abstraction.{Abstraction}
+use Rattle.lra_interference.specs.Interference.{Interference}
 use Rattle.lra_domain.specs.Laws.{Laws}
 use Rattle.lra_domain.specs.declared.Exactness.{Exactness}
 use Rattle.lra_program.specs.Program.{Program}
@@ -18,7 +18,7 @@ use Rattle.lra_flow.proofs.Unflagged.{unflagged_is_written, flagged_strains, unf
 use Rattle.lra_change.specs.Changes.{Does}
 use Rattle.lra_iter.specs.Solved.{IsSolved, IsSolvedAmong}
 
-pub solved : {V H : Type 0} (m : Meaning V H) → Laws m → (plan : Plan) (P : Program) (tree : Node) (result : Result V) (values : List V) (verdicts : List (ℕ × Bool)) (flagged : Option ℕ) →
+pub solved : {V H : Type 0} (m : Abstraction V H) → Laws m → (plan : Plan) (P : Program) (tree : Node) (result : Result V) (values : List V) (verdicts : List (ℕ × Bool)) (flagged : Option ℕ) →
     Derivation m plan P tree result
     → Solves m result values verdicts flagged → IsSolved m plan P tree values verdicts flagged
 solved m laws plan P tree result values verdicts flagged derived solves = record {
@@ -30,7 +30,8 @@ solved m laws plan P tree result values verdicts flagged derived solves = record
 }
 
 -- among others, with what is noted
-pub solved_among : {V H : Type 0} (o : Others V) (m : Meaning V H) → Laws m → (plan : Plan) (P : Program) (tree : Node) (result : Result V) (values : List V)
+pub solved_among : {V H : Type 0} (o : Interference V) (m : Abstraction V H) → Laws m →
+    (plan : Plan) (P : Program) (tree : Node) (result : Result V) (values : List V)
     (notes : List (ℕ × ℕ × V)) (verdicts : List (ℕ × Bool)) (flagged : Option ℕ)
     → DerivationAmong o m plan P tree result → Solves m result values verdicts flagged
     → ((q place : ℕ) (v : V) → Contains notes (q, place, v) ↔ Contains result.entries (given q place v))
@@ -45,9 +46,9 @@ solved_among o m laws plan P tree result values notes verdicts flagged derived s
 }
 
 -- from the value that has all stores, by the globals' first values and a pass
-pub derived_from : {V H : Type 0} (o : Others V) (m : Meaning V H) (plan : Plan) (P : Program) (tree : Node) (globals : List GlobalVariable)
+pub derived_from : {V H : Type 0} (o : Interference V) (m : Abstraction V H) (plan : Plan) (P : Program) (tree : Node) (globals : List GlobalVariable)
     (whole first : V) (e : Exactness) (result : Result V) → P.globals ≡ globals
-    → m.universal 0 plan.parts whole × m.formed whole → Does m (first_values 0 globals) whole e first
+    → m.top 0 plan.parts whole × m.well_formed whole → Does m (first_values 0 globals) whole e first
     → PassAmong V H (dropping m) (admitted o m) plan tree (noted 0 e None) first result → DerivationAmong o m plan P tree result
 derived_from {V} {H} o m plan P tree globals whole first e result is universal done pass =
     (whole, first, e, universal, subst (λ (zs : List GlobalVariable). Does m (first_values 0 zs) whole e first) (sym is) done, pass)

@@ -8,7 +8,7 @@ use Rattle.std.proofs.lemmas.List.{length-replicate, length-set, length-map}
 use Rattle.std.proofs.lemmas.List.Elements.{Contains-append_left, Contains-push, Contains-push_cases}
 use Rattle.std.proofs.lemmas.Option.{none-some, same_Some, slice_get-map, slice_get_past}
 use Rattle.lra_linear_spec.proofs.Membership.{contains_none, contains_head, contains_tail, contains_cases}
-use Rattle.lra_domain.specs.Meaning.{Meaning}
+use Rattle.lra_domain.specs.Abstraction.{Abstraction}
 use Rattle.lra_program.specs.Sites.{Site}
 use Rattle.lra_program.specs.Assertions.{assertions_from}
 use Rattle.lra_flow.specs.Pass.{Entry, value, failing, given, Result}
@@ -82,7 +82,7 @@ module _ (V : Type 0) where
 
 -- one entry more -----------------------------------------------------------------------------------------------------
 
-module _ {V H : Type 0} (m : Meaning V H) (n : ℕ) where
+module _ {V H : Type 0} (m : Abstraction V H) (n : ℕ) where
   pub none_tabled : (values : List (Option V)) (verdicts : List (Option Bool)) → values ≡ replicate n None → verdicts ≡ replicate n None → AreTabled m n [] values verdicts
   none_tabled values verdicts is are = record {
     places = ap length is ∙ length-replicate n None;
@@ -282,7 +282,7 @@ site_there [] q h = absurd (omega (arith, h))
 site_there (s ∷ T) zero h = (s, refl)
 site_there (s ∷ T) (suc q) h = site_there T q (omega (arith, h))
 
-module _ {V H : Type 0} (m : Meaning V H) (T : List Site) (r : Result V) (n : ℕ) (t : List (Option V)) (u : List (Option Bool)) (long : n ≡ length T) (counted : AreCounted T r.entries)
+module _ {V H : Type 0} (m : Abstraction V H) (T : List Site) (r : Result V) (n : ℕ) (t : List (Option V)) (u : List (Option Bool)) (long : n ≡ length T) (counted : AreCounted T r.entries)
     (tabled : AreTabled m n r.entries t u) where
   values_there : (values : List V) → values ≡ flat_map option_to_list t → map (λ (v : V). Some v) values ≡ t
   values_there values is = ap (λ (vs : List V). map (λ (v : V). Some v) vs) is ∙ all_filled t there

@@ -10,7 +10,7 @@ use Rattle.std.proofs.lemmas.Result.{IfOk-weaker}
 use Rattle.lra_flow.specs.Plan.{Plan, Widening, mode_at}
 use Rattle.lra_domain.specs.declared.Rank.{Rank}
 use Rattle.lra_domain.specs.declared.Mode.TheVariants.{Join}
-use Rattle.lra_domain.specs.Meaning.{Meaning}
+use Rattle.lra_domain.specs.Abstraction.{Abstraction}
 use Rattle.lra_domain.specs.Rank.{RankFits, RankBelow}
 use Rattle.lra_outcomes.specs.declared.outcome.Outcome.{Outcome}
 use Rattle.lra_places.specs.declared.places.Entering.{Entering}
@@ -47,7 +47,7 @@ head_fits delay r fits = rounds_fit delay _ _ (four_fit (2 ^ 64) r.first r.secon
     (below_base _ fits.fits_first) (below_base _ fits.fits_second) (below_base _ fits.fits_third)
     (below_base _ fits.fits_fourth))
 
-module _ {V H E : Type 0} (m : Meaning V H) (set : Plan) (R : outcome_or.Result (next.Next V H) E) where
+module _ {V H E : Type 0} (m : Abstraction V H) (set : Plan) (R : outcome_or.Result (next.Next V H) E) where
   -- what comes next has fewer steps left
   abbrev pub TakesLess : ℕ → ℕ → Type 0
   TakesLess b n = IfOk R (λ n'. next_left m b set n' < n)
@@ -107,7 +107,7 @@ module _ {V H E : Type 0} (m : Meaning V H) (set : Plan) (R : outcome_or.Result 
   narrowed_less l b left k is = turns_less l b (suc k) left (omega (arith, is))
 
 -- the whole list falls with what is left at its innermost place
-module _ {V H : Type 0} (m : Meaning V H) (b : ℕ) (set : Plan) (ps : List (place.Place V H))
+module _ {V H : Type 0} (m : Abstraction V H) (b : ℕ) (set : Plan) (ps : List (place.Place V H))
     (p : place.Place V H) (n n' : next.Next V H) where
   one_more : sum_by (place_left m b set) (ps ++ p ∷ []) ≡ sum_by (place_left m b set) ps + place_left m b set p
   one_more =

@@ -5,8 +5,8 @@ use Rattle.std.specs.Prelude.{slice_get}
 use Rattle.std.specs.List.{AllByRecursion, Contains}
 use Rattle.lra_linear_spec.proofs.Membership.{contains_none, contains_cases}
 use Rattle.lra_domain.specs.declared.Exactness.{Exactness}
-use Rattle.lra_domain.specs.Meaning.{Meaning}
-use Rattle.lra_others.specs.Others.{Others}
+use Rattle.lra_domain.specs.Abstraction.{Abstraction}
+use Rattle.lra_interference.specs.Interference.{Interference}
 use Rattle.lra_domain.specs.Laws.{Laws}
 use Rattle.lra_program.specs.Program.{Expr, Cond, Program}
 use Rattle.lra_operations.specs.declared.asides.Aside.TheVariants.{Entering, Noting}
@@ -28,7 +28,7 @@ use Rattle.lra_flow.specs.Live.{dims_behind, live_after}
 use Rattle.lra_change.proofs.OperationWidths.{leaves_dims, changes_dims, value_dims, globals_dims}
 use Rattle.lra_iter.specs.Lives.{LiveAt, ArmsHave, PointsHave, AreWide, NotesHave}
 
-module _ (V H : Type 0) (m : Meaning V H) where
+module _ (V H : Type 0) (m : Abstraction V H) where
   joined_dims : (v : V) (us : List V) (e : Exactness) (w : V) → AreJoined (dropping m) v us e w → m.dims w ≡ m.dims v
   joined_dims v [] e w (same, exact) = ap (λ (x : V). m.dims x) same
   joined_dims v (u ∷ us) e w (x, c, d, one, rest, worst) = joined_dims x us d w rest ∙ one.2
@@ -71,7 +71,7 @@ module _ (V H : Type 0) (m : Meaning V H) where
   out_dims false (Some running) other x w n joined runs wide = joined.2 ∙ runs
 
   from_dims : Laws m → (n cap : ℕ) (o : Option V) (w : V) → RunsFrom (dropping m) n cap o w → RunHas m n o → m.dims w ≡ n
-  from_dims laws n cap None w nothing runs = laws.void_dims n cap w nothing.0
+  from_dims laws n cap None w nothing runs = laws.bottom_dims n cap w nothing.0
   from_dims laws n cap (Some running) w same runs = ap (λ (y : V). m.dims y) same ∙ runs
 
   -- passes -----------------------------------------------------------------------------------------------------------
@@ -159,7 +159,7 @@ module _ (V H : Type 0) (m : Meaning V H) where
         pass_wide (catch q k a) f v r n (w, e, s, one, joined, is) h p =
             let x = pass_wide a f v s n one h p in
             wide_is (live_after a n) r _ is (behind_wide k s w (noted q e s.flag) (live_after a n) (caught_dims k s e w joined ∙ x.normal) x.entries)
-        pass_wide (leave l k) f v r n (w, nothing, is) h p = wide_is l r _ is (jump_wide k v w f l (laws.void_dims l set.parts w nothing.0))
+        pass_wide (leave l k) f v r n (w, nothing, is) h p = wide_is l r _ is (jump_wide k v w f l (laws.bottom_dims l set.parts w nothing.0))
         pass_wide (select q base e arms) f v r n (other, x, none, pass) h p =
             arms_wide q base e _ v other arms (noted q x f) None r n pass h (none_dims base e (entries_of arms) v x other none ∙ h) tt p
 
@@ -182,16 +182,16 @@ module _ (V H : Type 0) (m : Meaning V H) where
     entry_has (y ∷ xs) x h there = elim (contains_cases y x xs there) [ inl same ↦ subst EntryHas same h.0 | inr later ↦ entry_has xs x h.1 later ]
 
 -- each value that an iteration has at a point has as many dimensions as variables live there
-pub values_wide : {V H : Type 0} (m : Meaning V H) → Laws m → (T : List Site) (plan : Plan) (P : Program) (g : Node) (r : Result V) → PointsHave T g (length P.globals) →
+pub values_wide : {V H : Type 0} (m : Abstraction V H) → Laws m → (T : List Site) (plan : Plan) (P : Program) (g : Node) (r : Result V) → PointsHave T g (length P.globals) →
     Derivation m plan P g r
     → (q : ℕ) (v : V) (s : Site) → Contains r.entries (value q v) → slice_get T q ≡ Some s → m.dims v ≡ s.live
 values_wide {V} {H} m laws T plan P g r lives (none, first, e, universal, begun, pass) q v s found there =
     let n = length P.globals in
-    let begins : m.dims first ≡ n = globals_dims V H m P.globals none e first begun (laws.universal_dims 0 plan.parts none universal.0) in
+    let begins : m.dims first ≡ n = globals_dims V H m P.globals none e first begun (laws.top_dims 0 plan.parts none universal.0) in
     let wide = pass_wide V H m T nothing_admitted (λ u c w same. ap (λ (y : V). m.dims y) same.0) laws plan g (noted 0 e None) first r n pass begins lives in
     entry_has V H m T r.entries (value q v) wide.entries found s there
 
-module _ {V H : Type 0} (o : Others V) (m : Meaning V H) (laws : Laws m) (T : List Site) (plan : Plan)
+module _ {V H : Type 0} (o : Interference V) (m : Abstraction V H) (laws : Laws m) (T : List Site) (plan : Plan)
     (g : Node) (f : Option ℕ) (first : V) (r : Result V) (n : ℕ)
     (pass : PassAmong V H (dropping m) (admitted o m) plan g f first r) (begins : m.dims first ≡ n) (lives : PointsHave T g n) where
   found_have : AllByRecursion (EntryHas V H m T) r.entries

@@ -1,8 +1,8 @@
 -- What is found of a program's tree among others holds in all runs of the program's own tree among them.
 use Rattle.std.specs.Prelude.{◌≡◌, ◌<◌, ℕ, ℤ, List, [], length, Bool, true, Some, slice_get}
 use Rattle.std.specs.List.{Contains}
-use Rattle.lra_domain.specs.Meaning.{Meaning}
-use Rattle.lra_others.specs.Others.{Others}
+use Rattle.lra_domain.specs.Abstraction.{Abstraction}
+use Rattle.lra_interference.specs.Interference.{Interference}
 use Rattle.lra_program.specs.Program.{Program}
 use Rattle.lra_program.specs.Step.{State}
 use Rattle.lra_program.specs.Run.{begun}
@@ -18,21 +18,22 @@ abbrev pub begins : Program → List ℤ → Trail ℕ
 begins P draws = record { state = begun P draws; met = [] }
 
 -- a run among others goes so far
-abbrev pub GoesAmong : {V : Type 0} → Others V → Program → Node → List ℤ → Stop → Trail ℕ → Type 0
-GoesAmong o P g draws z a = Goes (λ q. q) (MayBecome o.may) g (begins P draws) (stopped z) a
+abbrev pub GoesAmong : {V : Type 0} → Interference V → Program → Node → List ℤ → Stop → Trail ℕ → Type 0
+GoesAmong o P g draws z a = Goes (λ q. q) (MayBecome o.rely) g (begins P draws) (stopped z) a
 
 -- it comes to where an operation of the point q has just given the variable at this place a value
-abbrev pub GivesAmong : {V : Type 0} → Others V → Program → Node → List ℤ → ℕ → ℕ → Trail ℕ → Type 0
-GivesAmong o P g draws q place a = Gives (λ q. q) (MayBecome o.may) g (begins P draws) q place a
+abbrev pub GivesAmong : {V : Type 0} → Interference V → Program → Node → List ℤ → ℕ → ℕ → Trail ℕ → Type 0
+GivesAmong o P g draws q place a = Gives (λ q. q) (MayBecome o.rely) g (begins P draws) q place a
 
 -- g is the program's own tree
-pub record HoldsAmong {V H : Type 0} (o : Others V) (m : Meaning V H) (P : Program) (g : Node) (values : List V)
+pub record HoldsAmong {V H : Type 0} (o : Interference V) (m : Abstraction V H) (P : Program) (g : Node)
+    (values : List V)
     (notes : List (ℕ × ℕ × V)) (verdicts : List (ℕ × Bool)) : Type 0 where
   -- where a run comes to a point, and whatever others do there, the value there has its store, and as many dimensions
   -- as that has numbers
   pub stores : (q : ℕ) (draws : List ℤ) (a : Trail ℕ) (t : State) → GoesAmong o P g draws (to_point q) a →
-      MayBecome o.may a.state t →
-      (v : V) × (slice_get values q ≡ Some v) × m.has v t.store × (m.dims v ≡ length t.store)
+      MayBecome o.rely a.state t →
+      (v : V) × (slice_get values q ≡ Some v) × m.gamma v t.store × (m.dims v ≡ length t.store)
   -- no run fails an assertion that is proved
   pub proved : (q : ℕ) (draws : List ℤ) (a : Trail ℕ) → Contains verdicts (q, true) →
       GoesAmong o P g draws (to_failure q) a → ⊥
@@ -41,4 +42,4 @@ pub record HoldsAmong {V H : Type 0} (o : Others V) (m : Meaning V H) (P : Progr
       GoesAmong o P g draws (to_point q) a → ⊥
   -- where a variable has just got a value that is noted, a note there has the store
   pub gives : (q place : ℕ) (draws : List ℤ) (a : Trail ℕ) → place < length P.globals →
-      GivesAmong o P g draws q place a → (v : V) × Contains notes (q, place, v) × m.has v a.state.store
+      GivesAmong o P g draws q place a → (v : V) × Contains notes (q, place, v) × m.gamma v a.state.store

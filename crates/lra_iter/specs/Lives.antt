@@ -1,7 +1,7 @@
 -- How many variables live at the points of a tree, and values with a dimension for each of them.
 use Rattle.std.specs.Prelude.{◌≡◌, ◌<◌, ℕ, List, Some, slice_get}
 use Rattle.std.specs.List.{Contains}
-use Rattle.lra_domain.specs.Meaning.{Meaning}
+use Rattle.lra_domain.specs.Abstraction.{Abstraction}
 use Rattle.lra_operations.specs.declared.asides.Aside.TheVariants.{Entering, Noting}
 use Rattle.lra_operations.specs.Graph.{Node, empty, aside, point, act, check, seq, choose, iterate, catch, leave}
 use Rattle.lra_operations.specs.Graph.{select, Arms, no_arms, entry, arm}
@@ -35,9 +35,9 @@ abbrev mutual
   ArmsHave T (arm a arms) n = PointsHave T a n × (live_after a n ≡ n) × ArmsHave T arms n
 
 -- each value has a dimension for each variable that lives at its point
-abbrev pub AreWide : {V H : Type 0} → Meaning V H → List Site → List V → Type 0
+abbrev pub AreWide : {V H : Type 0} → Abstraction V H → List Site → List V → Type 0
 AreWide {V} m T values = (q : ℕ) (v : V) → slice_get values q ≡ Some v → LiveAt T q (m.dims v)
 
 -- the value of each note has a dimension for its variable
-abbrev pub NotesHave : {V H : Type 0} → Meaning V H → List (ℕ × ℕ × V) → Type 0
+abbrev pub NotesHave : {V H : Type 0} → Abstraction V H → List (ℕ × ℕ × V) → Type 0
 NotesHave {V} m notes = (q place : ℕ) (v : V) → Contains notes (q, place, v) → place < m.dims v

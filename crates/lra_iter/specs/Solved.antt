@@ -1,8 +1,8 @@
 -- What is found of a program by an iteration over its tree.
 use Rattle.std.specs.Prelude.{◌≡◌, ◌↔◌, ℕ, List, Option, None, Some, Bool}
 use Rattle.std.specs.List.{Contains}
-use Rattle.lra_domain.specs.Meaning.{Meaning}
-use Rattle.lra_others.specs.Others.{Others}
+use Rattle.lra_domain.specs.Abstraction.{Abstraction}
+use Rattle.lra_interference.specs.Interference.{Interference}
 use Rattle.lra_program.specs.Program.{Program}
 use Rattle.lra_operations.specs.Graph.{Node}
 use Rattle.lra_flow.specs.Plan.{Plan}
@@ -12,7 +12,7 @@ use Rattle.lra_flow.specs.Among.{WrittenAmong, DerivationAmong, StrainsAmong}
 
 -- values, verdicts and the first flag of a derivation with drops: without a flag it is the written iteration, and the
 -- first flag stands where the written iteration strains
-pub record IsSolved {V H : Type 0} (m : Meaning V H) (plan : Plan) (P : Program) (tree : Node) (values : List V)
+pub record IsSolved {V H : Type 0} (m : Abstraction V H) (plan : Plan) (P : Program) (tree : Node) (values : List V)
     (verdicts : List (ℕ × Bool)) (flagged : Option ℕ) : Type 0 where
   pub result : Result V
   pub derived : Derivation m plan P tree result
@@ -22,7 +22,8 @@ pub record IsSolved {V H : Type 0} (m : Meaning V H) (plan : Plan) (P : Program)
 
 -- the same among others, and what variables got: a note has the number of the point, the variable's place and the value
 -- that the derivation has behind that
-pub record IsSolvedAmong {V H : Type 0} (o : Others V) (m : Meaning V H) (plan : Plan) (P : Program) (tree : Node)
+pub record IsSolvedAmong {V H : Type 0} (o : Interference V) (m : Abstraction V H) (plan : Plan) (P : Program)
+    (tree : Node)
     (values : List V) (notes : List (ℕ × ℕ × V)) (verdicts : List (ℕ × Bool)) (flagged : Option ℕ) : Type 0 where
   pub result : Result V
   pub derived : DerivationAmong o m plan P tree result

@@ -1,7 +1,7 @@
 -- Tables that have what a pass finds at the numbers of the points.
 use Rattle.std.specs.Prelude.{◌≡◌, ◌↔◌, ℕ, suc, List, [], ◌∷◌, length, Option, None, Some, Bool, IsTrue, slice_get}
 use Rattle.std.specs.List.{Contains}
-use Rattle.lra_domain.specs.Meaning.{Meaning}
+use Rattle.lra_domain.specs.Abstraction.{Abstraction}
 use Rattle.lra_flow.specs.Pass.{Entry, value, failing, given}
 use Rattle.lra_flow.specs.Analysis.{IsUnreachable}
 use Rattle.lra_iter.specs.declared.tables.Note.{Note}
@@ -18,7 +18,7 @@ notes_in (failing q v ∷ xs) = notes_in xs
 notes_in (given q place v ∷ xs) = (q, place, v) ∷ notes_in xs
 
 -- n places for values, and n for whether an assertion is proved: filled where there is such an entry
-pub record AreTabled {V H : Type 0} (m : Meaning V H) (n : ℕ) (xs : List (Entry V)) (values : List (Option V))
+pub record AreTabled {V H : Type 0} (m : Abstraction V H) (n : ℕ) (xs : List (Entry V)) (values : List (Option V))
     (verdicts : List (Option Bool)) : Type 0 where
   pub places : length values ≡ n
   pub verdict_places : length verdicts ≡ n

@@ -8,20 +8,21 @@ ghost use Rattle.lra_flow.specs.Pass.{given, goes_on};
 ghost use Rattle.lra_outcomes.specs.Outcome.{seen, IsPassed};
 
 use lra_domain::Domain;
+use lra_interference::Interfere;
 use lra_operations::Aside;
-use lra_others::Disturb;
 use lra_outcomes::{Entry, Outcome, note};
 use std::alloc::{AllocError, Global};
 
 /// Others act: the value takes in what they may do.
-fn admit<D: Domain, F: Disturb<D>>(
+fn admit<D: Domain, F: Interfere<D>>(
     alloc: Global,
     others: &F,
     point: usize,
     value: D,
     flag: Option<usize>,
 ) -> Result<Outcome<D>, AllocError>
-    ensures { (plan : Plan) → IfOk result (λ r. IsPassed (F.others others.now) D.meaning plan
+    ensures { (plan : Plan) →
+        IfOk result (λ r. IsPassed (F.interference others.now) D.abstraction plan
         (aside point Entering) flag value (seen r)) }
 {
     let mut value = value;
@@ -50,7 +51,7 @@ fn note_gift<D: Domain>(
 }
 
 /// The pass over what is done at this point beside the program's own operations.
-pub fn pass_aside<D: Domain, F: Disturb<D>>(
+pub fn pass_aside<D: Domain, F: Interfere<D>>(
     alloc: Global,
     others: &F,
     point: usize,
@@ -58,7 +59,8 @@ pub fn pass_aside<D: Domain, F: Disturb<D>>(
     value: D,
     flag: Option<usize>,
 ) -> Result<Outcome<D>, AllocError>
-    ensures { (plan : Plan) → IfOk result (λ r. IsPassed (F.others others.now) D.meaning plan
+    ensures { (plan : Plan) →
+        IfOk result (λ r. IsPassed (F.interference others.now) D.abstraction plan
         (aside point what) flag value (seen r)) }
 {
     match what {

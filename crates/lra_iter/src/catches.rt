@@ -17,9 +17,10 @@ fn catch_breaks<D: Domain>(
     point: usize,
     inner: Outcome<D>,
 ) -> Result<Outcome<D>, AllocError>
-    requires { AllHave D.meaning (D.meaning.dims inner.normal) inner.found.breaks.items }
-    ensures caught { IfOk result (λ r. Catches D.meaning point broken (seen inner) (seen r)) }
-    ensures dims { IfOk result (λ r. D.meaning.dims r.normal ≡ D.meaning.dims inner.normal) }
+    requires { AllHave D.abstraction (D.abstraction.dims inner.normal) inner.found.breaks.items }
+    ensures caught { IfOk result (λ r. Catches D.abstraction point broken (seen inner) (seen r)) }
+    ensures dims { IfOk result
+        (λ r. D.abstraction.dims r.normal ≡ D.abstraction.dims inner.normal) }
 {
     let Outcome {
         mut found,
@@ -41,9 +42,11 @@ fn catch_continues<D: Domain>(
     point: usize,
     inner: Outcome<D>,
 ) -> Result<Outcome<D>, AllocError>
-    requires { AllHave D.meaning (D.meaning.dims inner.normal) inner.found.continues.items }
-    ensures caught { IfOk result (λ r. Catches D.meaning point continued (seen inner) (seen r)) }
-    ensures dims { IfOk result (λ r. D.meaning.dims r.normal ≡ D.meaning.dims inner.normal) }
+    requires { AllHave D.abstraction (D.abstraction.dims inner.normal) inner.found.continues.items }
+    ensures caught { IfOk result
+        (λ r. Catches D.abstraction point continued (seen inner) (seen r)) }
+    ensures dims { IfOk result
+        (λ r. D.abstraction.dims r.normal ≡ D.abstraction.dims inner.normal) }
 {
     let Outcome {
         mut found,
@@ -65,9 +68,10 @@ fn catch_returns<D: Domain>(
     point: usize,
     inner: Outcome<D>,
 ) -> Result<Outcome<D>, AllocError>
-    requires { AllHave D.meaning (D.meaning.dims inner.normal) inner.found.returns.items }
-    ensures caught { IfOk result (λ r. Catches D.meaning point returned (seen inner) (seen r)) }
-    ensures dims { IfOk result (λ r. D.meaning.dims r.normal ≡ D.meaning.dims inner.normal) }
+    requires { AllHave D.abstraction (D.abstraction.dims inner.normal) inner.found.returns.items }
+    ensures caught { IfOk result (λ r. Catches D.abstraction point returned (seen inner) (seen r)) }
+    ensures dims { IfOk result
+        (λ r. D.abstraction.dims r.normal ≡ D.abstraction.dims inner.normal) }
 {
     let Outcome {
         mut found,
@@ -92,9 +96,10 @@ pub fn catch_jumps<D: Domain>(
     exit: Exit,
     inner: Outcome<D>,
 ) -> Result<Outcome<D>, AllocError>
-    requires { AllHave D.meaning (D.meaning.dims inner.normal) (jumps_of (exit_view exit) (seen inner)) }
-    ensures caught { IfOk result (λ r. Catches D.meaning point (exit_view exit) (seen inner) (seen r)) }
-    ensures dims { IfOk result (λ r. D.meaning.dims r.normal ≡ D.meaning.dims inner.normal) }
+    requires { AllHave D.abstraction (D.abstraction.dims inner.normal) (jumps_of (exit_view exit) (seen inner)) }
+    ensures caught { IfOk result (λ r. Catches D.abstraction point (exit_view exit) (seen inner) (seen r)) }
+    ensures dims { IfOk result
+        (λ r. D.abstraction.dims r.normal ≡ D.abstraction.dims inner.normal) }
 {
     match exit {
         Exit::Broken => catch_breaks(alloc, point, inner),

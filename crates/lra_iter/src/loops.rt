@@ -17,7 +17,7 @@ ghost use Rattle.lra_places.specs.StepsLeft.{next_left, most_rounds, rounds_left
 
 use lra_change::leave;
 use lra_domain::{Domain, Exactness};
-use lra_others::Disturb;
+use lra_interference::Interfere;
 use lra_outcomes::{
     Entered, Entry, Found, Growing, HeadTurn, Loop, Memory, Outcome, Turn, enter_with, grow_by,
     note, start,
@@ -32,8 +32,8 @@ fn join_round<D: Domain>(
     first: &D,
     last: &Outcome<D>,
 ) -> Result<(D, Option<usize>), AllocError>
-    requires { D.meaning.dims last.now.normal ≡ D.meaning.dims first.now }
-    ensures { IfOk result (λ r. (e : Exactness) × (dropping D.meaning).joined first.now last.now.normal e r.0 ×
+    requires { D.abstraction.dims last.now.normal ≡ D.abstraction.dims first.now }
+    ensures { IfOk result (λ r. (e : Exactness) × (dropping D.abstraction).joined first.now last.now.normal e r.0 ×
         (r.1 ≡ noted point e last.now.flag)) }
 {
     let mut next = first.copy(alloc)?;
@@ -63,10 +63,10 @@ fn leave_loop<D: Domain>(
     top: D,
     last: Outcome<D>,
 ) -> Result<Outcome<D>, AllocError>
-    requires { D.meaning.dims top ≤ most_live }
-    ensures left { IfOk result (λ r. LeavesWith D.meaning the_loop.now.point the_loop.now.base
+    requires { D.abstraction.dims top ≤ most_live }
+    ensures left { IfOk result (λ r. LeavesWith D.abstraction the_loop.now.point the_loop.now.base
         (cond_view the_loop.now.condition.now) top (seen last) (seen r)) }
-    ensures dims { IfOk result (λ r. D.meaning.dims r.normal ≡ D.meaning.dims top) }
+    ensures dims { IfOk result (λ r. D.abstraction.dims r.normal ≡ D.abstraction.dims top) }
 {
     let found = head_first(alloc, the_loop.point, &top, last.found)?;
     let mut out = top;
@@ -86,21 +86,23 @@ fn leave_loop<D: Domain>(
 }
 
 /// The loop is left with the value at its head and its last round, and may be kept.
-fn finish<D: Domain, F: Disturb<D>>(
+fn finish<D: Domain, F: Interfere<D>>(
     alloc: Global,
     memory: &mut Memory<D>,
     the_loop: &Loop<'_>,
     first: D,
     last: HeadTurn<D>,
 ) -> Result<Outcome<D>, AllocError>
-    requires { D.meaning.dims last.value ≤ most_live }
-    ensures left { IfOk result (λ r. LeavesWith D.meaning the_loop.now.point the_loop.now.base
+    requires { D.abstraction.dims last.value ≤ most_live }
+    ensures left { IfOk result (λ r. LeavesWith D.abstraction the_loop.now.point the_loop.now.base
         (cond_view the_loop.now.condition.now) last.value (seen last.turn.outcome) (seen r)) }
-    ensures dims { IfOk result (λ r. D.meaning.dims r.normal ≡ D.meaning.dims last.value) }
+    ensures dims { IfOk result (λ r. D.abstraction.dims r.normal ≡ D.abstraction.dims last.value) }
     ensures keeps { (others : F) (plan : Plan) (loops : ℕ → graph.Node) → IfOk result (λ r.
-        MayRecall (F.others others) D.meaning plan loops last.turn.outcome.flag memory.old →
-        IsKept (F.others others) D.meaning plan (loops the_loop.now.point) r.flag first (seen r) →
-        MayRecall (F.others others) D.meaning plan loops r.flag memory.new) }
+        MayRecall (F.interference others) D.abstraction plan loops last.turn.outcome.flag
+        memory.old →
+        IsKept (F.interference others) D.abstraction plan (loops the_loop.now.point) r.flag first
+        (seen r) →
+        MayRecall (F.interference others) D.abstraction plan loops r.flag memory.new) }
 {
     let HeadTurn { value, turn } = last;
     let outcome = leave_loop(alloc, the_loop, value, turn.into_outcome())?;
@@ -110,17 +112,18 @@ fn finish<D: Domain, F: Disturb<D>>(
 
 /// What comes into a loop's body from the value at its head: what the condition leaves, or the kept turn, where that
 /// entered it last.
-fn enter<D: Domain, F: Disturb<D>>(
+fn enter<D: Domain, F: Interfere<D>>(
     alloc: Global,
     the_loop: &Loop<'_>,
     value: &D,
     flag: Option<usize>,
     kept: Option<Turn<D>>,
 ) -> Result<Entered<D>, AllocError>
-    requires { D.meaning.dims value.now ≤ most_live }
-    ensures { (others : F) → AreKept (F.others others) D.meaning the_loop.now.plan.now
+    requires { D.abstraction.dims value.now ≤ most_live }
+    ensures { (others : F) → AreKept (F.interference others) D.abstraction the_loop.now.plan.now
         (node_view the_loop.now.body.now) flag kept →
-        IfOk result (IsEntered (F.others others) D.meaning the_loop.now.plan.now the_loop.now.point
+        IfOk result (IsEntered (F.interference others) D.abstraction the_loop.now.plan.now
+        the_loop.now.point
         the_loop.now.base (cond_view the_loop.now.condition.now) (node_view the_loop.now.body.now)
         flag value.now) }
 {
@@ -138,7 +141,7 @@ fn enter<D: Domain, F: Disturb<D>>(
 }
 
 /// Once round a loop whose head grows, from its value.
-fn turn_growing<'a, D: Domain, F: Disturb<D>>(
+fn turn_growing<'a, D: Domain, F: Interfere<D>>(
     alloc: Global,
     the_loop: Loop<'a>,
     first: D,
@@ -146,15 +149,17 @@ fn turn_growing<'a, D: Domain, F: Disturb<D>>(
     kept: Option<Turn<D>>,
 ) -> Result<Next<'a, D, D::Head>, AllocError>
     requires { (others : F) × (set : Plan) × (whole : Due D) × (memory : Memory D) ×
-        MayBePassed (F.others others) D.meaning set whole × IsHead (F.others others) D.meaning set
+        MayBePassed (F.interference others) D.abstraction set whole
+        × IsHead (F.interference others) D.abstraction set
         the_loop whole first growing kept memory }
     ensures leads { (others : F) (set : Plan) (whole : Due D) (memory : Memory D) →
-        MayBePassed (F.others others) D.meaning set whole → IsHead (F.others others) D.meaning set
+        MayBePassed (F.interference others) D.abstraction set whole →
+        IsHead (F.interference others) D.abstraction set
         the_loop.entry whole first growing kept memory →
-        IfOk result (λ next. Leads (F.others others) D.meaning set whole next memory) }
-    ensures steps { (b : ℕ) (set : Plan) → IfOk result (λ next. next_left D.meaning b set next
-        < turns_left D.meaning b set the_loop.entry
-        (suc (set.narrow + rounds_left b growing.left (D.meaning.rank growing.head)))) }
+        IfOk result (λ next. Leads (F.interference others) D.abstraction set whole next memory) }
+    ensures steps { (b : ℕ) (set : Plan) → IfOk result (λ next. next_left D.abstraction b set next
+        < turns_left D.abstraction b set the_loop.entry
+        (suc (set.narrow + rounds_left b growing.left (D.abstraction.rank growing.head)))) }
 {
     match enter::<D, F>(alloc, &the_loop, &growing.value, growing.flag, kept)? {
         Entered::Again(turn) => {
@@ -185,21 +190,24 @@ fn turn_growing<'a, D: Domain, F: Disturb<D>>(
 }
 
 /// A loop's head starts, unless what the loop gave for this value is kept.
-pub fn open_loop<'a, D: Domain, F: Disturb<D>>(
+pub fn open_loop<'a, D: Domain, F: Interfere<D>>(
     alloc: Global,
     memory: &mut Memory<D>,
     the_loop: Loop<'a>,
     value: D,
     flag: Option<usize>,
 ) -> Result<Next<'a, D, D::Head>, AllocError>
-    requires { (others : F) × (set : Plan) × (whole : Due D) × IsLoopDue (F.others others) D.meaning
+    requires { (others : F) × (set : Plan) × (whole : Due D)
+        × IsLoopDue (F.interference others) D.abstraction
         set the_loop whole value flag memory.old }
     ensures leads { (others : F) (set : Plan) (whole : Due D) →
-        IsLoopDue (F.others others) D.meaning set the_loop.entry whole value flag memory.old →
-        IfOk result (λ next. Leads (F.others others) D.meaning set whole next memory.new) }
+        IsLoopDue (F.interference others) D.abstraction set the_loop.entry whole value flag
+        memory.old →
+        IfOk result (λ next. Leads (F.interference others) D.abstraction set whole next
+        memory.new) }
     ensures steps { (set : Plan) → the_loop.entry.plan.now ≡ set → IfOk result (λ next.
-        next_left D.meaning (2 ^ 64) set next
-        < 2 + most_rounds (2 ^ 64) set * suc (tree_steps D.meaning (2 ^ 64) set the_loop.entry.body.now)) }
+        next_left D.abstraction (2 ^ 64) set next
+        < 2 + most_rounds (2 ^ 64) set * suc (tree_steps D.abstraction (2 ^ 64) set the_loop.entry.body.now)) }
 {
     if let Some(given) = memory.begin::<F>(alloc, the_loop.point, &value, flag)? {
         return Ok(Next::Passed(given));
@@ -209,23 +217,24 @@ pub fn open_loop<'a, D: Domain, F: Disturb<D>>(
 }
 
 /// Once round a loop that is narrowed, from the value at its head.
-fn turn_narrowing<'a, D: Domain, F: Disturb<D>>(
+fn turn_narrowing<'a, D: Domain, F: Interfere<D>>(
     alloc: Global,
     narrowing: Narrowing<'a, D>,
     flag: Option<usize>,
     kept: Turn<D>,
 ) -> Result<Next<'a, D, D::Head>, AllocError>
     requires { (others : F) × (set : Plan) × (whole : Due D) × (memory : Memory D) ×
-        MayBePassed (F.others others) D.meaning set whole ×
-        IsWaiting (F.others others) D.meaning set narrowing whole flag memory }
+        MayBePassed (F.interference others) D.abstraction set whole ×
+        IsWaiting (F.interference others) D.abstraction set narrowing whole flag memory }
     ensures leads { (others : F) (set : Plan) (whole : Due D) (memory : Memory D) →
-        MayBePassed (F.others others) D.meaning set whole →
-        IsWaiting (F.others others) D.meaning set narrowing.entry whole flag memory →
-        IsKept (F.others others) D.meaning set (node_view narrowing.entry.the_loop.body.now) flag
+        MayBePassed (F.interference others) D.abstraction set whole →
+        IsWaiting (F.interference others) D.abstraction set narrowing.entry whole flag memory →
+        IsKept (F.interference others) D.abstraction set
+        (node_view narrowing.entry.the_loop.body.now) flag
         kept.entered (seen kept.outcome) →
-        IfOk result (λ next. Leads (F.others others) D.meaning set whole next memory) }
-    ensures steps { (b : ℕ) (set : Plan) → IfOk result (λ next. next_left D.meaning b set next
-        < turns_left D.meaning b set narrowing.entry.the_loop (suc narrowing.entry.left)) }
+        IfOk result (λ next. Leads (F.interference others) D.abstraction set whole next memory) }
+    ensures steps { (b : ℕ) (set : Plan) → IfOk result (λ next. next_left D.abstraction b set next
+        < turns_left D.abstraction b set narrowing.entry.the_loop (suc narrowing.entry.left)) }
 {
     match enter::<D, F>(alloc, &narrowing.the_loop, &narrowing.top, flag, Some(kept))? {
         Entered::Again(turn) => {
@@ -243,7 +252,7 @@ fn turn_narrowing<'a, D: Domain, F: Disturb<D>>(
 
 /// The loop is left with its last round where no round of narrowing is left. Else the value at its head becomes the
 /// join of the first one with what that round left, and is passed anew.
-fn narrow_on<'a, D: Domain, F: Disturb<D>>(
+fn narrow_on<'a, D: Domain, F: Interfere<D>>(
     alloc: Global,
     memory: &mut Memory<D>,
     the_loop: Loop<'a>,
@@ -252,14 +261,17 @@ fn narrow_on<'a, D: Domain, F: Disturb<D>>(
     left: u32,
 ) -> Result<Next<'a, D, D::Head>, AllocError>
     requires { (others : F) × (set : Plan) × (whole : Due D) ×
-        MayBePassed (F.others others) D.meaning set whole × IsNarrowed (F.others others) D.meaning
+        MayBePassed (F.interference others) D.abstraction set whole
+        × IsNarrowed (F.interference others) D.abstraction
         set the_loop whole first last left memory.old }
     ensures leads { (others : F) (set : Plan) (whole : Due D) →
-        MayBePassed (F.others others) D.meaning set whole → IsNarrowed (F.others others) D.meaning
+        MayBePassed (F.interference others) D.abstraction set whole →
+        IsNarrowed (F.interference others) D.abstraction
         set the_loop.entry whole first last left memory.old →
-        IfOk result (λ next. Leads (F.others others) D.meaning set whole next memory.new) }
-    ensures steps { (b : ℕ) (set : Plan) → IfOk result (λ next. next_left D.meaning b set next
-        < turns_left D.meaning b set the_loop.entry left) }
+        IfOk result (λ next. Leads (F.interference others) D.abstraction set whole next
+        memory.new) }
+    ensures steps { (b : ℕ) (set : Plan) → IfOk result (λ next. next_left D.abstraction b set next
+        < turns_left D.abstraction b set the_loop.entry left) }
 {
     if left == 0 {
         let outcome = finish::<D, F>(alloc, memory, &the_loop, first, last)?;
@@ -277,24 +289,27 @@ fn narrow_on<'a, D: Domain, F: Disturb<D>>(
 }
 
 /// Behind a round of a loop whose head grows: it is narrowed if it is stable, and else turned again.
-pub fn go_on_growing<'a, D: Domain, F: Disturb<D>>(
+pub fn go_on_growing<'a, D: Domain, F: Interfere<D>>(
     alloc: Global,
     memory: &mut Memory<D>,
     place: GrowingPlace<'a, D, D::Head>,
     outcome: Outcome<D>,
 ) -> Result<Next<'a, D, D::Head>, AllocError>
     requires { (others : F) × (set : Plan) × (whole : Due D) × (part : Due D) ×
-        MayBePassed (F.others others) D.meaning set whole × IsGrowing (F.others others) D.meaning
-        set place whole part × IsMade (F.others others) D.meaning set part (seen outcome)
+        MayBePassed (F.interference others) D.abstraction set whole
+        × IsGrowing (F.interference others) D.abstraction
+        set place whole part × IsMade (F.interference others) D.abstraction set part (seen outcome)
         memory.old }
     ensures leads { (others : F) (set : Plan) (whole part : Due D) →
-        MayBePassed (F.others others) D.meaning set whole → IsGrowing (F.others others) D.meaning
-        set place.entry whole part → IsMade (F.others others) D.meaning set part (seen outcome)
-        memory.old → IfOk result (λ next. Leads (F.others others) D.meaning set whole next
+        MayBePassed (F.interference others) D.abstraction set whole →
+        IsGrowing (F.interference others) D.abstraction
+        set place.entry whole part →
+        IsMade (F.interference others) D.abstraction set part (seen outcome)
+        memory.old → IfOk result (λ next. Leads (F.interference others) D.abstraction set whole next
         memory.new) }
     ensures falls { (set : Plan) → place.entry.the_loop.plan.now ≡ set → IfOk result (λ next.
-        next_left D.meaning (2 ^ 64) set next < turns_left D.meaning (2 ^ 64) set place.entry.the_loop
-        (set.narrow + rounds_left (2 ^ 64) place.entry.growing.left (D.meaning.rank place.entry.growing.head))) }
+        next_left D.abstraction (2 ^ 64) set next < turns_left D.abstraction (2 ^ 64) set place.entry.the_loop
+        (set.narrow + rounds_left (2 ^ 64) place.entry.growing.left (D.abstraction.rank place.entry.growing.head))) }
 {
     let GrowingPlace {
         the_loop,
@@ -314,24 +329,27 @@ pub fn go_on_growing<'a, D: Domain, F: Disturb<D>>(
 }
 
 /// Behind a round of a loop that is narrowed.
-pub fn go_on_narrowing<'a, D: Domain, F: Disturb<D>>(
+pub fn go_on_narrowing<'a, D: Domain, F: Interfere<D>>(
     alloc: Global,
     memory: &mut Memory<D>,
     place: NarrowingPlace<'a, D>,
     outcome: Outcome<D>,
 ) -> Result<Next<'a, D, D::Head>, AllocError>
     requires { (others : F) × (set : Plan) × (whole : Due D) × (part : Due D) ×
-        MayBePassed (F.others others) D.meaning set whole × IsNarrowing (F.others others) D.meaning
-        set place whole part × IsMade (F.others others) D.meaning set part (seen outcome)
+        MayBePassed (F.interference others) D.abstraction set whole
+        × IsNarrowing (F.interference others) D.abstraction
+        set place whole part × IsMade (F.interference others) D.abstraction set part (seen outcome)
         memory.old }
     ensures leads { (others : F) (set : Plan) (whole part : Due D) →
-        MayBePassed (F.others others) D.meaning set whole → IsNarrowing (F.others others) D.meaning
-        set place.entry whole part → IsMade (F.others others) D.meaning set part (seen outcome)
-        memory.old → IfOk result (λ next. Leads (F.others others) D.meaning set whole next
+        MayBePassed (F.interference others) D.abstraction set whole →
+        IsNarrowing (F.interference others) D.abstraction
+        set place.entry whole part →
+        IsMade (F.interference others) D.abstraction set part (seen outcome)
+        memory.old → IfOk result (λ next. Leads (F.interference others) D.abstraction set whole next
         memory.new) }
     ensures falls { (set : Plan) → place.entry.narrowing.the_loop.plan.now ≡ set → IfOk result (λ next.
-        next_left D.meaning (2 ^ 64) set next
-        < turns_left D.meaning (2 ^ 64) set place.entry.narrowing.the_loop place.entry.narrowing.left) }
+        next_left D.abstraction (2 ^ 64) set next
+        < turns_left D.abstraction (2 ^ 64) set place.entry.narrowing.the_loop place.entry.narrowing.left) }
 {
     let NarrowingPlace { narrowing, entered } = place;
     let Narrowing {

@@ -15,7 +15,7 @@ use crate::asides::pass_aside;
 use crate::catches::catch_jumps;
 use crate::loops::{go_on_growing, go_on_narrowing, open_loop};
 use lra_domain::Domain;
-use lra_others::Disturb;
+use lra_interference::Interfere;
 use lra_outcomes::{Memory, Outcome, Plan, Shape, pass_leaf};
 use lra_places::{
     Entering, Next, Place, Places, Step, go_on_choice, go_on_row, go_on_selection, meet_again,
@@ -24,7 +24,7 @@ use lra_places::{
 use std::alloc::{AllocError, Global};
 
 /// The first step into a tree: a tree with none in it is passed, and of any other a place opens.
-fn open_tree<'a, D: Domain, F: Disturb<D>>(
+fn open_tree<'a, D: Domain, F: Interfere<D>>(
     alloc: Global,
     plan: &'a Plan,
     others: &F,
@@ -32,11 +32,13 @@ fn open_tree<'a, D: Domain, F: Disturb<D>>(
     tree: Entering<'a, D>,
 ) -> Result<Next<'a, D, D::Head>, AllocError>
     requires parts { 1 ≤ plan.now.parts }
-    requires may { MayBePassed (F.others others.now) D.meaning plan.now (due tree memory.old) }
-    ensures leads { IfOk result (λ next. Leads (F.others others.now) D.meaning plan.entry.now
+    requires may { MayBePassed (F.interference others.now) D.abstraction plan.now
+        (due tree memory.old) }
+    ensures leads { IfOk result
+        (λ next. Leads (F.interference others.now) D.abstraction plan.entry.now
         (due tree.entry memory.old) next memory.new) }
-    ensures falls { IfOk result (λ next. next_left D.meaning (2 ^ 64) plan.entry.now next
-        < tree_steps D.meaning (2 ^ 64) plan.entry.now tree.entry.node.now) }
+    ensures falls { IfOk result (λ next. next_left D.abstraction (2 ^ 64) plan.entry.now next
+        < tree_steps D.abstraction (2 ^ 64) plan.entry.now tree.entry.node.now) }
 {
     let Entering { node, value, flag } = tree;
     match Shape::of(plan, node) {
@@ -57,24 +59,29 @@ fn open_tree<'a, D: Domain, F: Disturb<D>>(
 }
 
 /// The next step at a place, behind what the tree under way there gave.
-fn go_on<'a, D: Domain, F: Disturb<D>>(
+fn go_on<'a, D: Domain, F: Interfere<D>>(
     alloc: Global,
     memory: &mut Memory<D>,
     place: Place<'a, D, D::Head>,
     outcome: Outcome<D>,
 ) -> Result<Next<'a, D, D::Head>, AllocError>
     requires { (others : F) × (set : Plan) × (whole : Due D) × (part : Due D) ×
-        MayBePassed (F.others others) D.meaning set whole × IsOpen (F.others others) D.meaning set
-        place whole part × IsMade (F.others others) D.meaning set part (seen outcome) memory.old ×
+        MayBePassed (F.interference others) D.abstraction set whole
+        × IsOpen (F.interference others) D.abstraction set
+        place whole part × IsMade (F.interference others) D.abstraction set part (seen outcome)
+        memory.old ×
         (1 ≤ set.parts) }
     ensures leads { (others : F) (set : Plan) (whole part : Due D) →
-        MayBePassed (F.others others) D.meaning set whole → IsOpen (F.others others) D.meaning set
-        place.entry whole part → IsMade (F.others others) D.meaning set part (seen outcome)
-        memory.old → IfOk result (λ next. Leads (F.others others) D.meaning set whole next
+        MayBePassed (F.interference others) D.abstraction set whole →
+        IsOpen (F.interference others) D.abstraction set
+        place.entry whole part →
+        IsMade (F.interference others) D.abstraction set part (seen outcome)
+        memory.old → IfOk result (λ next. Leads (F.interference others) D.abstraction set whole next
         memory.new) }
     ensures falls { (others : F) (set : Plan) (whole part : Due D) →
-        IsOpen (F.others others) D.meaning set place.entry whole part →
-        IfOk result (λ next. next_left D.meaning (2 ^ 64) set next < place_left D.meaning (2 ^ 64)
+        IsOpen (F.interference others) D.abstraction set place.entry whole part →
+        IfOk result (λ next. next_left D.abstraction (2 ^ 64) set next < place_left D.abstraction
+        (2 ^ 64)
         set place.entry) }
 {
     match place {
@@ -106,7 +113,7 @@ fn goes<'a, D: Domain>(
 }
 
 /// One step: it goes on at the innermost place, or opens one. Where none is open, the whole tree is passed.
-fn take_step<'a, D: Domain, F: Disturb<D>>(
+fn take_step<'a, D: Domain, F: Interfere<D>>(
     alloc: Global,
     plan: &'a Plan,
     others: &F,
@@ -115,16 +122,18 @@ fn take_step<'a, D: Domain, F: Disturb<D>>(
     next: Next<'a, D, D::Head>,
 ) -> Result<Step<'a, D, D::Head>, AllocError>
     requires parts { 1 ≤ plan.now.parts }
-    requires way { (whole : Due D) × AreUnderWay (F.others others.now) D.meaning plan.now
+    requires way { (whole : Due D) × AreUnderWay (F.interference others.now) D.abstraction plan.now
         places.old.open.items whole next memory.old }
-    ensures leads { (whole : Due D) → AreUnderWay (F.others others.now) D.meaning plan.entry.now
+    ensures leads { (whole : Due D) →
+        AreUnderWay (F.interference others.now) D.abstraction plan.entry.now
         places.old.open.items whole next.entry memory.old →
-        IfOk result (λ s. Reaches (F.others others.now) D.meaning plan.entry.now
+        IfOk result (λ s. Reaches (F.interference others.now) D.abstraction plan.entry.now
         places.new.open.items whole s memory.new) }
-    ensures falls { (whole : Due D) → AreUnderWay (F.others others.now) D.meaning plan.entry.now
+    ensures falls { (whole : Due D) →
+        AreUnderWay (F.interference others.now) D.abstraction plan.entry.now
         places.old.open.items whole next.entry memory.old →
-        IfOk result (λ s. TakesFewer D.meaning (2 ^ 64) plan.entry.now places.new.open.items s
-        (all_left D.meaning (2 ^ 64) plan.entry.now places.old.open.items next.entry)) }
+        IfOk result (λ s. TakesFewer D.abstraction (2 ^ 64) plan.entry.now places.new.open.items s
+        (all_left D.abstraction (2 ^ 64) plan.entry.now places.old.open.items next.entry)) }
 {
     match next {
         Next::Passed(outcome) => match places.pop() {
@@ -142,7 +151,7 @@ fn take_step<'a, D: Domain, F: Disturb<D>>(
 }
 
 /// The pass over the tree, along a list of open places.
-pub fn pass<'a, D: Domain, F: Disturb<D>>(
+pub fn pass<'a, D: Domain, F: Interfere<D>>(
     alloc: Global,
     plan: &'a Plan,
     others: &F,
@@ -150,13 +159,13 @@ pub fn pass<'a, D: Domain, F: Disturb<D>>(
     tree: Entering<'a, D>,
 ) -> Result<Outcome<D>, AllocError>
     requires parts { 1 ≤ plan.now.parts }
-    requires few { D.meaning.dims tree.value ≤ most_live }
-    requires fits { TreeFits (node_view tree.node.now) (D.meaning.dims tree.value) }
-    requires remembers { Remembers (F.others others.now) D.meaning plan.now
+    requires few { D.abstraction.dims tree.value ≤ most_live }
+    requires fits { TreeFits (node_view tree.node.now) (D.abstraction.dims tree.value) }
+    requires remembers { Remembers (F.interference others.now) D.abstraction plan.now
         (node_view tree.node.now) tree.flag memory.old }
-    ensures passed { IfOk result (λ r. IsPassed (F.others others.now) D.meaning plan.now
+    ensures passed { IfOk result (λ r. IsPassed (F.interference others.now) D.abstraction plan.now
         (node_view tree.entry.node.now) tree.entry.flag tree.entry.value (seen r)) }
-    ensures stays { IfOk result (λ r. StaysKept (F.others others.now) D.meaning plan.now
+    ensures stays { IfOk result (λ r. StaysKept (F.interference others.now) D.abstraction plan.now
         (node_view tree.entry.node.now) tree.entry.flag memory.old r.flag memory.new) }
 {
     let mut places = Places::none(alloc);

@@ -28,8 +28,8 @@ use crate::pass::pass;
 use crate::tables::{Note, number_held, tables_of, take_held};
 use lra_change::append_globals;
 use lra_domain::Domain;
+use lra_interference::{Interfere, NoInterference};
 use lra_operations::{Graph, Site};
-use lra_others::{Disturb, Nobody};
 use lra_outcomes::{Memory, Outcome, Plan, note};
 use lra_places::Entering;
 use lra_program::GlobalVariable;
@@ -60,7 +60,7 @@ fn solution_of<D: Domain>(
     outcome: Outcome<D>,
 ) -> Result<NotedSolution<D>, AllocError>
     requires { AreCounted (map site_view sites.now) (seen outcome).entries }
-    ensures solves { IfOk result (λ s. Solves D.meaning (seen outcome) s.solution.values.items
+    ensures solves { IfOk result (λ s. Solves D.abstraction (seen outcome) s.solution.values.items
         s.solution.verdicts.items s.solution.flagged) }
     ensures noted { IfOk result (λ s. map note_view s.notes.items
         ≡ notes_in (seen outcome).entries) }
@@ -91,9 +91,9 @@ fn begin<D: Domain>(
     requires parts { 1 ≤ plan.now.parts }
     requires few { length globals.now ≤ most_live }
     ensures begins { IfOk result (λ r. (whole : D) × (e : Exactness) ×
-        (D.meaning.universal 0 plan.now.parts whole × D.meaning.formed whole) ×
-        Does D.meaning (first_values 0 globals.now) whole e r.0 × (r.1 ≡ noted 0 e None)) }
-    ensures dims { IfOk result (λ r. D.meaning.dims r.0 ≡ length globals.now) }
+        (D.abstraction.top 0 plan.now.parts whole × D.abstraction.well_formed whole) ×
+        Does D.abstraction (first_values 0 globals.now) whole e r.0 × (r.1 ≡ noted 0 e None)) }
+    ensures dims { IfOk result (λ r. D.abstraction.dims r.0 ≡ length globals.now) }
 {
     let mut value = D::universe(alloc, 0, plan.parts())?;
     let exactness = append_globals(alloc, globals, &mut value)?;
@@ -102,7 +102,7 @@ fn begin<D: Domain>(
 
 /// The iteration over a program's tree of operations among others, from its global variables at their first values:
 /// what others may do is taken in where the tree says so.
-pub fn analyse_with<D: Domain, F: Disturb<D>>(
+pub fn analyse_with<D: Domain, F: Interfere<D>>(
     alloc: Global,
     plan: &Plan,
     globals: &[GlobalVariable],
@@ -116,19 +116,21 @@ pub fn analyse_with<D: Domain, F: Disturb<D>>(
     requires numbered { IsNumbered (map site_view graph.now.sites.items)
         (node_view graph.now.tree) }
     ensures solved { IfOk result (λ s. (P : Program) → P.globals ≡ globals.now →
-        IsSolvedAmong (F.others others.now) D.meaning plan.now P (node_view graph.now.tree)
+        IsSolvedAmong (F.interference others.now) D.abstraction plan.now P
+        (node_view graph.now.tree)
         s.solution.values.items (map note_view s.notes.items) s.solution.verdicts.items
         s.solution.flagged) }
     ensures sound { IfOk result (λ s. (P : Program) (g : Node) → P.globals ≡ globals.now →
-        node_view graph.now.tree ≡ opened (length P.globals) g → HoldsAmong (F.others others.now)
-        D.meaning P g s.solution.values.items (map note_view s.notes.items)
+        node_view graph.now.tree ≡ opened (length P.globals) g →
+        HoldsAmong (F.interference others.now)
+        D.abstraction P g s.solution.values.items (map note_view s.notes.items)
         s.solution.verdicts.items) }
     ensures wide { IfOk result (λ s. PointsHave (map site_view graph.now.sites.items)
-        (node_view graph.now.tree) (length globals.now) → AreWide D.meaning
+        (node_view graph.now.tree) (length globals.now) → AreWide D.abstraction
         (map site_view graph.now.sites.items) s.solution.values.items) }
     ensures notes { IfOk result (λ s. PointsHave (map site_view graph.now.sites.items)
         (node_view graph.now.tree) (length globals.now) →
-        NotesHave D.meaning (map note_view s.notes.items)) }
+        NotesHave D.abstraction (map note_view s.notes.items)) }
     ensures points { IfOk result (λ s. length s.solution.values.items
         ≡ length graph.now.sites.items) }
     ensures assertions { IfOk result (λ s. map (λ v. v.0) s.solution.verdicts.items ≡
@@ -156,15 +158,15 @@ pub fn analyse<D: Domain>(
     requires fits { TreeFits (node_view graph.now.tree) (length globals.now) }
     requires numbered { IsNumbered (map site_view graph.now.sites.items) (node_view graph.now.tree) }
     ensures solved { IfOk result (λ s. (P : Program) → P.globals ≡ globals.now →
-        IsSolved D.meaning plan.now P (node_view graph.now.tree) s.values.items s.verdicts.items s.flagged) }
+        IsSolved D.abstraction plan.now P (node_view graph.now.tree) s.values.items s.verdicts.items s.flagged) }
     ensures sound { IfOk result (λ s. (P : Program) → P.globals ≡ globals.now →
-        HoldsInTree D.meaning P (node_view graph.now.tree) s.values.items s.verdicts.items) }
+        HoldsInTree D.abstraction P (node_view graph.now.tree) s.values.items s.verdicts.items) }
     ensures wide { IfOk result (λ s. PointsHave (map site_view graph.now.sites.items) (node_view graph.now.tree)
-        (length globals.now) → AreWide D.meaning (map site_view graph.now.sites.items) s.values.items) }
+        (length globals.now) → AreWide D.abstraction (map site_view graph.now.sites.items) s.values.items) }
     ensures points { IfOk result (λ s. length s.values.items ≡ length graph.now.sites.items) }
     ensures assertions { IfOk result (λ s. map (λ v. v.0) s.verdicts.items ≡
         map (λ a. a.0) (assertions_from 0 (map site_view graph.now.sites.items))) }
 {
-    let found = analyse_with(alloc, plan, globals, graph, &Nobody)?;
+    let found = analyse_with(alloc, plan, globals, graph, &NoInterference)?;
     Ok(found.solution)
 }

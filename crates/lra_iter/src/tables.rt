@@ -62,7 +62,7 @@ pub fn tables_of<D: Domain>(
     entries: Vec<Entry<D>>,
 ) -> Result<Tables<D>, AllocError>
     requires { AreApart count (map entry_view entries.items) }
-    ensures tabled { IfOk result (λ tables. AreTabled D.meaning count
+    ensures tabled { IfOk result (λ tables. AreTabled D.abstraction count
         (map entry_view entries.items) tables.values.items tables.verdicts.items) }
     ensures noted { IfOk result (λ tables. map note_view tables.notes.items ≡
         notes_in (map entry_view entries.items)) }

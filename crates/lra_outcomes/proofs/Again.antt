@@ -1,8 +1,8 @@
 -- A pass from the same value again: only the first flagged point can differ, and that is told by what was flagged before.
 use Rattle.std.proofs.Common.{◌≡◌, ℕ, zero, suc, ◌-◌, Bool, true, List, [], ◌∷◌, Option, Some, None, refl, sym, ap, subst, ◌∙◌}
 use Rattle.lra_domain.specs.declared.Exactness.{Exactness}
-use Rattle.lra_others.specs.Others.{Others}
-use Rattle.lra_domain.specs.Meaning.{Meaning}
+use Rattle.lra_interference.specs.Interference.{Interference}
+use Rattle.lra_domain.specs.Abstraction.{Abstraction}
 use Rattle.lra_program.specs.Program.{Expr, Cond}
 use Rattle.lra_operations.specs.declared.asides.Aside.TheVariants.{Entering, Noting}
 use Rattle.lra_operations.specs.Graph.{Exit, broken, continued, returned, Node, empty, point, aside, act, check, seq, choose, iterate, catch, leave}
@@ -161,7 +161,7 @@ none_before {V} {H} ops admission set g f v r none pass =
 with_flag : {V : Type 0} (r : Result V) (f : Option ℕ) → r.flag ≡ f → r ≡ record r { flag = f }
 with_flag r f is = ap (λ (x : Option ℕ). record r { flag = x }) is
 
-module _ {V H : Type 0} (o : Others V) (m : Meaning V H) (set : Plan) (g : Node) where
+module _ {V H : Type 0} (o : Interference V) (m : Abstraction V H) (set : Plan) (g : Node) where
   -- a kept result is that of a pass, with what is flagged so far
   pub kept_passed : (f : Option ℕ) (v : V) (r : Result V) → IsKept o m set g f v r → IsPassed o m set g f v (record r { flag = f })
   kept_passed (Some p) v r kept =

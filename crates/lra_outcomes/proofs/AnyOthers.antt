@@ -1,7 +1,7 @@
 -- Trees in which others don't act: a pass among nobody is one among any.
 use Rattle.std.proofs.Common.{ℕ, List, [], ◌∷◌, map, Option, sym, subst}
-use Rattle.lra_others.specs.Others.{Others, nobody}
-use Rattle.lra_domain.specs.Meaning.{Meaning}
+use Rattle.lra_interference.specs.Interference.{Interference, no_interference}
+use Rattle.lra_domain.specs.Abstraction.{Abstraction}
 use Rattle.lra_operations.specs.declared.graph.Node as node
 use Rattle.lra_operations.specs.Graph as graph
 use Rattle.lra_operations.specs.GraphViews.{node_view, row}
@@ -17,8 +17,8 @@ use Rattle.lra_outcomes.specs.Flat.{flat_view, AllLeaves, AreLeaves, Follows, Is
 use Rattle.lra_outcomes.specs.Outcome.{IsPassed}
 use Rattle.lra_outcomes.specs.Shapes.{leaf_view}
 
-module _ {V H : Type 0} (o : Others V) (m : Meaning V H) (set : Plan) where
-  leaf_pass : (x : leaf.Leaf) (f : Option ℕ) (v : V) (r : Result V) → DerivedPass nobody m set (leaf_view x) f v r
+module _ {V H : Type 0} (o : Interference V) (m : Abstraction V H) (set : Plan) where
+  leaf_pass : (x : leaf.Leaf) (f : Option ℕ) (v : V) (r : Result V) → DerivedPass no_interference m set (leaf_view x) f v r
       → DerivedPass o m set (leaf_view x) f v r
   leaf_pass Empty f v r pass = pass
   leaf_pass (Point q) f v r pass = pass
@@ -26,28 +26,28 @@ module _ {V H : Type 0} (o : Others V) (m : Meaning V H) (set : Plan) where
   leaf_pass (Check q base c) f v r pass = pass
   leaf_pass (Leave n k) f v r pass = pass
 
-  node_pass : (g : node.Node) (f : Option ℕ) (v : V) (r : Result V) → IsLeaf g → DerivedPass nobody m set (node_view g) f v r
+  node_pass : (g : node.Node) (f : Option ℕ) (v : V) (r : Result V) → IsLeaf g → DerivedPass no_interference m set (node_view g) f v r
       → DerivedPass o m set (node_view g) f v r
   node_pass g f v r (one, x, is) pass = subst (λ (h : graph.Node). DerivedPass o m set h f v r) (sym is)
-      (leaf_pass x f v r (subst (λ (h : graph.Node). DerivedPass nobody m set h f v r) is pass))
+      (leaf_pass x f v r (subst (λ (h : graph.Node). DerivedPass no_interference m set h f v r) is pass))
 
   row_pass : (gs : List node.Node) (last : node.Node) (f : Option ℕ) (v : V) (r : Result V) → AllLeaves gs → IsLeaf last
-      → DerivedPass nobody m set (row (map node_view gs) (node_view last)) f v r
+      → DerivedPass no_interference m set (row (map node_view gs) (node_view last)) f v r
       → DerivedPass o m set (row (map node_view gs) (node_view last)) f v r
   row_pass [] last f v r leaves end pass = node_pass last f v r end pass
   row_pass (g ∷ gs) last f v r (first, leaves) end (s, t, one, two, is) =
       (s, t, node_pass g f v s first one, row_pass gs last s.flag s.normal t leaves end two, is)
 
-  flat_pass : (x : flat.Flat) (f : Option ℕ) (v : V) (r : Result V) → AreLeaves x → DerivedPass nobody m set (flat_view x) f v r
+  flat_pass : (x : flat.Flat) (f : Option ℕ) (v : V) (r : Result V) → AreLeaves x → DerivedPass no_interference m set (flat_view x) f v r
       → DerivedPass o m set (flat_view x) f v r
   flat_pass (Leaf x) f v r leaves pass = leaf_pass x f v r pass
   flat_pass (Row x) f v r leaves pass = row_pass x.trees.now x.last.now f v r leaves.0 leaves.1 pass
 
-  pub leaf_among : (x : leaf.Leaf) (f : Option ℕ) (v : V) (r : Result V) → IsPassed nobody m set (leaf_view x) f v r
+  pub leaf_among : (x : leaf.Leaf) (f : Option ℕ) (v : V) (r : Result V) → IsPassed no_interference m set (leaf_view x) f v r
       → IsPassed o m set (leaf_view x) f v r
   leaf_among x f v r passed = record { pass = leaf_pass x f v r passed.pass; dims = passed.dims; jumps = passed.jumps }
 
-  pub flat_among : (x : flat.Flat) (so_far r : Outcome V) → AreLeaves x → Follows nobody m set (flat_view x) so_far r
+  pub flat_among : (x : flat.Flat) (so_far r : Outcome V) → AreLeaves x → Follows no_interference m set (flat_view x) so_far r
       → Follows o m set (flat_view x) so_far r
   flat_among x so_far r leaves (t, passed, turn, normal, flag) = (
     t,

@@ -2,8 +2,8 @@
 use Rattle.std.proofs.Common.{◌≡◌, ℕ, suc, ◌+◌, ◌≤◌, List, ◌∷◌, Option, refl, sym, ap, subst, ◌∙◌, arith}
 use Rattle.lra_flow.specs.Room.{most_live}
 use Rattle.lra_flow.specs.Plan.{Plan}
-use Rattle.lra_others.specs.Others.{Others}
-use Rattle.lra_domain.specs.Meaning.{Meaning}
+use Rattle.lra_interference.specs.Interference.{Interference}
+use Rattle.lra_domain.specs.Abstraction.{Abstraction}
 use Rattle.lra_operations.specs.Graph as graph
 use Rattle.lra_operations.specs.declared.graph.Node as node
 use Rattle.lra_flow.specs.Pass.{Result, in_turn}
@@ -27,7 +27,7 @@ choice_takes k a one more = omega (arith, one, more)
 pub other_takes : (k a : ℕ) → k ≡ 1 → k ≡ 2 + a → ⊥
 other_takes k a one more = omega (arith, one, more)
 
-module _ {V H : Type 0} (o : Others V) (m : Meaning V H) (set : Plan) where
+module _ {V H : Type 0} (o : Interference V) (m : Abstraction V H) (set : Plan) where
   -- whatever a pass of the rest finds, the whole finds that, behind what was found before the row
   pub record FlatLoop (g rest : graph.Node) (begun so_far : Outcome V) : Type 0 where
     pub few : m.dims so_far.normal ≤ most_live

@@ -3,13 +3,13 @@ use Rattle.std.proofs.Common.{◌≡◌, ℕ, ◌<◌, ◌≤◌, ◌+◌, List,
 use Rattle.std.proofs.lemmas.List.{drop_all}
 use Rattle.lra_domain.specs.declared.Exactness.{Exactness}
 use Rattle.lra_domain.specs.declared.Exactness.TheVariants.{Exact, Flagged}
-use Rattle.lra_domain.specs.Meaning.{Meaning, worse}
+use Rattle.lra_domain.specs.Abstraction.{Abstraction, worse}
 use Rattle.lra_flow.specs.Pass.{AreJoined}
 use Rattle.lra_flow.specs.Operations.{dropping}
 use Rattle.lra_outcomes.specs.Outcome.{AllHave}
 
 -- however those that are left are joined to what is joined so far, all are
-pub record JoinLoop {V H : Type 0} (m : Meaning V H) (first : V) (all rest : List V) (so_far : Exactness) (now : V)
+pub record JoinLoop {V H : Type 0} (m : Abstraction V H) (first : V) (all rest : List V) (so_far : Exactness) (now : V)
     : Type 0 where
   pub dims : m.dims now ≡ m.dims first
   pub have : AllHave m (m.dims first) rest
@@ -28,7 +28,7 @@ worse_exact : (e : Exactness) → worse e Exact ≡ e
 worse_exact Exact = refl
 worse_exact Flagged = refl
 
-module _ {V H : Type 0} (m : Meaning V H) where
+module _ {V H : Type 0} (m : Abstraction V H) where
   pub join_starts : (first : V) (all : List V) → AllHave m (m.dims first) all → JoinLoop m first all all Exact first
   join_starts first all have = record { dims = refl; have = have; joins = λ e w joined. joined }
 

@@ -4,8 +4,8 @@ use Rattle.std.proofs.Common.{refl, sym, ap, subst, ◌∙◌}
 use Rattle.std.specs.Prelude.{IfOk, slice_index_or, set}
 use Rattle.std.specs.Prelude as outcome_or
 use Rattle.std.specs.List.{All}
-use Rattle.lra_others.specs.Others.{Others}
-use Rattle.lra_domain.specs.Meaning.{Meaning}
+use Rattle.lra_interference.specs.Interference.{Interference}
+use Rattle.lra_domain.specs.Abstraction.{Abstraction}
 use Rattle.lra_domain.specs.declared.Exactness.{Exactness}
 use Rattle.lra_program.specs.Program.{Cond}
 use Rattle.lra_operations.specs.Graph.{Exit, broken, continued, returned, Node, choose, iterate}
@@ -27,7 +27,7 @@ Later f f' = f' ≡ None → f ≡ None
 pub later_noted : (q : ℕ) (e : Exactness) (f f' : Option ℕ) → f' ≡ noted q e f → Later f f'
 later_noted q e f f' is none = none_noted q e f (sym is ∙ none)
 
-pub passed_later : {V H : Type 0} (o : Others V) (m : Meaning V H) (set : Plan) (g : Node) (f : Option ℕ) (v : V) (r : Result V) →
+pub passed_later : {V H : Type 0} (o : Interference V) (m : Abstraction V H) (set : Plan) (g : Node) (f : Option ℕ) (v : V) (r : Result V) →
     IsPassed o m set g f v r → Later f r.flag
 passed_later o m set g f v r passed none = none_before (dropping m) (admitted o m) set g f v r none passed.pass
 
@@ -36,20 +36,20 @@ behind_flag broken s w f = refl
 behind_flag continued s w f = refl
 behind_flag returned s w f = refl
 
-pub caught_later : {V H : Type 0} (m : Meaning V H) (q : ℕ) (k : Exit) (s r : Result V) → Catches m q k s r →
+pub caught_later : {V H : Type 0} (m : Abstraction V H) (q : ℕ) (k : Exit) (s r : Result V) → Catches m q k s r →
     Later s.flag r.flag
 caught_later {V} m q k s r (w, e, joined, is) = later_noted q e s.flag r.flag
     (ap (λ (x : Result V). x.flag) is ∙ behind_flag k s w (noted q e s.flag))
 
-pub met_later : {V H : Type 0} (m : Meaning V H) (q : ℕ) (s t r : Result V) → AreMet m q s t r → Later t.flag r.flag
+pub met_later : {V H : Type 0} (m : Abstraction V H) (q : ℕ) (s t r : Result V) → AreMet m q s t r → Later t.flag r.flag
 met_later {V} m q s t r (w, e, joined, is) = later_noted q e t.flag r.flag (ap (λ (x : Result V). x.flag) is)
 
-pub left_later : {V H : Type 0} (m : Meaning V H) (q base : ℕ) (c : Cond) (top : V) (s r : Result V) →
+pub left_later : {V H : Type 0} (m : Abstraction V H) (q base : ℕ) (c : Cond) (top : V) (s r : Result V) →
     LeavesWith m q base c top s r → Later s.flag r.flag
 left_later {V} m q base c top s r (out, e, leaves, is) =
     later_noted q e s.flag r.flag (ap (λ (x : Result V). x.flag) is)
 
-module _ {V H : Type 0} (o : Others V) (m : Meaning V H) (set : Plan) where
+module _ {V H : Type 0} (o : Interference V) (m : Abstraction V H) (set : Plan) where
   pub recall_later : (loops : ℕ → Node) (f f' : Option ℕ) (memory : Memory V) → Later f f' →
       MayRecall o m set loops f memory → MayRecall o m set loops f' memory
   recall_later loops f f' memory later all k d below =

@@ -3,8 +3,8 @@ use Rattle.std.proofs.Common.{Vec, Global, map, ◌≡◌, ℕ, List, [], ◌∷
 use Rattle.std.specs.Prelude.{OnOk}
 use Rattle.std.specs.Prelude as outcome_or
 use Rattle.std.proofs.lemmas.List.{append-nil, map-append}
-use Rattle.lra_others.specs.Others.{Others}
-use Rattle.lra_domain.specs.Meaning.{Meaning}
+use Rattle.lra_interference.specs.Interference.{Interference}
+use Rattle.lra_domain.specs.Abstraction.{Abstraction}
 use Rattle.lra_domain.specs.declared.Exactness.{Exactness}
 use Rattle.lra_operations.specs.Graph.{Exit, broken, continued, returned}
 use Rattle.lra_operations.specs.Graph as graph
@@ -41,7 +41,7 @@ jump_flag broken v w f = refl
 jump_flag continued v w f = refl
 jump_flag returned v w f = refl
 
-module _ {V H : Type 0} (o : Others V) (m : Meaning V H) (set : Plan) (so_far : Outcome V) where
+module _ {V H : Type 0} (o : Interference V) (m : Abstraction V H) (set : Plan) (so_far : Outcome V) where
   -- without a jump
   pub goes_further : (g : graph.Node) (es : Vec (entry.Entry V) Global) (xs : List (Entry V)) (w : V) (f : Option ℕ) →
       map (entry_view {V = V}) es.items ≡ map (entry_view {V = V}) so_far.found.entries.items ++ xs →

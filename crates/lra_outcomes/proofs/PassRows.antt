@@ -5,8 +5,8 @@ use Rattle.std.proofs.Common.{sym, ap, subst, ◌∙◌, arith}
 use Rattle.std.specs.List.{sum_by}
 use Rattle.std.proofs.lemmas.List.{append_assoc}
 use Rattle.std.proofs.lemmas.List.Sums.{sum_by-cons}
-use Rattle.lra_others.specs.Others.{Others}
-use Rattle.lra_domain.specs.Meaning.{Meaning}
+use Rattle.lra_interference.specs.Interference.{Interference}
+use Rattle.lra_domain.specs.Abstraction.{Abstraction}
 use Rattle.lra_operations.specs.declared.graph.Node.{Node}
 use Rattle.lra_operations.specs.GraphViews.{node_view, row}
 use Rattle.lra_operations.specs.Graph as graph
@@ -66,7 +66,7 @@ steps_last n gs last is =
     ap (λ (z : List Node). sum_by (λ g. suc (node_steps n g)) z) is in
     omega (arith, none)
 
-module _ {V H : Type 0} (o : Others V) (m : Meaning V H) (set : Plan) where
+module _ {V H : Type 0} (o : Interference V) (m : Abstraction V H) (set : Plan) where
   pub seq_passed : (a b : graph.Node) (f : Option ℕ) (v : V) (s t : Result V) → IsPassed o m set a f v s →
       IsPassed o m set b s.flag s.normal t
       → IsPassed o m set (graph.seq a b) f v (in_turn s t t.normal t.flag)

@@ -5,8 +5,8 @@ use Rattle.std.specs.Prelude as outcome_or
 use Rattle.std.specs.List.{Contains, sum_by}
 use Rattle.std.proofs.lemmas.List.Sums.{sum_by-cons}
 use Rattle.std.proofs.lemmas.List.Elements.{Contains-append_cases}
-use Rattle.lra_others.specs.Others.{Others}
-use Rattle.lra_domain.specs.Meaning.{Meaning}
+use Rattle.lra_interference.specs.Interference.{Interference}
+use Rattle.lra_domain.specs.Abstraction.{Abstraction}
 use Rattle.lra_domain.specs.declared.Exactness.{Exactness}
 use Rattle.lra_program.specs.declared.program.Cond as declared_cond
 use Rattle.lra_operations.specs.declared.asides.Aside as declared_aside
@@ -134,7 +134,7 @@ one_element v u (suc k, below, is) = absurd (omega arith)
 pub in_both : {X : Type 0} (P Q : X → Type 0) (xs ys : List X) (u : X) → (Contains xs u → P u) → (Contains ys u → Q u) → Contains (xs ++ ys) u → P u ⊎ Q u
 in_both P Q xs ys u p q h = elim (Contains-append_cases xs ys u h) [ inl x ↦ inl (p x) | inr y ↦ inr (q y) ]
 
-module _ {V H : Type 0} (m : Meaning V H) where
+module _ {V H : Type 0} (m : Abstraction V H) where
   -- without a jump
   pub going_on_fits : (g : graph.Node) (n : ℕ) (xs : List (Entry V)) (v : V) (f : Option ℕ) → JumpsFit m g n (goes_on xs v f)
   going_on_fits g n xs v f = fits
@@ -219,7 +219,7 @@ module _ {V H : Type 0} (m : Meaning V H) where
       → AllHave m (m.dims s.normal) (jumps_of k s)
   caught_have q k a n s fits jumps dims = all_have (m.dims s.normal) (jumps_of k s) (λ u h. fits.1 (m.dims u) (jumps k u h) ∙ sym dims)
 
-module _ {V H : Type 0} (o : Others V) (m : Meaning V H) (set : Plan) where
+module _ {V H : Type 0} (o : Interference V) (m : Abstraction V H) (set : Plan) where
   -- behind a catch
   pub catch_passes : (q : ℕ) (j : Exit) (a : graph.Node) (f : Option ℕ) (v : V) (s r : Result V) → DerivedPass o m set a f v s → Catches m q j s r
       → DerivedPass o m set (graph.catch q j a) f v r

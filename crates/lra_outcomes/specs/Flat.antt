@@ -1,7 +1,7 @@
 -- Trees that are passed where they stand: what they are, and what was found before them with what their pass finds.
 use Rattle.std.specs.Prelude.{◌≡◌, ℕ, List, [], ◌∷◌, map, Option, ⊤}
-use Rattle.lra_others.specs.Others.{Others}
-use Rattle.lra_domain.specs.Meaning.{Meaning}
+use Rattle.lra_interference.specs.Interference.{Interference}
+use Rattle.lra_domain.specs.Abstraction.{Abstraction}
 use Rattle.lra_operations.specs.declared.graph.Node.{Node}
 use Rattle.lra_operations.specs.GraphViews.{node_view, row}
 use Rattle.lra_operations.specs.Graph as graph
@@ -38,7 +38,8 @@ flat_view (Leaf x) = leaf_view x
 flat_view (Row r) = row (map node_view r.trees.now) (node_view r.last.now)
 
 -- what was found so far, and then by a pass of this tree
-abbrev pub Follows : {V H : Type 0} → Others V → Meaning V H → Plan → graph.Node → Outcome V → Outcome V → Type 0
+abbrev pub Follows : {V H : Type 0} → Interference V → Abstraction V H → Plan → graph.Node → Outcome V → Outcome V →
+    Type 0
 Follows {V} o m set g so_far r = (t : Result V) × IsPassed o m set g so_far.flag so_far.normal t ×
     ((v : V) (f : Option ℕ) → ended r.found v f ≡ in_turn (seen so_far) t v f) × (r.normal ≡ t.normal) ×
     (r.flag ≡ t.flag)

@@ -1,8 +1,8 @@
 -- What is kept of loops that stand inside others.
 use Rattle.std.specs.Prelude.{◌≡◌, ℕ, Option, None, Some, ⊤}
 use Rattle.std.specs.List.{All}
-use Rattle.lra_others.specs.Others.{Others}
-use Rattle.lra_domain.specs.Meaning.{Meaning}
+use Rattle.lra_interference.specs.Interference.{Interference}
+use Rattle.lra_domain.specs.Abstraction.{Abstraction}
 use Rattle.lra_operations.specs.Graph.{Node, empty, point, aside, act, check, seq, choose, iterate, catch, leave}
 use Rattle.lra_operations.specs.Graph.{select, Arms, no_arms, entry, arm}
 use Rattle.lra_flow.specs.Plan.{Plan}
@@ -32,25 +32,29 @@ abbrev mutual
   ArmsHaveLoops loops (arm a arms) = HasLoops loops a × ArmsHaveLoops loops arms
 
 -- a loop's last pass may be given again
-abbrev pub IsRecalled : {V H : Type 0} → Others V → Meaning V H → Plan → (ℕ → Node) → Option ℕ → KeptLoop V → Type 0
+abbrev pub IsRecalled : {V H : Type 0} → Interference V → Abstraction V H → Plan → (ℕ → Node) → Option ℕ → KeptLoop V →
+    Type 0
 IsRecalled o m set loops f one = IsKept o m set (loops one.point) f one.first (seen one.outcome)
 
 -- all that is kept may be given again, whatever the loop of each number is
-abbrev pub MayRecall : {V H : Type 0} → Others V → Meaning V H → Plan → (ℕ → Node) → Option ℕ → Memory V → Type 0
+abbrev pub MayRecall : {V H : Type 0} → Interference V → Abstraction V H → Plan → (ℕ → Node) → Option ℕ → Memory V →
+    Type 0
 MayRecall o m set loops f memory = All (IsRecalled o m set loops f) memory.kept.items
 
 -- what is kept may be given again for the loops of the tree
-abbrev pub Remembers : {V H : Type 0} → Others V → Meaning V H → Plan → Node → Option ℕ → Memory V → Type 0
+abbrev pub Remembers : {V H : Type 0} → Interference V → Abstraction V H → Plan → Node → Option ℕ → Memory V → Type 0
 Remembers o m set g f memory = (loops : ℕ → Node) × HasLoops loops g × MayRecall o m set loops f memory
 
 -- what could be given again before a pass of the tree, with what was flagged then, can be after it
-abbrev pub StaysKept : {V H : Type 0} → Others V → Meaning V H → Plan → Node → Option ℕ → Memory V → Option ℕ →
+abbrev pub StaysKept : {V H : Type 0} → Interference V → Abstraction V H → Plan → Node → Option ℕ → Memory V →
+    Option ℕ →
     Memory V → Type 0
 StaysKept o m set g f old f' new = (loops : ℕ → Node) → HasLoops loops g → MayRecall o m set loops f old →
     MayRecall o m set loops f' new
 
 -- what is given, if it is, is a pass from this value
-abbrev pub AreRecalled : {V H : Type 0} → Others V → Meaning V H → Plan → Node → Option ℕ → V → Option (Outcome V) →
+abbrev pub AreRecalled : {V H : Type 0} → Interference V → Abstraction V H → Plan → Node → Option ℕ → V →
+    Option (Outcome V) →
     Type 0
 AreRecalled o m set g f v None = ⊤
 AreRecalled o m set g f v (Some r) = IsPassed o m set g f v (seen r)

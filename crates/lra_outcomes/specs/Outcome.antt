@@ -1,7 +1,7 @@
 -- What a pass in code gives, as the result of a pass.
 use Rattle.std.specs.Prelude.{◌≡◌, ℕ, true, false, List, [], ◌∷◌, map, Option, None, Some, ⊤}
-use Rattle.lra_others.specs.Others.{Others}
-use Rattle.lra_domain.specs.Meaning.{Meaning}
+use Rattle.lra_interference.specs.Interference.{Interference}
+use Rattle.lra_domain.specs.Abstraction.{Abstraction}
 use Rattle.lra_outcomes.specs.declared.outcome.Entry as entry
 use Rattle.lra_outcomes.specs.declared.outcome.Entry.TheVariants.{Value, Failing, Given}
 use Rattle.lra_outcomes.specs.declared.outcome.Found.{Found}
@@ -55,76 +55,84 @@ abbrev pub AreInTurn : {V : Type 0} → Found V → Found V → Found V → Type
 AreInTurn {V} x y z = (u v w : V) (d e f : Option ℕ) → ended z w f ≡ in_turn (ended x u d) (ended y v e) w f
 
 -- each value has so many dimensions
-abbrev pub AllHave : {V H : Type 0} → Meaning V H → ℕ → List V → Type 0
+abbrev pub AllHave : {V H : Type 0} → Abstraction V H → ℕ → List V → Type 0
 AllHave m n [] = Unit {0}
 AllHave m n (v ∷ vs) = (m.dims v ≡ n) × AllHave m n vs
 
 -- the jumps of this kind come out and are joined at this point
-abbrev pub Catches : {V H : Type 0} → Meaning V H → ℕ → Exit → Result V → Result V → Type 0
+abbrev pub Catches : {V H : Type 0} → Abstraction V H → ℕ → Exit → Result V → Result V → Type 0
 Catches {V} m q k s r = (w : V) × (e : Exactness)
     × AreJoined (dropping m) (values_behind k s).0 (values_behind k s).1 e w ×
     (r ≡ behind k s w (noted q e s.flag))
 
 -- both branches of a choice, whose ends are joined at this point
-abbrev pub AreMet : {V H : Type 0} → Meaning V H → ℕ → Result V → Result V → Result V → Type 0
+abbrev pub AreMet : {V H : Type 0} → Abstraction V H → ℕ → Result V → Result V → Result V → Type 0
 AreMet {V} m q s t r = (w : V) × (e : Exactness) × (dropping m).joined s.normal t.normal e w ×
     (r ≡ in_turn s t w (noted q e t.flag))
 
 -- each value with which the tree is left by a jump has as many dimensions as live there
-abbrev pub JumpsFit : {V H : Type 0} → Meaning V H → Node → ℕ → Result V → Type 0
+abbrev pub JumpsFit : {V H : Type 0} → Abstraction V H → Node → ℕ → Result V → Type 0
 JumpsFit {V} m g n r = (k : Exit) (u : V) → Contains (jumps_of k r) u → JumpsWith g n k (m.dims u)
 
 -- a loop is left with the value at its head, what its last round found behind it, and that value where the condition is
 -- false
-abbrev pub LeavesWith : {V H : Type 0} → Meaning V H → ℕ → ℕ → Cond → V → Result V → Result V → Type 0
+abbrev pub LeavesWith : {V H : Type 0} → Abstraction V H → ℕ → ℕ → Cond → V → Result V → Result V → Type 0
 LeavesWith {V} m q base c top s r = (out : V) × (e : Exactness) × Leaves (dropping m) base c false top e out ×
     (r ≡ record (headed q top s) { normal = out; flag = noted q e s.flag })
 
 -- a pass over the tree, behind which, and at whose jumps, values have as many dimensions as live there
-pub record IsPassed {V H : Type 0} (o : Others V) (m : Meaning V H) (set : Plan) (g : Node) (f : Option ℕ) (v : V)
+pub record IsPassed {V H : Type 0} (o : Interference V) (m : Abstraction V H) (set : Plan) (g : Node) (f : Option ℕ)
+    (v : V)
     (r : Result V) : Type 0 where
   pub pass : DerivedPass o m set g f v r
   pub dims : m.dims r.normal ≡ live_after g (m.dims v)
   pub jumps : JumpsFit m g (m.dims v) r
 
 -- a loop's head that starts with a value grows until it is stable, with this value and round at last
-abbrev pub HasGrown : {V H : Type 0} → Others V → Meaning V H → Plan → ℕ → ℕ → Cond → Node → V → Option ℕ → V →
+abbrev pub HasGrown : {V H : Type 0} → Interference V → Abstraction V H → Plan → ℕ → ℕ → Cond → Node → V → Option ℕ →
+    V →
     Result V → Type 0
 HasGrown {V} {H} o m set q base c a first f u s =
     (h : H) × (later : List H) × (dropping m).started first (loop_rows set.widening (m.dims first) base c a) h
     × Grows V H (dropping m) q base c (DerivedPass o m set a) set.widening set.delay f h later u s
 
 -- the value at a stable head and its round, narrowed as often as the plan says
-abbrev pub NarrowsTo : {V H : Type 0} → Others V → Meaning V H → Plan → ℕ → ℕ → Cond → Node → V → V → Result V → V →
+abbrev pub NarrowsTo : {V H : Type 0} → Interference V → Abstraction V H → Plan → ℕ → ℕ → Cond → Node → V → V → Result V
+    → V →
     Result V → Type 0
 NarrowsTo {V} {H} o m set q base c a first u s v r =
     Narrows V H (dropping m) q base c (DerivedPass o m set a) set.narrow first u s v r
 
 -- a result that may be given again for this value: that of a pass from it, whatever was flagged before that. Where
 -- nothing is flagged so far, nothing was flagged then
-pub record IsKept {V H : Type 0} (o : Others V) (m : Meaning V H) (set : Plan) (g : Node) (f : Option ℕ) (v : V)
+pub record IsKept {V H : Type 0} (o : Interference V) (m : Abstraction V H) (set : Plan) (g : Node) (f : Option ℕ)
+    (v : V)
     (r : Result V) : Type 0 where
   pub before : Option ℕ
   pub passed : IsPassed o m set g before v r
   pub unflagged : f ≡ None → r.flag ≡ None
 
 -- a kept turn of a loop's body, if there is one, may be given again
-abbrev pub AreKept : {V H : Type 0} → Others V → Meaning V H → Plan → Node → Option ℕ → Option (Turn V) → Type 0
+abbrev pub AreKept : {V H : Type 0} → Interference V → Abstraction V H → Plan → Node → Option ℕ → Option (Turn V) →
+    Type 0
 AreKept o m set g f None = ⊤
 AreKept o m set g f (Some turn) = IsKept o m set g f turn.entered (seen turn.outcome)
 
 -- a turn that is given, if one is, is that of a pass from this value
-abbrev pub AreGiven : {V H : Type 0} → Others V → Meaning V H → Plan → Node → Option ℕ → V → Option (Turn V) → Type 0
+abbrev pub AreGiven : {V H : Type 0} → Interference V → Abstraction V H → Plan → Node → Option ℕ → V → Option (Turn V) →
+    Type 0
 AreGiven o m set g f v None = ⊤
 AreGiven o m set g f v (Some turn) = (turn.entered ≡ v) × IsPassed o m set g f v (seen turn.outcome)
 
 -- what enters a body with this value: a turn that was kept, or the value
-abbrev pub EntersWith : {V H : Type 0} → Others V → Meaning V H → Plan → Node → Option ℕ → V → Entered V → Type 0
+abbrev pub EntersWith : {V H : Type 0} → Interference V → Abstraction V H → Plan → Node → Option ℕ → V → Entered V →
+    Type 0
 EntersWith o m set g f v (Again turn) = (turn.entered ≡ v) × IsPassed o m set g f v (seen turn.outcome)
 EntersWith o m set g f v (Anew entered on inside) = (entered ≡ v) × (on ≡ v) × (inside ≡ f)
 
 -- once round a loop from this value at its head: what entered the body, and what its pass gave
-pub record IsTurned {V H : Type 0} (o : Others V) (m : Meaning V H) (set : Plan) (q base : ℕ) (c : Cond) (a : Node)
+pub record IsTurned {V H : Type 0} (o : Interference V) (m : Abstraction V H) (set : Plan) (q base : ℕ) (c : Cond)
+    (a : Node)
     (f : Option ℕ) (v : V) (turn : Turn V) : Type 0 where
   pub round : GoesRound V H (dropping m) q base c (DerivedPass o m set a) f v (headed q v (seen turn.outcome))
   pub dims : m.dims turn.outcome.normal ≡ m.dims v
@@ -132,7 +140,7 @@ pub record IsTurned {V H : Type 0} (o : Others V) (m : Meaning V H) (set : Plan)
   pub kept : IsKept o m set a turn.outcome.flag turn.entered (seen turn.outcome)
 
 -- what comes into a loop's body from this value at its head: a turn that was kept, or what the condition leaves
-abbrev pub IsEntered : {V H : Type 0} → Others V → Meaning V H → Plan → ℕ → ℕ → Cond → Node → Option ℕ → V →
+abbrev pub IsEntered : {V H : Type 0} → Interference V → Abstraction V H → Plan → ℕ → ℕ → Cond → Node → Option ℕ → V →
     Entered V → Type 0
 IsEntered o m set q base c a f v (Again turn) = (e : Exactness) × Leaves (dropping m) base c true v e turn.entered ×
     IsPassed o m set a (noted q e f) turn.entered (seen turn.outcome) × (m.dims turn.entered ≡ m.dims v)

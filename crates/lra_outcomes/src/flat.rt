@@ -4,7 +4,7 @@
 ghost use Rattle.lra_flow.specs.Room.{most_live};
 ghost use Rattle.lra_flow.specs.Plan.{Plan};
 ghost use Rattle.std.specs.Prelude.{◌≡◌, ◌≤◌, true, map, IfSome, OnOk};
-ghost use Rattle.lra_others.specs.Others.{nobody};
+ghost use Rattle.lra_interference.specs.Interference.{no_interference};
 ghost use Rattle.lra_operations.specs.GraphViews.{node_view, row};
 ghost use Rattle.lra_outcomes.specs.Fits.{TreeFits};
 ghost use Rattle.lra_outcomes.specs.Flat.{flat_view, AreLeaves, Follows, HasLeaves, IsLeaf};
@@ -74,11 +74,11 @@ fn pass_along<D: Domain>(
     so_far: &mut Outcome<D>,
 ) -> Result<(), AllocError>
     requires parts { 1 ≤ plan.now.parts }
-    requires few { D.meaning.dims so_far.old.normal ≤ most_live }
+    requires few { D.abstraction.dims so_far.old.normal ≤ most_live }
     requires fits { TreeFits (row (map node_view the_row.trees.now) (node_view the_row.last.now))
-        (D.meaning.dims so_far.old.normal) }
+        (D.abstraction.dims so_far.old.normal) }
     requires leaves { HasLeaves the_row }
-    ensures { OnOk result (Follows nobody D.meaning plan.now
+    ensures { OnOk result (Follows no_interference D.abstraction plan.now
         (row (map node_view the_row.entry.trees.now) (node_view the_row.entry.last.now)) so_far.old so_far.new) }
 {
     let mut left = the_row.trees;
@@ -112,10 +112,10 @@ impl<'a> Flat<'a> {
         so_far: &mut Outcome<D>,
     ) -> Result<(), AllocError>
         requires parts { 1 ≤ plan.now.parts }
-        requires few { D.meaning.dims so_far.old.normal ≤ most_live }
-        requires fits { TreeFits (flat_view self) (D.meaning.dims so_far.old.normal) }
+        requires few { D.abstraction.dims so_far.old.normal ≤ most_live }
+        requires fits { TreeFits (flat_view self) (D.abstraction.dims so_far.old.normal) }
         requires leaves { AreLeaves self }
-        ensures { OnOk result (Follows nobody D.meaning plan.now (flat_view self.entry)
+        ensures { OnOk result (Follows no_interference D.abstraction plan.now (flat_view self.entry)
             so_far.old so_far.new) }
     {
         match self {

@@ -81,7 +81,7 @@ fn value_of<D: Domain>(
     head: &D::Head,
     flag: Option<usize>,
 ) -> Result<(D, Option<usize>), AllocError>
-    ensures { IfOk result (λ r. IsValued D.meaning point flag head.now r.0 r.1) }
+    ensures { IfOk result (λ r. IsValued D.abstraction point flag head.now r.0 r.1) }
 {
     let (value, exactness) = D::value(alloc, head)?;
     Ok((value, note(point, exactness, flag)))
@@ -94,12 +94,12 @@ pub fn start<D: Domain>(
     first: &D,
     flag: Option<usize>,
 ) -> Result<Growing<D, D::Head>, AllocError>
-    requires { D.meaning.dims first.now ≤ most_live }
-    ensures started { IfOk result (λ h. (dropping D.meaning).started first.now
-        (loop_rows the_loop.now.plan.now.widening (D.meaning.dims first.now) the_loop.now.base
+    requires { D.abstraction.dims first.now ≤ most_live }
+    ensures started { IfOk result (λ h. (dropping D.abstraction).started first.now
+        (loop_rows the_loop.now.plan.now.widening (D.abstraction.dims first.now) the_loop.now.base
         (cond_view the_loop.now.condition.now) (node_view the_loop.now.body.now)) h.head) }
-    ensures fits { IfOk result (λ h. RankFits (D.meaning.rank h.head)) }
-    ensures valued { IfOk result (λ h. IsValued D.meaning the_loop.now.point flag h.head h.value h.flag) }
+    ensures fits { IfOk result (λ h. RankFits (D.abstraction.rank h.head)) }
+    ensures valued { IfOk result (λ h. IsValued D.abstraction the_loop.now.point flag h.head h.value h.flag) }
     ensures left { IfOk result (λ h. h.left ≡ the_loop.now.plan.now.delay) }
 {
     let given = rows_of(alloc, the_loop, first.dims())?;
@@ -120,12 +120,12 @@ pub fn grow_by<D: Domain>(
     growing: &mut Growing<D, D::Head>,
     last: &Outcome<D>,
 ) -> Result<bool, AllocError>
-    requires { D.meaning.head_dims growing.old.head ≡ D.meaning.dims last.now.normal }
+    requires { D.abstraction.head_dims growing.old.head ≡ D.abstraction.dims last.now.normal }
     ensures same { IfOk result (λ stable. stable ≡ true → growing.new.value ≡ growing.old.value) }
-    ensures stays { IfOk result (λ stable. stable ≡ true → (dropping D.meaning).stays growing.old.head
+    ensures stays { IfOk result (λ stable. stable ≡ true → (dropping D.abstraction).stays growing.old.head
         last.now.normal (mode_at the_loop.now.plan.now.widening growing.old.left)) }
     ensures grew { IfOk result (λ stable. stable ≡ false → (a : Exactness) ×
-        GrowsBy D.meaning the_loop.now.plan.now.widening the_loop.now.point a growing.old (seen last.now)
+        GrowsBy D.abstraction the_loop.now.plan.now.widening the_loop.now.point a growing.old (seen last.now)
         growing.new) }
 {
     let mode = mode_of(the_loop.plan, growing.left);

@@ -1,7 +1,7 @@
 //! The pass over trees with no tree in them: others don't act there, so that it is the same among any.
 
 ghost use Rattle.std.specs.Prelude.{◌≡◌, ◌≤◌, IfOk, OnOk};
-ghost use Rattle.lra_others.specs.Others.{nobody};
+ghost use Rattle.lra_interference.specs.Interference.{no_interference};
 ghost use Rattle.lra_operations.specs.Graph.{act, check, leave, point as point_node};
 ghost use Rattle.lra_program.specs.ProgramViews.{cond_view};
 ghost use Rattle.lra_operations.specs.GraphViews.{exit_view, op_view};
@@ -28,7 +28,8 @@ fn pass_point<D: Domain>(
     point: usize,
     so_far: &mut Outcome<D>,
 ) -> Result<(), AllocError>
-    ensures { (plan : Plan) → OnOk result (Follows nobody D.meaning plan (point_node point)
+    ensures { (plan : Plan) →
+        OnOk result (Follows no_interference D.abstraction plan (point_node point)
         so_far.old so_far.new) }
 {
     let value = so_far.normal.copy(alloc)?;
@@ -43,9 +44,9 @@ fn pass_act<D: Domain>(
     op: &Op,
     so_far: &mut Outcome<D>,
 ) -> Result<(), AllocError>
-    requires few { D.meaning.dims so_far.old.normal ≤ most_live }
-    requires fits { OpFits (op_view op.now) (D.meaning.dims so_far.old.normal) }
-    ensures { (plan : Plan) → OnOk result (Follows nobody D.meaning plan
+    requires few { D.abstraction.dims so_far.old.normal ≤ most_live }
+    requires fits { OpFits (op_view op.now) (D.abstraction.dims so_far.old.normal) }
+    ensures { (plan : Plan) → OnOk result (Follows no_interference D.abstraction plan
         (act point (op_view op.now)) so_far.old so_far.new) }
 {
     let exactness = change(alloc, op, &mut so_far.normal)?;
@@ -61,8 +62,8 @@ fn pass_check<D: Domain>(
     condition: &Cond,
     so_far: &mut Outcome<D>,
 ) -> Result<(), AllocError>
-    requires { D.meaning.dims so_far.old.normal ≤ most_live }
-    ensures { (plan : Plan) → OnOk result (Follows nobody D.meaning plan
+    requires { D.abstraction.dims so_far.old.normal ≤ most_live }
+    ensures { (plan : Plan) → OnOk result (Follows no_interference D.abstraction plan
         (check point base (cond_view condition.now)) so_far.old so_far.new) }
 {
     let from = Kept {
@@ -88,7 +89,8 @@ fn pass_leave<D: Domain>(
 ) -> Result<(), AllocError>
     requires parts { 1 ≤ plan.now.parts }
     requires few { live ≤ most_live }
-    ensures { OnOk result (Follows nobody D.meaning plan.now (leave live (exit_view exit))
+    ensures { OnOk result
+        (Follows no_interference D.abstraction plan.now (leave live (exit_view exit))
         so_far.old so_far.new) }
 {
     let nothing = D::empty(alloc, live, plan.parts())?;
@@ -104,9 +106,9 @@ pub fn pass_on<D: Domain>(
     so_far: &mut Outcome<D>,
 ) -> Result<(), AllocError>
     requires parts { 1 ≤ plan.now.parts }
-    requires few { D.meaning.dims so_far.old.normal ≤ most_live }
-    requires fits { TreeFits (leaf_view leaf.now) (D.meaning.dims so_far.old.normal) }
-    ensures { OnOk result (Follows nobody D.meaning plan.now (leaf_view leaf.now)
+    requires few { D.abstraction.dims so_far.old.normal ≤ most_live }
+    requires fits { TreeFits (leaf_view leaf.now) (D.abstraction.dims so_far.old.normal) }
+    ensures { OnOk result (Follows no_interference D.abstraction plan.now (leaf_view leaf.now)
         so_far.old so_far.new) }
 {
     match leaf {
@@ -127,9 +129,10 @@ pub fn pass_leaf<D: Domain>(
     flag: Option<usize>,
 ) -> Result<Outcome<D>, AllocError>
     requires parts { 1 ≤ plan.now.parts }
-    requires few { D.meaning.dims value ≤ most_live }
-    requires fits { TreeFits (leaf_view leaf.now) (D.meaning.dims value) }
-    ensures { IfOk result (λ r. IsPassed nobody D.meaning plan.now (leaf_view leaf.now) flag value
+    requires few { D.abstraction.dims value ≤ most_live }
+    requires fits { TreeFits (leaf_view leaf.now) (D.abstraction.dims value) }
+    ensures { IfOk result
+        (λ r. IsPassed no_interference D.abstraction plan.now (leaf_view leaf.now) flag value
         (seen r)) }
 {
     let mut outcome = Outcome::nothing_yet(alloc, value, flag);

@@ -9,7 +9,7 @@ ghost use Rattle.lra_outcomes.specs.Memory.{IsRecalled, AreRecalled, MayRecall};
 
 use crate::outcome::Outcome;
 use lra_domain::Domain;
-use lra_others::Disturb;
+use lra_interference::Interfere;
 use std::alloc::{AllocError, Global};
 
 /// A loop's last pass: the number of its point, its first value, and what it gave.
@@ -69,11 +69,11 @@ impl<D: Drop> Memory<D> {
 
 impl<D: Domain> Memory<D> {
     /// This pass takes the place of the same loop's last one.
-    fn keep<F: Disturb<D>>(&mut self, one: KeptLoop<D>) -> Result<(), AllocError>
+    fn keep<F: Interfere<D>>(&mut self, one: KeptLoop<D>) -> Result<(), AllocError>
         ensures { (others : F) (plan : Plan) (loops : ℕ → Node) (f : Option ℕ) →
-            MayRecall (F.others others) D.meaning plan loops f self.old →
-            IsRecalled (F.others others) D.meaning plan loops f one →
-            OnOk result (MayRecall (F.others others) D.meaning plan loops f self.new) }
+            MayRecall (F.interference others) D.abstraction plan loops f self.old →
+            IsRecalled (F.interference others) D.abstraction plan loops f one →
+            OnOk result (MayRecall (F.interference others) D.abstraction plan loops f self.new) }
     {
         match find_kept(&self.kept, one.point) {
             Some(place) => self.kept[place] = one,
@@ -84,7 +84,7 @@ impl<D: Domain> Memory<D> {
 
     /// What the loop of this point gave, where it began with the same value: passed anew it would give the same, but
     /// for what is flagged so far.
-    fn recall<F: Disturb<D>>(
+    fn recall<F: Interfere<D>>(
         &self,
         alloc: Global,
         point: usize,
@@ -92,8 +92,9 @@ impl<D: Domain> Memory<D> {
         flag: Option<usize>,
     ) -> Result<Option<Outcome<D>>, AllocError>
         ensures { (others : F) (plan : Plan) (loops : ℕ → Node) →
-            MayRecall (F.others others) D.meaning plan loops flag self.now →
-            IfOk result (λ r. AreRecalled (F.others others) D.meaning plan (loops point) flag
+            MayRecall (F.interference others) D.abstraction plan loops flag self.now →
+            IfOk result (λ r. AreRecalled (F.interference others) D.abstraction plan (loops point)
+            flag
             first.now r) }
     {
         let Some(place) = find_kept(&self.kept, point) else {
@@ -108,7 +109,7 @@ impl<D: Domain> Memory<D> {
     }
 
     /// What is kept of this loop, where it began with the same value; else it is under way from now on.
-    pub fn begin<F: Disturb<D>>(
+    pub fn begin<F: Interfere<D>>(
         &mut self,
         alloc: Global,
         point: usize,
@@ -116,8 +117,9 @@ impl<D: Domain> Memory<D> {
         flag: Option<usize>,
     ) -> Result<Option<Outcome<D>>, AllocError>
         ensures given { (others : F) (plan : Plan) (loops : ℕ → Node) →
-            MayRecall (F.others others) D.meaning plan loops flag self.old →
-            IfOk result (λ r. AreRecalled (F.others others) D.meaning plan (loops point) flag
+            MayRecall (F.interference others) D.abstraction plan loops flag self.old →
+            IfOk result (λ r. AreRecalled (F.interference others) D.abstraction plan (loops point)
+            flag
             first.now r) }
         ensures kept { self.new.kept ≡ self.old.kept }
     {
@@ -129,7 +131,7 @@ impl<D: Domain> Memory<D> {
     }
 
     /// The loop of this point is left: what it gave is kept if it stands inside another, and else nothing is.
-    pub fn end<F: Disturb<D>>(
+    pub fn end<F: Interfere<D>>(
         &mut self,
         alloc: Global,
         point: usize,
@@ -137,10 +139,10 @@ impl<D: Domain> Memory<D> {
         outcome: &Outcome<D>,
     ) -> Result<(), AllocError>
         ensures { (others : F) (plan : Plan) (loops : ℕ → Node) →
-            MayRecall (F.others others) D.meaning plan loops outcome.now.flag self.old →
-            IsKept (F.others others) D.meaning plan (loops point) outcome.now.flag first
+            MayRecall (F.interference others) D.abstraction plan loops outcome.now.flag self.old →
+            IsKept (F.interference others) D.abstraction plan (loops point) outcome.now.flag first
             (seen outcome.now) →
-            OnOk result (MayRecall (F.others others) D.meaning plan loops outcome.now.flag
+            OnOk result (MayRecall (F.interference others) D.abstraction plan loops outcome.now.flag
             self.new) }
     {
         self.depth = self.depth.saturating_sub(1);

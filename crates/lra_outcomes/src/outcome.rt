@@ -10,8 +10,8 @@ ghost use Rattle.lra_outcomes.specs.Outcome.{entry_view, ended, seen, AllHave, A
 ghost use Rattle.lra_outcomes.specs.Outcome.{running_on, EntersWith};
 
 use lra_domain::{Domain, Exactness, worse};
+use lra_interference::Interfere;
 use lra_operations::Exit;
-use lra_others::Disturb;
 use std::alloc::{AllocError, Global};
 use std::mem;
 
@@ -359,14 +359,14 @@ impl<D: Drop> Turn<D> {
 
 /// The kept turn of a loop's body, where the same value enters it again: passed anew it would give the same, but for
 /// what is flagged so far.
-fn reuse_turn<D: Domain, F: Disturb<D>>(
+fn reuse_turn<D: Domain, F: Interfere<D>>(
     kept: Option<Turn<D>>,
     on: &D,
     flag: Option<usize>,
 ) -> Option<Turn<D>>
     ensures { (others : F) (plan : Plan) (body : Node) →
-        AreKept (F.others others) D.meaning plan body flag kept →
-        AreGiven (F.others others) D.meaning plan body flag on.now result }
+        AreKept (F.interference others) D.abstraction plan body flag kept →
+        AreGiven (F.interference others) D.abstraction plan body flag on.now result }
 {
     let Some(mut turn) = kept else {
         return None;
@@ -379,15 +379,15 @@ fn reuse_turn<D: Domain, F: Disturb<D>>(
 }
 
 /// The kept turn, where this value entered it, or else the value.
-pub fn enter_with<D: Domain, F: Disturb<D>>(
+pub fn enter_with<D: Domain, F: Interfere<D>>(
     alloc: Global,
     kept: Option<Turn<D>>,
     on: D,
     flag: Option<usize>,
 ) -> Result<Entered<D>, AllocError>
     ensures { (others : F) (plan : Plan) (body : Node) →
-        AreKept (F.others others) D.meaning plan body flag kept →
-        IfOk result (EntersWith (F.others others) D.meaning plan body flag on) }
+        AreKept (F.interference others) D.abstraction plan body flag kept →
+        IfOk result (EntersWith (F.interference others) D.abstraction plan body flag on) }
 {
     match reuse_turn::<D, F>(kept, &on, flag) {
         Some(turn) => Ok(Entered::Again(turn)),
@@ -400,9 +400,9 @@ pub fn enter_with<D: Domain, F: Disturb<D>>(
 
 /// The values joined one by one, from the left.
 pub fn join_all<D: Domain>(value: &mut D, others: &[D]) -> Result<Exactness, AllocError>
-    requires { AllHave D.meaning (D.meaning.dims value.old) others.now }
-    ensures joined { IfOk result (λ e. AreJoined (dropping D.meaning) value.old others.now e value.new) }
-    ensures dims { OnOk result (D.meaning.dims value.new ≡ D.meaning.dims value.old) }
+    requires { AllHave D.abstraction (D.abstraction.dims value.old) others.now }
+    ensures joined { IfOk result (λ e. AreJoined (dropping D.abstraction) value.old others.now e value.new) }
+    ensures dims { OnOk result (D.abstraction.dims value.new ≡ D.abstraction.dims value.old) }
 {
     let mut exactness = Exactness::Exact;
     'others: for other in others {

@@ -2,8 +2,8 @@
 use Rattle.std.proofs.Common.{Box, Global, ◌≡◌, ◌≤◌, true, false, ℕ, List, [], ◌∷◌, ◌++◌, map, Option, Some, refl, sym, ap, subst, ◌∙◌}
 use Rattle.std.specs.Prelude.{option_to_list, IfOk, MatchResult, OnOk}
 use Rattle.std.specs.Prelude as outcome_or
-use Rattle.lra_others.specs.Others.{Others}
-use Rattle.lra_domain.specs.Meaning.{Meaning}
+use Rattle.lra_interference.specs.Interference.{Interference}
+use Rattle.lra_domain.specs.Abstraction.{Abstraction}
 use Rattle.lra_domain.specs.declared.Exactness.{Exactness}
 use Rattle.lra_domain.specs.declared.Exactness.TheVariants.{Exact}
 use Rattle.lra_program.specs.ProgramViews.{cond_view}
@@ -64,7 +64,7 @@ steps_both {V} {H} {E} (outcome_or.Ok n) R O P Q is f o p =
 steps_both {V} {H} {E} (outcome_or.Err e) R O P Q is f o p =
     subst (λ (x : outcome_or.Result (step.Step V H) E). IfOk x Q) (sym is) tt
 
-module _ {V H : Type 0} (o : Others V) (m : Meaning V H) (set : Plan) where
+module _ {V H : Type 0} (o : Interference V) (m : Abstraction V H) (set : Plan) where
   -- one place more, in which this is under way
   pub open_more : (ps : List (place.Place V H)) (p : place.Place V H) (whole under inner : Due V) →
       AreOpen o m set ps whole under → MayBePassed o m set under → IsOpen o m set p under inner →

@@ -2,8 +2,8 @@
 -- whole finds.
 use Rattle.std.proofs.Common.{◌≡◌, ℕ, ◌≤◌, [], Option}
 use Rattle.std.proofs.Common.{sym, ap, subst, ◌∙◌}
-use Rattle.lra_others.specs.Others.{Others}
-use Rattle.lra_domain.specs.Meaning.{Meaning}
+use Rattle.lra_interference.specs.Interference.{Interference}
+use Rattle.lra_domain.specs.Abstraction.{Abstraction}
 use Rattle.lra_operations.specs.Graph as graph
 use Rattle.lra_flow.specs.Room.{most_live}
 use Rattle.lra_flow.specs.Plan.{Plan}
@@ -17,7 +17,7 @@ use Rattle.lra_outcomes.specs.Memory.{HasLoops, MayRecall, Remembers, StaysKept}
 use Rattle.lra_places.specs.Open.{RowLoop}
 use Rattle.lra_outcomes.proofs.PassRows.{seq_passed, turns}
 
-module _ {V H : Type 0} (o : Others V) (m : Meaning V H) (set : Plan) where
+module _ {V H : Type 0} (o : Interference V) (m : Abstraction V H) (set : Plan) where
   -- nothing is found yet
   row_starts : (g : graph.Node) (f : Option ℕ) (v : V) (found : Found V) (memory : Memory V) → m.dims v ≤ most_live →
       TreeFits g (m.dims v) → ((u : V) (d : Option ℕ) → ended found u d ≡ goes_on [] u d)

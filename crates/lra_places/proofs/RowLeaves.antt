@@ -4,8 +4,8 @@ use Rattle.std.specs.Prelude.{IfOk}
 use Rattle.std.proofs.lemmas.Result.{IfOk-weaker}
 use Rattle.std.specs.Prelude as outcome_or
 use Rattle.lra_flow.specs.Plan.{Plan}
-use Rattle.lra_others.specs.Others.{Others}
-use Rattle.lra_domain.specs.Meaning.{Meaning}
+use Rattle.lra_interference.specs.Interference.{Interference}
+use Rattle.lra_domain.specs.Abstraction.{Abstraction}
 use Rattle.lra_operations.specs.declared.graph.Node as node
 use Rattle.lra_operations.specs.Graph.{Node}
 use Rattle.lra_operations.specs.GraphViews.{node_view, row}
@@ -26,7 +26,7 @@ use Rattle.lra_places.proofs.OpenRows.{next_fits, row_ends, row_next, row_stays}
 use Rattle.lra_outcomes.proofs.PassRows.{row_first, row_last, steps_first}
 
 -- whatever is owed where all trees are left, that much is owed where these are
-abbrev pub OwesLess : {V H : Type 0} → Others V → Meaning V H → Plan → List node.Node → List node.Node → node.Node → Outcome V →
+abbrev pub OwesLess : {V H : Type 0} → Interference V → Abstraction V H → Plan → List node.Node → List node.Node → node.Node → Outcome V →
     Outcome V → Type 0
 OwesLess {V} o m plan gs left last begun so_far = (set : Plan) (whole : Due V) (memory : Memory V) →
     plan ≡ set → MayBePassed o m set whole →
@@ -45,7 +45,7 @@ pub steps_within : (k n all : ℕ) → k ≡ n → n ≤ all → k ≤ all
 steps_within k n all is few = omega (arith, is, few)
 
 -- none but the last is left
-pub last_falls : {V H E : Type 0} (m : Meaning V H) (b : ℕ) (set : Plan) (R : outcome_or.Result (next.Next V H) E)
+pub last_falls : {V H E : Type 0} (m : Abstraction V H) (b : ℕ) (set : Plan) (R : outcome_or.Result (next.Next V H) E)
     (gs left : List node.Node) (last : node.Node) → left ≡ [] →
     row_steps (most_rounds b set) left last ≤ row_steps (most_rounds b set) gs last →
     IfOk R (λ n. next_left m b set n ≤ row_steps (most_rounds b set) [] last) →
@@ -56,7 +56,7 @@ last_falls m b set R gs left last none few h =
     IfOk-weaker R (λ n. next_left m b set n ≤ row_steps (most_rounds b set) [] last)
     (λ n. next_left m b set n ≤ row_steps (most_rounds b set) gs last) (λ n here. omega (arith, less, here)) h
 
-module _ {V H : Type 0} (m : Meaning V H) (set : Plan) where
+module _ {V H : Type 0} (m : Abstraction V H) (set : Plan) where
   -- what comes next in a row is less than what was left at its place
   pub row_falls : {E : Type 0} (R : outcome_or.Result (next.Next V H) E) (b n : ℕ) →
       IfOk R (λ x. next_left m b set x ≤ n) → IfOk R (λ x. next_left m b set x < 1 + n)
@@ -69,7 +69,7 @@ module _ {V H : Type 0} (m : Meaning V H) (set : Plan) where
       (λ x here. omega (arith, here, is)) h
 
 -- the row is owed with its own plan
-pub row_way : {V H F : Type 0} (among : F → Others V) (others : F) (m : Meaning V H) (set : Plan) (r : Row)
+pub row_way : {V H F : Type 0} (among : F → Interference V) (others : F) (m : Abstraction V H) (set : Plan) (r : Row)
     (so_far : Outcome V) (whole : Due V) (memory : Memory V) → r.plan.now ≡ set →
     MayBePassed (among others) m set whole → RowLoop (among others) m set whole.tree whole.flag whole.value
     (row (map node_view r.trees.now) (node_view r.last.now)) so_far.found so_far.normal so_far.flag whole.memory memory →
@@ -85,7 +85,7 @@ row_way among others m set r so_far whole memory same may loop = (
       (node_view r.last.now)) so_far.found so_far.normal so_far.flag whole.memory memory) (sym same) loop,
 )
 
-module _ {V H : Type 0} (o : Others V) (m : Meaning V H) (set : Plan) where
+module _ {V H : Type 0} (o : Interference V) (m : Abstraction V H) (set : Plan) where
   -- the first of those that are left fits
   pub first_fits : (gs gs' : List node.Node) (n last : node.Node) (leaf : Node) (whole : Due V) (memory : Memory V)
       (so_far : Outcome V) → gs ≡ n ∷ gs' → node_view n ≡ leaf →

@@ -8,8 +8,8 @@ use Rattle.std.specs.List.{Contains, list_any}
 use Rattle.lra_base.specs.CaseLabels.{are_alike}
 use Rattle.lra_base.specs.declared.case_labels.CaseLabel.{CaseLabel}
 use Rattle.lra_base.specs.declared.case_labels.CaseLabel.TheVariants.{Case, Default}
-use Rattle.lra_others.specs.Others.{Others}
-use Rattle.lra_domain.specs.Meaning.{Meaning, worse}
+use Rattle.lra_interference.specs.Interference.{Interference}
+use Rattle.lra_domain.specs.Abstraction.{Abstraction, worse}
 use Rattle.lra_domain.specs.declared.Exactness.{Exactness}
 use Rattle.lra_domain.specs.declared.Exactness.TheVariants.{Exact}
 use Rattle.lra_program.specs.Program.{Expr}
@@ -52,7 +52,7 @@ use Rattle.lra_outcomes.proofs.PassSteps.{going_on_fits, in_both}
 
 -- no match ------------------------------------------------------------------------------------------------------------
 
-module _ {V H : Type 0} (m : Meaning V H) (base : ℕ) (e : Expr) where
+module _ {V H : Type 0} (m : Abstraction V H) (base : ℕ) (e : Expr) where
   pub default_left : (l : CaseLabel) (labels : List CaseLabel) (v : V) (before : Exactness) (last : V) (all : Exactness) → l ≡ Default
       → NoneSoFar m base e labels v before last all → NoneSoFar m base e (l ∷ labels) v before last all
   default_left l labels v before last all is none = subst (λ (x : CaseLabel). NoneSoFar m base e (x ∷ labels) v before last all) (sym is) none
@@ -81,13 +81,13 @@ module _ {V H : Type 0} (m : Meaning V H) (base : ℕ) (e : Expr) where
   tree_left a g h v before last all is none = subst (λ (x : Arms). NoneSoFar m base e (entries_of x) v before last all) (sym (tree_seen a g h is)) none
 
 -- the labels that are left: what is left of the value where none of them matches is what is left where none at all does
-pub record NoneLoop {V H : Type 0} (m : Meaning V H) (s : Seen) (arms left : List Arm) (first v : V) (so_far : Exactness) : Type 0 where
+pub record NoneLoop {V H : Type 0} (m : Abstraction V H) (s : Seen) (arms left : List Arm) (first v : V) (so_far : Exactness) : Type 0 where
   pub dims : m.dims v ≡ m.dims first
   pub none : (base : ℕ) (e : Expr) → s ≡ seen_of (m.dims first) base e → (last : V) (all : Exactness)
       → NoneSoFar m base e (entries_of (arms_of (map arm_view left))) v so_far last all
       → NoneSoFar m base e (entries_of (arms_of (map arm_view arms))) first Exact last all
 
-module _ {V H : Type 0} (m : Meaning V H) (s : Seen) (arms : List Arm) (first : V) where
+module _ {V H : Type 0} (m : Abstraction V H) (s : Seen) (arms : List Arm) (first : V) where
   pub none_starts : NoneLoop m s arms arms first first Exact
   none_starts = record { dims = refl; none = λ base e seen last all none. none }
 
@@ -115,7 +115,7 @@ pub noted_exact : (q : ℕ) (f : Option ℕ) → noted q Exact f ≡ f
 noted_exact q None = refl
 noted_exact q (Some p) = refl
 
-module _ {V H : Type 0} (m : Meaning V H) where
+module _ {V H : Type 0} (m : Abstraction V H) where
   pub default_entered : (base : ℕ) (e : Expr) (l : CaseLabel) (v other : V) (k : Kept V) → l ≡ Default → k ≡ record { value = other; exactness = Exact }
       → Enters (dropping m) base e l v other k.exactness k.value
   default_entered base e l v other k is same = subst (λ (x : CaseLabel). Enters (dropping m) base e x v other k.exactness k.value) (sym is)
@@ -221,7 +221,7 @@ module _ {V H : Type 0} (m : Meaning V H) where
 nothing_behind : {V : Type 0} (x : Result V) (w : V) (f : Option ℕ) → in_turn x (goes_on [] w f) w f ≡ record x { normal = w; flag = f }
 nothing_behind x w f = same_lists w f _ _ _ _ _ _ _ _ (append-nil x.entries) (append-nil x.breaks) (append-nil x.continues) (append-nil x.returns)
 
-module _ {V H : Type 0} (o : Others V) (m : Meaning V H) (set : Plan) (g : Node) (f : Option ℕ) (v : V) (q base : ℕ) (e : Expr) (d : Bool) (other : V)
+module _ {V H : Type 0} (o : Interference V) (m : Abstraction V H) (set : Plan) (g : Node) (f : Option ℕ) (v : V) (q base : ℕ) (e : Expr) (d : Bool) (other : V)
     (old : Memory V) where
   abbrev Loop : Arms → Found V → Option V → Option ℕ → Memory V → Type 0
   Loop arms found running so_far memory = SelectLoop o m set g f v q base e d other arms found running so_far old memory
@@ -340,13 +340,13 @@ module _ {V H : Type 0} (o : Others V) (m : Meaning V H) (set : Plan) (g : Node)
 
 -- places --------------------------------------------------------------------------------------------------------------
 
-pub seen_wide : {V H : Type 0} (m : Meaning V H) (s : Seen) (v other : V) (live base : ℕ) (e : Expr) → s ≡ seen_of live base e → live ≡ m.dims v → other ≡ v
+pub seen_wide : {V H : Type 0} (m : Abstraction V H) (s : Seen) (v other : V) (live base : ℕ) (e : Expr) → s ≡ seen_of live base e → live ≡ m.dims v → other ≡ v
     → SeenFits s (m.dims other)
 seen_wide m s v other live base e is here same =
     let n : live ≡ m.dims other = here ∙ ap m.dims (sym same) in
     subst (λ (r : Seen). SeenFits r (m.dims other)) (sym is) (subst (λ (k : ℕ). SeenFits (seen_of live base e) k) n (seen_fits live base e))
 
-module _ {V H : Type 0} (o : Others V) (m : Meaning V H) (set : Plan) where
+module _ {V H : Type 0} (o : Interference V) (m : Abstraction V H) (set : Plan) where
   pub selection_begins : (s : Selecting V) (whole : Due V) (arms : Arms) (value : V) (flag : Option ℕ) (x : Exactness) (begun : Running V)
       → whole.tree ≡ select s.selection.point s.selection.base (expr_view s.selection.value.now) arms → whole.value ≡ value → whole.flag ≡ flag
       → MayBePassed o m set whole
@@ -488,7 +488,7 @@ module _ {V H : Type 0} (o : Others V) (m : Meaning V H) (set : Plan) where
       (arm_followed p whole part memory outcome all owed made turn same also)
 
 -- a `switch` is owed with its own plan
-pub arms_way : {V H F : Type 0} (among : F → Others V) (others : F) (m : Meaning V H) (set : Plan) (s : Selecting V) (arms : Arms) (one : Running V)
+pub arms_way : {V H F : Type 0} (among : F → Interference V) (others : F) (m : Abstraction V H) (set : Plan) (s : Selecting V) (arms : Arms) (one : Running V)
     (whole : Due V) (memory : Memory V) → s.selection.plan.now ≡ set
     → MayBePassed (among others) m set whole → IsSelecting (among others) m set s whole
     → SelectsOn (among others) m set s whole arms one.found one.normal one.flag memory
@@ -505,12 +505,12 @@ arms_way among others m set s arms one whole memory plan may here loop = (
 )
 
 -- what runs
-pub run_some : {V H : Type 0} (m : Meaning V H) (n cap : ℕ) (o : Option V) (w : V) → o ≡ Some w → RunsFrom (dropping m) n cap o w
+pub run_some : {V H : Type 0} (m : Abstraction V H) (n cap : ℕ) (o : Option V) (w : V) → o ≡ Some w → RunsFrom (dropping m) n cap o w
 run_some m n cap o w is = subst (λ x. RunsFrom (dropping m) n cap x w) (sym is) refl
 
-pub run_none : {V H E : Type 0} (m : Meaning V H) (R : outcome_or.Result V E) (n k cap parts : ℕ) (o : Option V) → o ≡ None → k ≡ n → parts ≡ cap
-    → IfOk R (λ v. m.void k parts v) → IfOk R (λ v. m.formed v) → IfOk R (λ v. RunsFrom (dropping m) n cap o v)
+pub run_none : {V H E : Type 0} (m : Abstraction V H) (R : outcome_or.Result V E) (n k cap parts : ℕ) (o : Option V) → o ≡ None → k ≡ n → parts ≡ cap
+    → IfOk R (λ v. m.bottom k parts v) → IfOk R (λ v. m.well_formed v) → IfOk R (λ v. RunsFrom (dropping m) n cap o v)
 run_none {V} m (outcome_or.Ok v) n k cap parts o none one two void formed =
     subst (λ (x : Option V). RunsFrom (dropping m) n cap x v) (sym none)
-    (subst (λ (i : ℕ). m.void i cap v) one (subst (λ (i : ℕ). m.void k i v) two void), formed)
+    (subst (λ (i : ℕ). m.bottom i cap v) one (subst (λ (i : ℕ). m.bottom k i v) two void), formed)
 run_none {V} m (outcome_or.Err e) n k cap parts o none one two void formed = tt

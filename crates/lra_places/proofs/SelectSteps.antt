@@ -4,7 +4,7 @@ use Rattle.std.specs.Prelude.{IfOk}
 use Rattle.std.specs.Prelude as outcome_or
 use Rattle.std.proofs.lemmas.List.Sums.{sum_by-cons}
 use Rattle.std.proofs.lemmas.Result.{IfOk-weaker}
-use Rattle.lra_domain.specs.Meaning.{Meaning}
+use Rattle.lra_domain.specs.Abstraction.{Abstraction}
 use Rattle.lra_operations.specs.declared.graph.Arm.{Arm}
 use Rattle.lra_operations.specs.declared.graph.Arm.TheVariants.{Tree}
 use Rattle.lra_operations.specs.declared.graph.Node.{Node}
@@ -30,7 +30,7 @@ tree_less n k arms behind a g is here few =
     let own = ap (arm_steps n) here ∙ tree_steps_of n g in
     omega (arith, first, own, few)
 
-module _ {V H E : Type 0} (m : Meaning V H) (set : Plan) (R : outcome_or.Result (next.Next V H) E) (b : ℕ) where
+module _ {V H E : Type 0} (m : Abstraction V H) (set : Plan) (R : outcome_or.Result (next.Next V H) E) (b : ℕ) where
   pub arms_less : (n all : ℕ) → all ≡ 2 + n → IfOk R (λ x. next_left m b set x ≤ n) → IfOk R (λ x. next_left m b set x < all)
   arms_less n all is h = IfOk-weaker R (λ x. next_left m b set x ≤ n) (λ x. next_left m b set x < all) (λ x here. omega (arith, here, is)) h
 

@@ -4,8 +4,8 @@ use Rattle.std.specs.Prelude.{◌≡◌, ℕ, ◌≤◌, Bool, true, false, List
 use Rattle.std.specs.List.{Contains}
 use Rattle.lra_base.specs.declared.case_labels.CaseLabel.{CaseLabel}
 use Rattle.lra_domain.specs.declared.Exactness.{Exactness}
-use Rattle.lra_others.specs.Others.{Others}
-use Rattle.lra_domain.specs.Meaning.{Meaning, worse}
+use Rattle.lra_interference.specs.Interference.{Interference}
+use Rattle.lra_domain.specs.Abstraction.{Abstraction, worse}
 use Rattle.lra_domain.specs.Rank.{RankFits}
 use Rattle.lra_program.specs.Program.{Expr, Cond}
 use Rattle.lra_program.specs.ProgramViews.{cond_view, expr_view}
@@ -61,7 +61,8 @@ due e memory = record { tree = node_view e.node.now; value = e.value; flag = e.f
 
 -- trees one after the other: what stands behind what was found so far fits, and whatever its pass finds comes behind,
 -- as a pass of the whole
-pub record RowLoop {V H : Type 0} (o : Others V) (m : Meaning V H) (set : Plan) (g : Node) (f : Option ℕ) (v : V)
+pub record RowLoop {V H : Type 0} (o : Interference V) (m : Abstraction V H) (set : Plan) (g : Node) (f : Option ℕ)
+    (v : V)
     (rest : Node) (found : Found V) (behind : V) (so_far : Option ℕ) (old memory : Memory V) : Type 0 where
   pub few : m.dims behind ≤ most_live
   pub fits : TreeFits rest (m.dims behind)
@@ -71,7 +72,8 @@ pub record RowLoop {V H : Type 0} (o : Others V) (m : Meaning V H) (set : Plan) 
       IsPassed o m set g f v (in_turn (ended found behind so_far) t t.normal t.flag)
 
 -- the head grew from the first value: however it grows on, it is a growth of that; the last turn may be given again
-pub record GrowLoop {V H : Type 0} (o : Others V) (m : Meaning V H) (set : Plan) (q base : ℕ) (c : Cond) (a : Node)
+pub record GrowLoop {V H : Type 0} (o : Interference V) (m : Abstraction V H) (set : Plan) (q base : ℕ) (c : Cond)
+    (a : Node)
     (first : V) (f : Option ℕ) (left : ℕ) (so_far : Option ℕ) (head : H)
     (turn : Option (Turn V)) (old memory : Memory V) : Type 0 where
   pub dims : m.head_dims head ≡ m.dims first
@@ -83,14 +85,16 @@ pub record GrowLoop {V H : Type 0} (o : Others V) (m : Meaning V H) (set : Plan)
       HasGrown o m set q base c a first f v r
 
 -- so it did up to this head, whose value is there
-pub record HeadLoop {V H : Type 0} (o : Others V) (m : Meaning V H) (set : Plan) (q base : ℕ) (c : Cond) (a : Node)
+pub record HeadLoop {V H : Type 0} (o : Interference V) (m : Abstraction V H) (set : Plan) (q base : ℕ) (c : Cond)
+    (a : Node)
     (first : V) (f : Option ℕ) (growing : Growing V H) (turn : Option (Turn V)) (old memory : Memory V) : Type 0 where
   pub so_far : Option ℕ
   pub valued : IsValued m q so_far growing.head growing.value growing.flag
   pub loop : GrowLoop o m set q base c a first f growing.left so_far growing.head turn old memory
 
 -- what is narrowed on is a narrowing from the round with which the head was stable; `entered` came into the body last
-pub record NarrowLoop {V H : Type 0} (o : Others V) (m : Meaning V H) (set : Plan) (q base : ℕ) (c : Cond) (a : Node)
+pub record NarrowLoop {V H : Type 0} (o : Interference V) (m : Abstraction V H) (set : Plan) (q base : ℕ) (c : Cond)
+    (a : Node)
     (first start : V) (round : Result V) (left : ℕ) (top entered : V) (last : Result V)
     (old memory : Memory V) : Type 0 where
   pub dims : m.dims top ≡ m.dims first
@@ -102,17 +106,18 @@ pub record NarrowLoop {V H : Type 0} (o : Others V) (m : Meaning V H) (set : Pla
       (headed q top last) v r → NarrowsTo o m set q base c a first start (headed q start round) v r
 
 -- where something runs in a `switch`, it has so many dimensions
-abbrev pub RunHas : {V H : Type 0} → Meaning V H → ℕ → Option V → Type 0
+abbrev pub RunHas : {V H : Type 0} → Abstraction V H → ℕ → Option V → Type 0
 RunHas m n None = ⊤
 RunHas m n (Some v) = m.dims v ≡ n
 
 -- each value with which arms are left by a jump has as many dimensions as live there
-abbrev pub ArmJumpsFit : {V H : Type 0} → Meaning V H → Arms → ℕ → Result V → Type 0
+abbrev pub ArmJumpsFit : {V H : Type 0} → Abstraction V H → Arms → ℕ → Result V → Type 0
 ArmJumpsFit {V} m arms n r = (k : Exit) (u : V) → Contains (jumps_of k r) u → ArmsJumpWith arms n k (m.dims u)
 
 -- the arms of a `switch` at point q: whatever those that are left find, from what runs there, comes behind what was
 -- found so far, as a pass of the whole
-pub record SelectLoop {V H : Type 0} (o : Others V) (m : Meaning V H) (set : Plan) (g : Node) (f : Option ℕ) (v : V)
+pub record SelectLoop {V H : Type 0} (o : Interference V) (m : Abstraction V H) (set : Plan) (g : Node) (f : Option ℕ)
+    (v : V)
     (q base : ℕ) (e : Expr) (has_default : Bool) (other : V) (arms : Arms) (found : Found V) (running : Option V)
     (so_far : Option ℕ) (old memory : Memory V) : Type 0 where
   pub few : m.dims v ≤ most_live
@@ -127,12 +132,13 @@ pub record SelectLoop {V H : Type 0} (o : Others V) (m : Meaning V H) (set : Pla
       IsPassed o m set g f v (in_turn (ended found v so_far) t t.normal t.flag)
 
 -- behind what led to v with this exactness, what is left of it where none of the labels is the expression's value
-abbrev pub NoneSoFar : {V H : Type 0} → Meaning V H → ℕ → Expr → List CaseLabel → V → Exactness → V → Exactness → Type 0
+abbrev pub NoneSoFar : {V H : Type 0} → Abstraction V H → ℕ → Expr → List CaseLabel → V → Exactness → V → Exactness →
+    Type 0
 NoneSoFar m base e labels v before w all = (x : Exactness) × MatchesNone (dropping m) base e labels v x w ×
     (all ≡ worse before x)
 
 -- what came in at a label joins what ran before
-pub record JoinsAt {V H : Type 0} (m : Meaning V H) (q : ℕ) (entered : Kept V) (old new : Running V) : Type 0 where
+pub record JoinsAt {V H : Type 0} (m : Abstraction V H) (q : ℕ) (entered : Kept V) (old new : Running V) : Type 0 where
   pub runs : V
   pub exactness : Exactness
   pub joins : JoinsRunning (dropping m) old.normal entered.value exactness runs
@@ -142,7 +148,7 @@ pub record JoinsAt {V H : Type 0} (m : Meaning V H) (q : ℕ) (entered : Kept V)
   pub dims : m.dims runs ≡ m.dims entered.value
 
 -- what comes in at a label from v, joined to what ran there before
-pub record EntersAt {V H : Type 0} (m : Meaning V H) (q base : ℕ) (e : Expr) (l : CaseLabel) (v other : V)
+pub record EntersAt {V H : Type 0} (m : Abstraction V H) (q base : ℕ) (e : Expr) (l : CaseLabel) (v other : V)
     (old new : Running V) : Type 0 where
   pub entered : V
   pub runs : V
@@ -156,7 +162,7 @@ pub record EntersAt {V H : Type 0} (m : Meaning V H) (q base : ℕ) (e : Expr) (
   pub dims : m.dims runs ≡ m.dims v
 
 -- what comes out behind the last arm
-pub record ComesOutAt {V H : Type 0} (m : Meaning V H) (q : ℕ) (has_default : Bool) (other : V) (old : Running V)
+pub record ComesOutAt {V H : Type 0} (m : Abstraction V H) (q : ℕ) (has_default : Bool) (other : V) (old : Running V)
     (r : Outcome V) : Type 0 where
   pub exactness : Exactness
   pub out : ComesOut (dropping m) has_default old.normal other exactness r.normal
@@ -164,7 +170,7 @@ pub record ComesOutAt {V H : Type 0} (m : Meaning V H) (q : ℕ) (has_default : 
   pub found : r.found ≡ old.found
   pub dims : m.dims r.normal ≡ m.dims other
 
-module _ {V H : Type 0} (o : Others V) (m : Meaning V H) (set : Plan) where
+module _ {V H : Type 0} (o : Interference V) (m : Abstraction V H) (set : Plan) where
   -- the pass can be made
   pub record MayBePassed (d : Due V) : Type 0 where
     pub few : m.dims d.value ≤ most_live

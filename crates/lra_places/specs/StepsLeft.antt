@@ -2,7 +2,7 @@
 use Rattle.std.specs.Prelude.{ℕ, suc, ⊤, ◌<◌, ◌+◌, ◌*◌, List}
 use Rattle.std.specs.List.{sum_by}
 use Rattle.lra_domain.specs.declared.Rank.{Rank}
-use Rattle.lra_domain.specs.Meaning.{Meaning}
+use Rattle.lra_domain.specs.Abstraction.{Abstraction}
 use Rattle.lra_operations.specs.declared.graph.Node.{Node}
 use Rattle.lra_flow.specs.Plan.{Plan}
 use Rattle.lra_places.specs.declared.places.Next as next
@@ -24,7 +24,7 @@ rounds_left b left r = left * (b * (b * (b * b))) + (((r.first * b + r.second) *
 abbrev pub most_rounds : ℕ → Plan → ℕ
 most_rounds b set = set.narrow + suc set.delay * (b * (b * (b * b)))
 
-module _ {V H : Type 0} (m : Meaning V H) (b : ℕ) (set : Plan) where
+module _ {V H : Type 0} (m : Abstraction V H) (b : ℕ) (set : Plan) where
   abbrev pub tree_steps : Node → ℕ
   tree_steps = node_steps (most_rounds b set)
 

@@ -17,14 +17,14 @@ ghost use Rattle.lra_places.specs.StepsLeft.{next_left, place_left, tree_steps};
 use crate::places::{BranchPlace, ChoicePlace, Entering, Next, Place};
 use lra_change::{Kept, Sides, split};
 use lra_domain::{Domain, Exactness};
-use lra_others::Disturb;
+use lra_interference::Interfere;
 use lra_outcomes::{Choice, Outcome, note};
 use std::alloc::{AllocError, Global};
 
 /// What a choice's condition leaves of the value: where it is true, and where it is false.
 fn sides_of<D: Domain>(alloc: Global, choice: &Choice<'_>, value: D) -> Result<Sides<D>, AllocError>
-    requires { D.meaning.dims value ≤ most_live }
-    ensures { IfOk result (λ s. SplitsBy D.meaning choice.now.base true (cond_view choice.now.condition.now)
+    requires { D.abstraction.dims value ≤ most_live }
+    ensures { IfOk result (λ s. SplitsBy D.abstraction choice.now.base true (cond_view choice.now.condition.now)
         (record { value = value; exactness = Exactness.Exact }) s) }
 {
     let from = Kept {
@@ -35,21 +35,23 @@ fn sides_of<D: Domain>(alloc: Global, choice: &Choice<'_>, value: D) -> Result<S
 }
 
 /// The branch where the condition is true is next.
-pub fn open_choice<'a, D: Domain, F: Disturb<D>>(
+pub fn open_choice<'a, D: Domain, F: Interfere<D>>(
     alloc: Global,
     choice: Choice<'a>,
     value: D,
     flag: Option<usize>,
 ) -> Result<Next<'a, D, D::Head>, AllocError>
-    requires { D.meaning.dims value ≤ most_live }
+    requires { D.abstraction.dims value ≤ most_live }
     ensures leads { (others : F) (set : Plan) (whole : Due D) → choice.entry.plan.now ≡ set →
         whole.tree ≡ choose choice.entry.point choice.entry.base (cond_view choice.entry.condition.now)
         (node_view choice.entry.yes.now) (node_view choice.entry.no.now) →
         whole.value ≡ value → whole.flag ≡ flag →
-        MayBePassed (F.others others) D.meaning set whole →
-        IfOk result (λ next. Leads (F.others others) D.meaning set whole next whole.memory) }
-    ensures steps { (b : ℕ) (set : Plan) → IfOk result (λ next. next_left D.meaning b set next
-        ≡ 2 + (tree_steps D.meaning b set choice.entry.no.now + tree_steps D.meaning b set choice.entry.yes.now)) }
+        MayBePassed (F.interference others) D.abstraction set whole →
+        IfOk result (λ next. Leads (F.interference others) D.abstraction set whole next
+        whole.memory) }
+    ensures steps { (b : ℕ) (set : Plan) → IfOk result (λ next. next_left D.abstraction b set next
+        ≡ 2 + (tree_steps D.abstraction b set choice.entry.no.now + tree_steps D.abstraction b set
+        choice.entry.yes.now)) }
 {
     let sides = sides_of(alloc, &choice, value)?;
     let on = sides.on;
@@ -63,18 +65,18 @@ pub fn open_choice<'a, D: Domain, F: Disturb<D>>(
 }
 
 /// Behind the first branch, the one where the condition is false is next.
-pub fn go_on_choice<'a, D: Domain, F: Disturb<D>>(
+pub fn go_on_choice<'a, D: Domain, F: Interfere<D>>(
     alloc: Global,
     place: ChoicePlace<'a, D>,
     first: Outcome<D>,
 ) -> Result<Next<'a, D, D::Head>, AllocError>
     ensures leads { (others : F) (set : Plan) (whole part : Due D) (memory : Memory D) →
-        MayBePassed (F.others others) D.meaning set whole →
-        IsChoice (F.others others) D.meaning set place.entry whole part →
-        IsMade (F.others others) D.meaning set part (seen first) memory →
-        IfOk result (λ next. Leads (F.others others) D.meaning set whole next memory) }
-    ensures falls { (b : ℕ) (set : Plan) → IfOk result (λ next. next_left D.meaning b set next
-        < place_left D.meaning b set (choice_place place.entry)) }
+        MayBePassed (F.interference others) D.abstraction set whole →
+        IsChoice (F.interference others) D.abstraction set place.entry whole part →
+        IsMade (F.interference others) D.abstraction set part (seen first) memory →
+        IfOk result (λ next. Leads (F.interference others) D.abstraction set whole next memory) }
+    ensures falls { (b : ℕ) (set : Plan) → IfOk result (λ next. next_left D.abstraction b set next
+        < place_left D.abstraction b set (choice_place place.entry)) }
 {
     let ChoicePlace { choice, off } = place;
     let branch = Entering {
@@ -92,9 +94,10 @@ pub fn meet_again<D: Domain>(
     place: BranchPlace<D>,
     second: Outcome<D>,
 ) -> Result<Outcome<D>, AllocError>
-    requires { D.meaning.dims place.first.normal ≡ D.meaning.dims second.normal }
-    ensures joined { IfOk result (λ r. AreMet D.meaning place.point (seen place.first) (seen second) (seen r)) }
-    ensures dims { IfOk result (λ r. D.meaning.dims r.normal ≡ D.meaning.dims place.first.normal) }
+    requires { D.abstraction.dims place.first.normal ≡ D.abstraction.dims second.normal }
+    ensures joined { IfOk result (λ r. AreMet D.abstraction place.point (seen place.first) (seen second) (seen r)) }
+    ensures dims { IfOk result
+        (λ r. D.abstraction.dims r.normal ≡ D.abstraction.dims place.first.normal) }
 {
     let BranchPlace {
         point,

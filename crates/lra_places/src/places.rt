@@ -15,8 +15,8 @@ ghost use Rattle.lra_places.specs.StepsLeft.{next_left};
 use lra_change::Kept;
 use lra_domain::Domain;
 use lra_flow::Seen;
+use lra_interference::Interfere;
 use lra_operations::{Arm, Exit, Node};
-use lra_others::Disturb;
 use lra_outcomes::{Choice, Found, Growing, Loop, Outcome, Row, Selection};
 use std::alloc::{AllocError, Global};
 
@@ -217,13 +217,14 @@ impl<'a, D: Drop, H: Drop> Places<'a, D, H> {
 }
 
 /// The tree is passed, with what its pass gave.
-pub fn passed<'a, D: Domain, F: Disturb<D>>(
+pub fn passed<'a, D: Domain, F: Interfere<D>>(
     given: Result<Outcome<D>, AllocError>,
 ) -> Result<Next<'a, D, D::Head>, AllocError>
     ensures leads { (others : F) (set : Plan) (whole : Due D) (memory : Memory D) →
-        IfOk given (λ r. IsMade (F.others others) D.meaning set whole (seen r) memory) →
-        IfOk result (λ next. Leads (F.others others) D.meaning set whole next memory) }
-    ensures ends { (b : ℕ) (set : Plan) → IfOk result (λ next. next_left D.meaning b set next ≡ 0) }
+        IfOk given (λ r. IsMade (F.interference others) D.abstraction set whole (seen r) memory) →
+        IfOk result (λ next. Leads (F.interference others) D.abstraction set whole next memory) }
+    ensures ends { (b : ℕ) (set : Plan) →
+        IfOk result (λ next. next_left D.abstraction b set next ≡ 0) }
 {
     let outcome = given?;
     Ok(Next::Passed(outcome))

@@ -15,26 +15,27 @@ ghost use Rattle.lra_outcomes.specs.Steps.{row_steps};
 
 use crate::places::{Entering, Next, Place, RowPlace};
 use lra_domain::Domain;
+use lra_interference::Interfere;
 use lra_operations::Node;
-use lra_others::Disturb;
 use lra_outcomes::{Flat, Outcome, Plan, Row};
 use std::alloc::{AllocError, Global};
 
 /// The first of the trees behind which these stand is next: what was found before it stays at its place.
-fn open_first<'a, D: Domain, F: Disturb<D>>(
+fn open_first<'a, D: Domain, F: Interfere<D>>(
     behind: Row<'a>,
     node: &'a Node,
     so_far: Outcome<D>,
 ) -> Next<'a, D, D::Head>
     ensures leads { (others : F) (set : Plan) (whole : Due D) (memory : Memory D) (gs : List Node) →
         behind.entry.plan.now ≡ set → gs ≡ node.now ∷ behind.entry.trees.now →
-        MayBePassed (F.others others) D.meaning set whole →
-        RowLoop (F.others others) D.meaning set whole.tree whole.flag whole.value
+        MayBePassed (F.interference others) D.abstraction set whole →
+        RowLoop (F.interference others) D.abstraction set whole.tree whole.flag whole.value
         (row (map node_view gs) (node_view behind.entry.last.now)) so_far.found
         so_far.normal so_far.flag whole.memory memory →
-        Leads (F.others others) D.meaning set whole result memory }
+        Leads (F.interference others) D.abstraction set whole result memory }
     ensures steps { (b : ℕ) (set : Plan) (gs : List Node) → gs ≡ node.now ∷ behind.entry.trees.now →
-        next_left D.meaning b set result ≡ row_steps (most_rounds b set) gs behind.entry.last.now }
+        next_left D.abstraction b set result
+        ≡ row_steps (most_rounds b set) gs behind.entry.last.now }
 {
     let Outcome {
         found,
@@ -46,21 +47,21 @@ fn open_first<'a, D: Domain, F: Disturb<D>>(
 }
 
 /// The last of the trees is passed, or next.
-fn next_of_last<'a, D: Domain, F: Disturb<D>>(
+fn next_of_last<'a, D: Domain, F: Interfere<D>>(
     alloc: Global,
     plan: &'a Plan,
     node: &'a Node,
     mut so_far: Outcome<D>,
 ) -> Result<Next<'a, D, D::Head>, AllocError>
     requires parts { 1 ≤ plan.now.parts }
-    requires few { D.meaning.dims so_far.normal ≤ most_live }
-    requires fits { TreeFits (node_view node.now) (D.meaning.dims so_far.normal) }
+    requires few { D.abstraction.dims so_far.normal ≤ most_live }
+    requires fits { TreeFits (node_view node.now) (D.abstraction.dims so_far.normal) }
     ensures leads { (others : F) (set : Plan) (whole : Due D) (memory : Memory D) →
-        plan.now ≡ set → MayBePassed (F.others others) D.meaning set whole →
-        RowLoop (F.others others) D.meaning set whole.tree whole.flag whole.value
+        plan.now ≡ set → MayBePassed (F.interference others) D.abstraction set whole →
+        RowLoop (F.interference others) D.abstraction set whole.tree whole.flag whole.value
         (node_view node.now) so_far.found so_far.normal so_far.flag whole.memory memory →
-        IfOk result (λ next. Leads (F.others others) D.meaning set whole next memory) }
-    ensures falls { (b : ℕ) (set : Plan) → IfOk result (λ next. next_left D.meaning b set next
+        IfOk result (λ next. Leads (F.interference others) D.abstraction set whole next memory) }
+    ensures falls { (b : ℕ) (set : Plan) → IfOk result (λ next. next_left D.abstraction b set next
         ≤ row_steps (most_rounds b set) [] node.now) }
 {
     if let Some(flat) = Flat::of(plan, node) {
@@ -76,24 +77,25 @@ fn next_of_last<'a, D: Domain, F: Disturb<D>>(
 }
 
 /// Flat trees are passed, up to the first that isn't flat: that one is next.
-fn next_of_row<'a, D: Domain, F: Disturb<D>>(
+fn next_of_row<'a, D: Domain, F: Interfere<D>>(
     alloc: Global,
     the_row: Row<'a>,
     mut so_far: Outcome<D>,
 ) -> Result<Next<'a, D, D::Head>, AllocError>
     requires parts { 1 ≤ the_row.plan.now.parts }
     requires way { (others : F) × (whole : Due D) × (memory : Memory D) ×
-        MayBePassed (F.others others) D.meaning the_row.plan.now whole ×
-        RowLoop (F.others others) D.meaning the_row.plan.now whole.tree whole.flag whole.value
+        MayBePassed (F.interference others) D.abstraction the_row.plan.now whole ×
+        RowLoop (F.interference others) D.abstraction the_row.plan.now whole.tree whole.flag
+        whole.value
         (row (map node_view the_row.trees.now) (node_view the_row.last.now)) so_far.found
         so_far.normal so_far.flag whole.memory memory }
     ensures leads { (others : F) (set : Plan) (whole : Due D) (memory : Memory D) →
-        the_row.entry.plan.now ≡ set → MayBePassed (F.others others) D.meaning set whole →
-        RowLoop (F.others others) D.meaning set whole.tree whole.flag whole.value
+        the_row.entry.plan.now ≡ set → MayBePassed (F.interference others) D.abstraction set whole →
+        RowLoop (F.interference others) D.abstraction set whole.tree whole.flag whole.value
         (row (map node_view the_row.entry.trees.now) (node_view the_row.entry.last.now)) so_far.found
         so_far.normal so_far.flag whole.memory memory →
-        IfOk result (λ next. Leads (F.others others) D.meaning set whole next memory) }
-    ensures falls { (b : ℕ) (set : Plan) → IfOk result (λ next. next_left D.meaning b set next
+        IfOk result (λ next. Leads (F.interference others) D.abstraction set whole next memory) }
+    ensures falls { (b : ℕ) (set : Plan) → IfOk result (λ next. next_left D.abstraction b set next
         ≤ row_steps (most_rounds b set) the_row.entry.trees.now the_row.entry.last.now) }
 {
     let Row { plan, trees, last } = the_row;
@@ -110,7 +112,7 @@ fn next_of_row<'a, D: Domain, F: Disturb<D>>(
 }
 
 /// The first of the trees that isn't flat is next, behind those before it.
-pub fn open_row<'a, D: Domain, F: Disturb<D>>(
+pub fn open_row<'a, D: Domain, F: Interfere<D>>(
     alloc: Global,
     the_row: Row<'a>,
     value: D,
@@ -118,37 +120,39 @@ pub fn open_row<'a, D: Domain, F: Disturb<D>>(
 ) -> Result<Next<'a, D, D::Head>, AllocError>
     requires parts { 1 ≤ the_row.plan.now.parts }
     requires way { (others : F) × (whole : Due D) ×
-        MayBePassed (F.others others) D.meaning the_row.plan.now whole ×
+        MayBePassed (F.interference others) D.abstraction the_row.plan.now whole ×
         (whole.tree ≡ row (map node_view the_row.trees.now) (node_view the_row.last.now)) ×
         (whole.value ≡ value) × (whole.flag ≡ flag) }
     ensures leads { (others : F) (set : Plan) (whole : Due D) → the_row.entry.plan.now ≡ set →
         whole.tree ≡ row (map node_view the_row.entry.trees.now) (node_view the_row.entry.last.now) →
         whole.value ≡ value → whole.flag ≡ flag →
-        MayBePassed (F.others others) D.meaning set whole →
-        IfOk result (λ next. Leads (F.others others) D.meaning set whole next whole.memory) }
-    ensures falls { (b : ℕ) (set : Plan) → IfOk result (λ next. next_left D.meaning b set next
+        MayBePassed (F.interference others) D.abstraction set whole →
+        IfOk result (λ next. Leads (F.interference others) D.abstraction set whole next
+        whole.memory) }
+    ensures falls { (b : ℕ) (set : Plan) → IfOk result (λ next. next_left D.abstraction b set next
         ≤ row_steps (most_rounds b set) the_row.entry.trees.now the_row.entry.last.now) }
 {
     next_of_row::<D, F>(alloc, the_row, Outcome::nothing_yet(alloc, value, flag))
 }
 
 /// What the tree under way found comes behind what was found before it, and the next one begins with its end.
-pub fn go_on_row<'a, D: Domain, F: Disturb<D>>(
+pub fn go_on_row<'a, D: Domain, F: Interfere<D>>(
     alloc: Global,
     place: RowPlace<'a, D>,
     outcome: Outcome<D>,
 ) -> Result<Next<'a, D, D::Head>, AllocError>
     requires { (others : F) × (set : Plan) × (whole : Due D) × (part : Due D) ×
-        (memory : Memory D) × (1 ≤ set.parts) × MayBePassed (F.others others) D.meaning set whole ×
-        IsRow (F.others others) D.meaning set place whole part ×
-        IsMade (F.others others) D.meaning set part (seen outcome) memory }
+        (memory : Memory D) × (1 ≤ set.parts)
+        × MayBePassed (F.interference others) D.abstraction set whole ×
+        IsRow (F.interference others) D.abstraction set place whole part ×
+        IsMade (F.interference others) D.abstraction set part (seen outcome) memory }
     ensures leads { (others : F) (set : Plan) (whole part : Due D) (memory : Memory D) →
-        MayBePassed (F.others others) D.meaning set whole →
-        IsRow (F.others others) D.meaning set place.entry whole part →
-        IsMade (F.others others) D.meaning set part (seen outcome) memory →
-        IfOk result (λ next. Leads (F.others others) D.meaning set whole next memory) }
-    ensures falls { (b : ℕ) (set : Plan) → IfOk result (λ next. next_left D.meaning b set next
-        < place_left D.meaning b set (row_place place.entry)) }
+        MayBePassed (F.interference others) D.abstraction set whole →
+        IsRow (F.interference others) D.abstraction set place.entry whole part →
+        IsMade (F.interference others) D.abstraction set part (seen outcome) memory →
+        IfOk result (λ next. Leads (F.interference others) D.abstraction set whole next memory) }
+    ensures falls { (b : ℕ) (set : Plan) → IfOk result (λ next. next_left D.abstraction b set next
+        < place_left D.abstraction b set (row_place place.entry)) }
 {
     let RowPlace { behind, found } = place;
     let so_far = found.follow_with(outcome)?;

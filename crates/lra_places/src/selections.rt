@@ -28,8 +28,8 @@ use lra_change::{Kept, leave_number};
 use lra_domain::{Domain, Exactness, worse};
 use lra_flow::Seen;
 use lra_forms::see;
+use lra_interference::Interfere;
 use lra_operations::{Arm, Node, any_default};
-use lra_others::Disturb;
 use lra_outcomes::{Outcome, Running, Selection, note};
 use std::alloc::{AllocError, Global};
 
@@ -43,13 +43,13 @@ fn leave_label<D: Domain>(
     value: &mut D,
     before: Exactness,
 ) -> Result<Exactness, AllocError>
-    requires few { D.meaning.dims value.old ≤ most_live }
-    requires width { SeenFits seen.now (D.meaning.dims value.old) }
+    requires few { D.abstraction.dims value.old ≤ most_live }
+    requires width { SeenFits seen.now (D.abstraction.dims value.old) }
     ensures leaves { (base : ℕ) (e : Expr) (labels : List CaseLabel) (last : D) (all : Exactness) →
-        seen.now ≡ seen_of (D.meaning.dims value.old) base e → IfOk result (λ x.
-        NoneSoFar D.meaning base e labels value.new x last all →
-        NoneSoFar D.meaning base e (label.now ∷ labels) value.old before last all) }
-    ensures dims { OnOk result (D.meaning.dims value.new ≡ D.meaning.dims value.old) }
+        seen.now ≡ seen_of (D.abstraction.dims value.old) base e → IfOk result (λ x.
+        NoneSoFar D.abstraction base e labels value.new x last all →
+        NoneSoFar D.abstraction base e (label.now ∷ labels) value.old before last all) }
+    ensures dims { OnOk result (D.abstraction.dims value.new ≡ D.abstraction.dims value.old) }
 {
     match label {
         CaseLabel::Default => Ok(before),
@@ -68,14 +68,14 @@ fn leave_arm<D: Domain>(
     value: &mut D,
     before: Exactness,
 ) -> Result<Exactness, AllocError>
-    requires few { D.meaning.dims value.old ≤ most_live }
-    requires width { SeenFits seen.now (D.meaning.dims value.old) }
+    requires few { D.abstraction.dims value.old ≤ most_live }
+    requires width { SeenFits seen.now (D.abstraction.dims value.old) }
     ensures leaves { (base : ℕ) (e : Expr) (behind : Arms) (last : D) (all : Exactness) →
-        seen.now ≡ seen_of (D.meaning.dims value.old) base e → IfOk result (λ x.
-        NoneSoFar D.meaning base e (entries_of behind) value.new x last all →
-        NoneSoFar D.meaning base e (entries_of
+        seen.now ≡ seen_of (D.abstraction.dims value.old) base e → IfOk result (λ x.
+        NoneSoFar D.abstraction base e (entries_of behind) value.new x last all →
+        NoneSoFar D.abstraction base e (entries_of
         (arm_view arm.now behind)) value.old before last all) }
-    ensures dims { OnOk result (D.meaning.dims value.new ≡ D.meaning.dims value.old) }
+    ensures dims { OnOk result (D.abstraction.dims value.new ≡ D.abstraction.dims value.old) }
 {
     match arm {
         Arm::Entry(label) => leave_label(alloc, seen, label, value, before),
@@ -90,13 +90,14 @@ fn leave_all<D: Domain>(
     arms: &[Arm],
     value: &mut D,
 ) -> Result<Exactness, AllocError>
-    requires few { D.meaning.dims value.old ≤ most_live }
-    requires width { SeenFits seen.now (D.meaning.dims value.old) }
-    ensures leaves { (base : ℕ) (e : Expr) → seen.now ≡ seen_of (D.meaning.dims value.old) base e →
-        IfOk result (λ x. MatchesNone (dropping D.meaning) base e (entries_of (arms_of
+    requires few { D.abstraction.dims value.old ≤ most_live }
+    requires width { SeenFits seen.now (D.abstraction.dims value.old) }
+    ensures leaves { (base : ℕ) (e : Expr) →
+        seen.now ≡ seen_of (D.abstraction.dims value.old) base e →
+        IfOk result (λ x. MatchesNone (dropping D.abstraction) base e (entries_of (arms_of
         (map arm_view arms.now)))
         value.old x value.new) }
-    ensures dims { OnOk result (D.meaning.dims value.new ≡ D.meaning.dims value.old) }
+    ensures dims { OnOk result (D.abstraction.dims value.new ≡ D.abstraction.dims value.old) }
 {
     let mut exactness = Exactness::Exact;
     let mut left = arms;
@@ -114,13 +115,14 @@ fn match_none<D: Domain>(
     arms: &[Arm],
     from: &D,
 ) -> Result<Kept<D>, AllocError>
-    requires few { D.meaning.dims from.now ≤ most_live }
-    requires width { SeenFits seen.now (D.meaning.dims from.now) }
-    ensures leaves { (base : ℕ) (e : Expr) → seen.now ≡ seen_of (D.meaning.dims from.now) base e →
-        IfOk result (λ k. MatchesNone (dropping D.meaning) base e (entries_of (arms_of
+    requires few { D.abstraction.dims from.now ≤ most_live }
+    requires width { SeenFits seen.now (D.abstraction.dims from.now) }
+    ensures leaves { (base : ℕ) (e : Expr) →
+        seen.now ≡ seen_of (D.abstraction.dims from.now) base e →
+        IfOk result (λ k. MatchesNone (dropping D.abstraction) base e (entries_of (arms_of
         (map arm_view arms.now)))
         from.now k.exactness k.value) }
-    ensures dims { IfOk result (λ k. D.meaning.dims k.value ≡ D.meaning.dims from.now) }
+    ensures dims { IfOk result (λ k. D.abstraction.dims k.value ≡ D.abstraction.dims from.now) }
 {
     let mut value = from.copy(alloc)?;
     let exactness = leave_all(alloc, seen, arms, &mut value)?;
@@ -136,12 +138,12 @@ fn enter_case<D: Domain>(
     from: &D,
     number: &i64,
 ) -> Result<Kept<D>, AllocError>
-    requires few { D.meaning.dims from.now ≤ most_live }
-    requires width { SeenFits seen.now (D.meaning.dims from.now) }
-    ensures leaves { IfOk result (λ k. Does D.meaning
-        (number_moves (D.meaning.dims from.now) true seen.now number.now) from.now k.exactness
+    requires few { D.abstraction.dims from.now ≤ most_live }
+    requires width { SeenFits seen.now (D.abstraction.dims from.now) }
+    ensures leaves { IfOk result (λ k. Does D.abstraction
+        (number_moves (D.abstraction.dims from.now) true seen.now number.now) from.now k.exactness
         k.value) }
-    ensures dims { IfOk result (λ k. D.meaning.dims k.value ≡ D.meaning.dims from.now) }
+    ensures dims { IfOk result (λ k. D.abstraction.dims k.value ≡ D.abstraction.dims from.now) }
 {
     let mut value = from.copy(alloc)?;
     let exactness = leave_number(alloc, seen, number, true, &mut value)?;
@@ -163,15 +165,17 @@ fn enter_at<D: Domain>(
     selecting: &Selecting<'_, D>,
     label: &CaseLabel,
 ) -> Result<Kept<D>, AllocError>
-    requires few { D.meaning.dims selecting.now.from ≤ most_live }
-    requires width { SeenFits selecting.now.seen (D.meaning.dims selecting.now.from) }
-    requires other { D.meaning.dims selecting.now.other ≡ D.meaning.dims selecting.now.from }
+    requires few { D.abstraction.dims selecting.now.from ≤ most_live }
+    requires width { SeenFits selecting.now.seen (D.abstraction.dims selecting.now.from) }
+    requires other { D.abstraction.dims selecting.now.other
+        ≡ D.abstraction.dims selecting.now.from }
     ensures enters { (base : ℕ) (e : Expr) →
-        selecting.now.seen ≡ seen_of (D.meaning.dims selecting.now.from) base e →
+        selecting.now.seen ≡ seen_of (D.abstraction.dims selecting.now.from) base e →
         IfOk result (λ k. Enters
-        (dropping D.meaning) base e label.now selecting.now.from selecting.now.other
+        (dropping D.abstraction) base e label.now selecting.now.from selecting.now.other
         k.exactness k.value) }
-    ensures dims { IfOk result (λ k. D.meaning.dims k.value ≡ D.meaning.dims selecting.now.from) }
+    ensures dims { IfOk result
+        (λ k. D.abstraction.dims k.value ≡ D.abstraction.dims selecting.now.from) }
 {
     match label {
         CaseLabel::Default => enter_default(alloc, &selecting.other),
@@ -185,8 +189,8 @@ fn join_running<D: Domain>(
     so_far: Running<D>,
     entered: Kept<D>,
 ) -> Result<Running<D>, AllocError>
-    requires { RunHas D.meaning (D.meaning.dims entered.value) so_far.normal }
-    ensures { IfOk result (λ r. JoinsAt D.meaning point entered so_far r) }
+    requires { RunHas D.abstraction (D.abstraction.dims entered.value) so_far.normal }
+    ensures { IfOk result (λ r. JoinsAt D.abstraction point entered so_far r) }
 {
     let Running {
         found,
@@ -223,13 +227,14 @@ fn enter<D: Domain>(
     label: &CaseLabel,
     so_far: Running<D>,
 ) -> Result<Running<D>, AllocError>
-    requires few { D.meaning.dims selecting.now.from ≤ most_live }
-    requires width { SeenFits selecting.now.seen (D.meaning.dims selecting.now.from) }
-    requires other { D.meaning.dims selecting.now.other ≡ D.meaning.dims selecting.now.from }
-    requires running { RunHas D.meaning (D.meaning.dims selecting.now.from) so_far.normal }
+    requires few { D.abstraction.dims selecting.now.from ≤ most_live }
+    requires width { SeenFits selecting.now.seen (D.abstraction.dims selecting.now.from) }
+    requires other { D.abstraction.dims selecting.now.other
+        ≡ D.abstraction.dims selecting.now.from }
+    requires running { RunHas D.abstraction (D.abstraction.dims selecting.now.from) so_far.normal }
     ensures { (base : ℕ) (e : Expr) →
-        selecting.now.seen ≡ seen_of (D.meaning.dims selecting.now.from) base e →
-        IfOk result (λ r. EntersAt D.meaning selecting.now.selection.point base e label.now
+        selecting.now.seen ≡ seen_of (D.abstraction.dims selecting.now.from) base e →
+        IfOk result (λ r. EntersAt D.abstraction selecting.now.selection.point base e label.now
         selecting.now.from
         selecting.now.other so_far r) }
 {
@@ -244,12 +249,12 @@ fn value_of_run<D: Domain>(
     normal: Option<D>,
 ) -> Result<D, AllocError>
     requires parts { 1 ≤ selecting.now.selection.plan.now.parts }
-    requires few { D.meaning.dims selecting.now.from ≤ most_live }
-    ensures from { IfOk result (λ v. RunsFrom (dropping D.meaning)
-        (D.meaning.dims selecting.now.from)
+    requires few { D.abstraction.dims selecting.now.from ≤ most_live }
+    ensures from { IfOk result (λ v. RunsFrom (dropping D.abstraction)
+        (D.abstraction.dims selecting.now.from)
         selecting.now.selection.plan.now.parts normal v) }
-    ensures dims { RunHas D.meaning (D.meaning.dims selecting.now.from) normal →
-        IfOk result (λ v. D.meaning.dims v ≡ D.meaning.dims selecting.now.from) }
+    ensures dims { RunHas D.abstraction (D.abstraction.dims selecting.now.from) normal →
+        IfOk result (λ v. D.abstraction.dims v ≡ D.abstraction.dims selecting.now.from) }
 {
     match normal {
         Some(value) => Ok(value),
@@ -262,7 +267,7 @@ fn value_of_run<D: Domain>(
 }
 
 /// The tree of an arm is next: the arms behind it, and what was found before it, stay at its place.
-fn open_arm<'a, D: Domain, F: Disturb<D>>(
+fn open_arm<'a, D: Domain, F: Interfere<D>>(
     alloc: Global,
     selecting: Selecting<'a, D>,
     node: &'a Node,
@@ -270,17 +275,18 @@ fn open_arm<'a, D: Domain, F: Disturb<D>>(
     so_far: Running<D>,
 ) -> Result<Next<'a, D, D::Head>, AllocError>
     requires parts { 1 ≤ selecting.selection.plan.now.parts }
-    requires few { D.meaning.dims selecting.from ≤ most_live }
+    requires few { D.abstraction.dims selecting.from ≤ most_live }
     ensures leads { (others : F) (set : Plan) (whole : Due D) (memory : Memory D) →
         selecting.entry.selection.plan.now ≡ set →
-        MayBePassed (F.others others) D.meaning set whole →
-        IsSelecting (F.others others) D.meaning set selecting.entry whole →
-        SelectsOn (F.others others) D.meaning set selecting.entry whole
+        MayBePassed (F.interference others) D.abstraction set whole →
+        IsSelecting (F.interference others) D.abstraction set selecting.entry whole →
+        SelectsOn (F.interference others) D.abstraction set selecting.entry whole
         (arm (node_view node.now) (arms_of (map arm_view behind.now)))
         so_far.found so_far.normal so_far.flag memory →
-        IfOk result (λ next. Leads (F.others others) D.meaning set whole next memory) }
-    ensures steps { (b : ℕ) (set : Plan) → IfOk result (λ next. next_left D.meaning b set next
-        ≡ (1 + arms_steps (most_rounds b set) behind.now) + tree_steps D.meaning b set node.now) }
+        IfOk result (λ next. Leads (F.interference others) D.abstraction set whole next memory) }
+    ensures steps { (b : ℕ) (set : Plan) → IfOk result (λ next. next_left D.abstraction b set next
+        ≡ (1 + arms_steps (most_rounds b set) behind.now) + tree_steps D.abstraction b set
+        node.now) }
 {
     let Running {
         found,
@@ -304,8 +310,8 @@ fn join_other<D: Domain>(
     other: &D,
     running: Outcome<D>,
 ) -> Result<Outcome<D>, AllocError>
-    requires { D.meaning.dims running.normal ≡ D.meaning.dims other.now }
-    ensures { IfOk result (λ r. ComesOutAt D.meaning point has_default other.now
+    requires { D.abstraction.dims running.normal ≡ D.abstraction.dims other.now }
+    ensures { IfOk result (λ r. ComesOutAt D.abstraction point has_default other.now
         (running_on running) r) }
 {
     if has_default {
@@ -329,8 +335,8 @@ fn come_out<D: Domain>(
     selecting: Selecting<'_, D>,
     so_far: Running<D>,
 ) -> Result<Outcome<D>, AllocError>
-    requires { RunHas D.meaning (D.meaning.dims selecting.other) so_far.normal }
-    ensures { IfOk result (λ r. ComesOutAt D.meaning selecting.entry.selection.point
+    requires { RunHas D.abstraction (D.abstraction.dims selecting.other) so_far.normal }
+    ensures { IfOk result (λ r. ComesOutAt D.abstraction selecting.entry.selection.point
         selecting.entry.has_default
         selecting.entry.other so_far r) }
 {
@@ -360,7 +366,7 @@ fn come_out<D: Domain>(
 }
 
 /// The labels that come next are entered, then the tree behind them is next; where no arm is left, the whole is passed.
-fn next_of_arms<'a, D: Domain, F: Disturb<D>>(
+fn next_of_arms<'a, D: Domain, F: Interfere<D>>(
     alloc: Global,
     selecting: Selecting<'a, D>,
     arms: &'a [Arm],
@@ -368,18 +374,19 @@ fn next_of_arms<'a, D: Domain, F: Disturb<D>>(
 ) -> Result<Next<'a, D, D::Head>, AllocError>
     requires parts { 1 ≤ selecting.selection.plan.now.parts }
     requires way { (others : F) × (whole : Due D) × (memory : Memory D) ×
-        MayBePassed (F.others others) D.meaning selecting.selection.plan.now whole ×
-        IsSelecting (F.others others) D.meaning selecting.selection.plan.now selecting whole ×
-        SelectsOn (F.others others) D.meaning selecting.selection.plan.now selecting whole
+        MayBePassed (F.interference others) D.abstraction selecting.selection.plan.now whole ×
+        IsSelecting (F.interference others) D.abstraction selecting.selection.plan.now selecting
+        whole ×
+        SelectsOn (F.interference others) D.abstraction selecting.selection.plan.now selecting whole
         (arms_of (map arm_view arms.now)) so_far.found so_far.normal so_far.flag memory }
     ensures leads { (others : F) (set : Plan) (whole : Due D) (memory : Memory D) →
         selecting.entry.selection.plan.now ≡ set →
-        MayBePassed (F.others others) D.meaning set whole →
-        IsSelecting (F.others others) D.meaning set selecting.entry whole →
-        SelectsOn (F.others others) D.meaning set selecting.entry whole
+        MayBePassed (F.interference others) D.abstraction set whole →
+        IsSelecting (F.interference others) D.abstraction set selecting.entry whole →
+        SelectsOn (F.interference others) D.abstraction set selecting.entry whole
         (arms_of (map arm_view arms.now)) so_far.found so_far.normal so_far.flag memory →
-        IfOk result (λ next. Leads (F.others others) D.meaning set whole next memory) }
-    ensures falls { (b : ℕ) (set : Plan) → IfOk result (λ next. next_left D.meaning b set next
+        IfOk result (λ next. Leads (F.interference others) D.abstraction set whole next memory) }
+    ensures falls { (b : ℕ) (set : Plan) → IfOk result (λ next. next_left D.abstraction b set next
         ≤ arms_steps (most_rounds b set) arms.now) }
 {
     let mut running = so_far;
@@ -397,20 +404,20 @@ fn next_of_arms<'a, D: Domain, F: Disturb<D>>(
 }
 
 /// What a `switch` begins with: what is seen of the value, and what no label matches. Nothing runs in its arms yet.
-fn begin_selection<'a, D: Domain, F: Disturb<D>>(
+fn begin_selection<'a, D: Domain, F: Interfere<D>>(
     alloc: Global,
     selection: Selection<'a>,
     value: D,
     flag: Option<usize>,
 ) -> Result<(Selecting<'a, D>, Running<D>), AllocError>
-    requires { D.meaning.dims value ≤ most_live }
+    requires { D.abstraction.dims value ≤ most_live }
     ensures { (others : F) (set : Plan) (whole : Due D) → selection.entry.plan.now ≡ set →
         whole.tree ≡ select selection.entry.point selection.entry.base
         (expr_view selection.entry.value.now)
         (arms_of (map arm_view selection.entry.arms.now)) → whole.value ≡ value →
-        whole.flag ≡ flag → MayBePassed (F.others others) D.meaning set whole →
-        IfOk result (λ r. IsSelecting (F.others others) D.meaning set r.0 whole ×
-        SelectsOn (F.others others) D.meaning set r.0 whole
+        whole.flag ≡ flag → MayBePassed (F.interference others) D.abstraction set whole →
+        IfOk result (λ r. IsSelecting (F.interference others) D.abstraction set r.0 whole ×
+        SelectsOn (F.interference others) D.abstraction set r.0 whole
         (arms_of (map arm_view selection.entry.arms.now))
         r.1.found r.1.normal r.1.flag whole.memory) }
 {
@@ -428,7 +435,7 @@ fn begin_selection<'a, D: Domain, F: Disturb<D>>(
 }
 
 /// The first tree in the `switch` is next: first comes the value of no match, then the labels before that tree.
-pub fn open_selection<'a, D: Domain, F: Disturb<D>>(
+pub fn open_selection<'a, D: Domain, F: Interfere<D>>(
     alloc: Global,
     selection: Selection<'a>,
     value: D,
@@ -436,7 +443,7 @@ pub fn open_selection<'a, D: Domain, F: Disturb<D>>(
 ) -> Result<Next<'a, D, D::Head>, AllocError>
     requires parts { 1 ≤ selection.plan.now.parts }
     requires way { (others : F) × (whole : Due D) ×
-        MayBePassed (F.others others) D.meaning selection.plan.now whole ×
+        MayBePassed (F.interference others) D.abstraction selection.plan.now whole ×
         (whole.tree ≡ select selection.point selection.base (expr_view selection.value.now)
         (arms_of (map arm_view selection.arms.now))) × (whole.value ≡ value) × (whole.flag ≡ flag) }
     ensures leads { (others : F) (set : Plan) (whole : Due D) → selection.entry.plan.now ≡ set →
@@ -444,9 +451,10 @@ pub fn open_selection<'a, D: Domain, F: Disturb<D>>(
         (expr_view selection.entry.value.now)
         (arms_of (map arm_view selection.entry.arms.now)) → whole.value ≡ value →
         whole.flag ≡ flag →
-        MayBePassed (F.others others) D.meaning set whole →
-        IfOk result (λ next. Leads (F.others others) D.meaning set whole next whole.memory) }
-    ensures falls { (b : ℕ) (set : Plan) → IfOk result (λ next. next_left D.meaning b set next
+        MayBePassed (F.interference others) D.abstraction set whole →
+        IfOk result (λ next. Leads (F.interference others) D.abstraction set whole next
+        whole.memory) }
+    ensures falls { (b : ℕ) (set : Plan) → IfOk result (λ next. next_left D.abstraction b set next
         ≤ arms_steps (most_rounds b set) selection.entry.arms.now) }
 {
     let (selecting, so_far) = begin_selection::<D, F>(alloc, selection, value, flag)?;
@@ -454,21 +462,22 @@ pub fn open_selection<'a, D: Domain, F: Disturb<D>>(
 }
 
 /// What the tree of an arm gave comes behind what was found before it, and runs on in the arms behind.
-pub fn go_on_selection<'a, D: Domain, F: Disturb<D>>(
+pub fn go_on_selection<'a, D: Domain, F: Interfere<D>>(
     alloc: Global,
     place: SelectPlace<'a, D>,
     outcome: Outcome<D>,
 ) -> Result<Next<'a, D, D::Head>, AllocError>
     requires { (others : F) × (set : Plan) × (whole : Due D) × (part : Due D) ×
-        (memory : Memory D) × (1 ≤ set.parts) × MayBePassed (F.others others) D.meaning set whole ×
-        IsSelect (F.others others) D.meaning set place whole part ×
-        IsMade (F.others others) D.meaning set part (seen outcome) memory }
+        (memory : Memory D) × (1 ≤ set.parts)
+        × MayBePassed (F.interference others) D.abstraction set whole ×
+        IsSelect (F.interference others) D.abstraction set place whole part ×
+        IsMade (F.interference others) D.abstraction set part (seen outcome) memory }
     ensures leads { (others : F) (set : Plan) (whole part : Due D) (memory : Memory D) →
-        MayBePassed (F.others others) D.meaning set whole →
-        IsSelect (F.others others) D.meaning set place.entry whole part →
-        IsMade (F.others others) D.meaning set part (seen outcome) memory →
-        IfOk result (λ next. Leads (F.others others) D.meaning set whole next memory) }
-    ensures falls { (b : ℕ) (set : Plan) → IfOk result (λ next. next_left D.meaning b set next
+        MayBePassed (F.interference others) D.abstraction set whole →
+        IsSelect (F.interference others) D.abstraction set place.entry whole part →
+        IsMade (F.interference others) D.abstraction set part (seen outcome) memory →
+        IfOk result (λ next. Leads (F.interference others) D.abstraction set whole next memory) }
+    ensures falls { (b : ℕ) (set : Plan) → IfOk result (λ next. next_left D.abstraction b set next
         ≤ arms_steps (most_rounds b set) place.entry.behind.now) }
 {
     let SelectPlace {

@@ -3,7 +3,7 @@ use Rattle.std.proofs.Common.{◌≡◌, ◌∙◌, ℕ, suc, ℤ, pos, List, �
 use Rattle.std.specs.Prelude.{slice_set}
 use Rattle.std.proofs.Math.ListN.{length-set}
 use Rattle.lra_domain.specs.Actions.{Leads, assign, test}
-use Rattle.lra_domain.specs.Backward.{GoesBack, MeetsBoth}
+use Rattle.lra_domain.specs.Backward.{TransfersBackTo, MeetsBoth}
 use Rattle.lra_linear_forms.specs.Form.{Form, form_row, form_value}
 use Rattle.lra_linear_spec.specs.Descriptions.{Con}
 use Rattle.lra_linear_spec.specs.Representable.{IsRepresentable}
@@ -36,7 +36,7 @@ as_long x e s t n l long = sym (length-set {A = ℤ} s x (form_value e s)) ∙ s
 
 pub undoes_assignment : (x : ℕ) (e : Form) (p r : Polyhedron) (o : Outcome) → IsRepresentable r →
     Becomes p.dims (Preimage (suc x) (form_row e) (Con p.rows)) (PreimageStrains (suc x) (form_row e) p) r o →
-    GoesBack polyhedron_meaning polyhedron_retracing (assign x e) p (exactness_of o) r
+    TransfersBackTo polyhedron_meaning polyhedron_retracing (assign x e) p (exactness_of o) r
 undoes_assignment x e p r o fine b = record {
   formed = fine;
   stores = λ s t has l.
@@ -52,7 +52,7 @@ undoes_assignment x e p r o fine b = record {
 -- a store that passes and is in P behind the test was there before it
 pub undoes_test : (kind : ConKind) (e : Form) (p r : Polyhedron) (o : Outcome) → length e.coefficients ≡ p.dims → IsRepresentable r →
     Becomes p.dims (reached (test kind e) p) (AddTestStrains p (test_row kind e)) r o →
-    GoesBack polyhedron_meaning polyhedron_retracing (test kind e) p (exactness_of o) r
+    TransfersBackTo polyhedron_meaning polyhedron_retracing (test kind e) p (exactness_of o) r
 undoes_test kind e p r o width fine b = record {
   formed = fine;
   stores = λ s t has l.

@@ -1,7 +1,7 @@
 -- The least changes and the join: what the operations give keeps the points and covers what is defined.
 use Rattle.std.proofs.Common.{◌≡◌, ◌∙◌, ℕ, inl, inr, sym, subst}
 use Rattle.lra_domain.specs.Actions.{Action, ActionFits, dims_after}
-use Rattle.lra_domain.specs.Meaning.{Joins, Meets}
+use Rattle.lra_domain.specs.Abstraction.{Joins, TransfersTo}
 use Rattle.lra_linear_spec.specs.Descriptions.{Con}
 use Rattle.lra_linear_spec.specs.Representable.{IsRepresentable}
 use Rattle.lra_linear_spec.specs.OperationStrain.{HullStrains}
@@ -17,7 +17,7 @@ use Rattle.lra_polydom.proofs.OutcomeLemmas.{of_exact, of_flagged}
 
 -- ---- what the operations give
 pub changes : (step : Action) (p r : Polyhedron) (o : Outcome) → ActionFits step p.dims → IsRepresentable r →
-    Becomes (dims_after step p.dims) (reached step p) (ChangeStrains step p) r o → Meets polyhedron_meaning step p (exactness_of o) r
+    Becomes (dims_after step p.dims) (reached step p) (ChangeStrains step p) r o → TransfersTo polyhedron_meaning step p (exactness_of o) r
 changes step p r o fits fine b = record {
   formed = fine;
   keeps = record { fits = fits; dims = b.dims; within = b.within };

@@ -4,7 +4,7 @@ use Rattle.std.specs.Prelude.{◌||◌, IsTrue}
 use Rattle.std.specs.List.{Contains}
 use Rattle.std.proofs.lemmas.Bool.{false≢true, or_parts}
 use Rattle.std.proofs.lemmas.List.Elements.{Contains-append_right}
-use Rattle.lra_domain.specs.Meaning.{Grew}
+use Rattle.lra_domain.specs.Abstraction.{Grew}
 use Rattle.lra_domain.specs.Rank.{RankBelow}
 use Rattle.lra_domain.specs.declared.Exactness.{Exactness}
 use Rattle.lra_domain.specs.declared.Exactness.TheVariants as degree

@@ -3,7 +3,7 @@ use Rattle.std.proofs.Common.{◌≡◌, ◌∙◌, ℕ, ℤ, pos, Bool, true, f
 use Rattle.std.specs.Prelude.{◌↔◌, IsTrue}
 use Rattle.std.specs.List.{All, list_any}
 use Rattle.std.proofs.lemmas.List.Elements.{All-cons, All-nil}
-use Rattle.lra_domain.specs.Laws.{PartsTell}
+use Rattle.lra_domain.specs.Laws.{PartsAreExact}
 use Rattle.lra_domain.specs.Parts.{SomePartHolds}
 use Rattle.lra_linear_spec.specs.Descriptions.{Con, LinearRow, rows_of}
 use Rattle.lra_linear_spec.specs.Kinds.{constraint_kind, is_equality}
@@ -108,5 +108,5 @@ void_stores n p d none s h = none (pos 1 ∷ s) (store_point n s (h.0 ∙ d)) h.
 pub parts_hold : (p : Polyhedron) (s : List ℤ) → PolyhedronHas p s → SomePartHolds (polyhedron_parts p) s
 parts_hold p s h = (parts_mean p s h.0).0 h
 
-pub parts_tell : (p : Polyhedron) → PartsTell polyhedron_meaning p
+pub parts_tell : (p : Polyhedron) → PartsAreExact polyhedron_meaning p
 parts_tell p = λ s long h. (parts_mean p s long).1 h

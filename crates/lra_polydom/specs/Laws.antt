@@ -1,10 +1,10 @@
 -- The laws of polyhedra.
 use Rattle.std.proofs.Common.{◌≡◌, ◌∙◌, ◌≤◌, ℕ, suc, ℤ, pos, List, [], ◌∷◌, length, ap, sym, refl, subst, arith}
 use Rattle.lra_domain.specs.Actions.{Action, Leads, Within, assign, dims_after, embed, forget, remove_last, test}
-use Rattle.lra_domain.specs.Backward.{SingleRetracing}
+use Rattle.lra_domain.specs.Backward.{SingleBackward}
 use Rattle.lra_linear_forms.specs.Form.{form_row}
 use Rattle.lra_linear_spec.specs.SetOperations.{Meet, Preimage}
-use Rattle.lra_domain.specs.Laws.{Laws, PlainLaws, SingleLaws}
+use Rattle.lra_domain.specs.Laws.{Laws, BaseLaws, SingleLaws}
 use Rattle.lra_domain.specs.declared.Mode.{Mode}
 use Rattle.std.proofs.Common.{replicate}
 use Rattle.std.proofs.lemmas.List.{length-replicate}
@@ -27,10 +27,10 @@ use Rattle.lra_polydom.specs.Sets.{KeepsPoints, hull_of, reached}
 partless_has : (p : Polyhedron) → polyhedron_parts p ≡ [] → (s : List ℤ) → ¬ PolyhedronHas p s
 partless_has p e s h = parts_empty p p.dims e (pos 1 ∷ s) (store_point p.dims s h.0) h.1
 
-void_has : (n cap : ℕ) (p : Polyhedron) → polyhedron_meaning.void n cap p → (s : List ℤ) → ¬ PolyhedronHas p s
+void_has : (n cap : ℕ) (p : Polyhedron) → polyhedron_meaning.bottom n cap p → (s : List ℤ) → ¬ PolyhedronHas p s
 void_has n cap p is s h = is.1 (pos 1 ∷ s) (store_point n s (h.0 ∙ is.0)) h.1
 
-universal_has : (n cap : ℕ) (p : Polyhedron) → polyhedron_meaning.universal n cap p → (s : List ℤ) → length s ≡ n →
+universal_has : (n cap : ℕ) (p : Polyhedron) → polyhedron_meaning.top n cap p → (s : List ℤ) → length s ≡ n →
     PolyhedronHas p s
 universal_has n cap p is s e = (
   e ∙ sym is.dimensions,
@@ -54,19 +54,19 @@ pub polyhedron_laws : Laws polyhedron_meaning
 polyhedron_laws = record {
   sized = λ p s fine h. h.0;
   head_sized = λ h s fine own. own.0;
-  universal_dims = λ n cap p is. is.dimensions;
-  universal_stores = λ n cap p fine is s long. universal_has n cap p is s long;
-  void_dims = λ n cap p is. is.0;
-  void_stores = λ n cap p fine is s h. void_has n cap p is s h;
+  top_dims = λ n cap p is. is.dimensions;
+  top_stores = λ n cap p fine is s long. universal_has n cap p is s long;
+  bottom_dims = λ n cap p is. is.0;
+  bottom_stores = λ n cap p fine is s h. void_has n cap p is s h;
   capped_parts = λ p c some. few_parts p c some;
-  universal_capped = λ n cap p some is. some;
-  void_capped = λ n cap p some is. some;
+  top_capped = λ n cap p some is. some;
+  bottom_capped = λ n cap p some is. some;
   partless = λ p fine e s h. partless_has p e s h;
   bounded_stores = λ p f l h s fine wide is has. bounded_between p f l h s is has;
   one_bounded = λ p f l h j k fine is so. one_told p f l h j k is so;
   bounded_partless = λ p f l h fine e is. nothing_told p f l h e is;
-  covered_stores = λ a b fine too c. covered_has a b c;
-  head_covered_stores = λ a b fine too c. covered_has a.value b.value c;
+  leq_stores = λ a b fine too c. covered_has a b c;
+  head_leq_stores = λ a b fine too c. covered_has a.value b.value c;
   kept_stores = λ step p r fine too k. kept_has step p r k;
   old_stores = λ old next new fine too k. held_has old.value new.value k.dims.0 k.left;
   next_stores = λ old next new fine too k. held_has next new.value k.dims.1 k.right;
@@ -77,7 +77,7 @@ polyhedron_laws = record {
   given_up_valued = λ old mode new fine too is. (new.value, refl);
   given_up_value = λ old mode new p fine too is e. (
     1,
-    subst (λ (q : Polyhedron). polyhedron_meaning.universal old.value.dims 1
+    subst (λ (q : Polyhedron). polyhedron_meaning.top old.value.dims 1
         q) (sym e) is.all,
   );
 }
@@ -86,10 +86,10 @@ polyhedron_laws = record {
 one_of : (n : ℕ) (P : PointSet) (p q : Polyhedron) → IsPolyhedronOf n P p → IsPolyhedronOf n P q → p ≡ q
 one_of n P p q is so = polyhedron_unique n P P p q (λ x i k. k, λ x i k. k) is so
 
-one_without : (n : ℕ) (p q : Polyhedron) → polyhedron_meaning.void n 1 p → polyhedron_meaning.void n 1 q → p ≡ q
+one_without : (n : ℕ) (p q : Polyhedron) → polyhedron_meaning.bottom n 1 p → polyhedron_meaning.bottom n 1 q → p ≡ q
 one_without n p q is so = one_of n (λ x. ⊥) p q (empty_of n p is) (empty_of n q so)
   where
-    empty_of : (n : ℕ) (p : Polyhedron) → polyhedron_meaning.void n 1 p → IsPolyhedronOf n (λ x. ⊥) p
+    empty_of : (n : ℕ) (p : Polyhedron) → polyhedron_meaning.bottom n 1 p → IsPolyhedronOf n (λ x. ⊥) p
     empty_of n p is = record {
       dimensions = is.0;
       canonical = is.2;
@@ -113,9 +113,9 @@ one_growth h p mode i j is so =
 -- every definition allows one polyhedron, or one head
 pub polyhedron_single : SingleLaws polyhedron_meaning
 polyhedron_single = record {
-  one_universal = λ n cap p q is so. one_of n (Con []) p q is so;
-  one_void = λ n cap p q is so. one_without n p q is so;
-  one_done = λ step p q r is so. one_of (dims_after step p.dims) (reached step p) q r is so;
+  one_top = λ n cap p q is so. one_of n (Con []) p q is so;
+  one_bottom = λ n cap p q is so. one_without n p q is so;
+  one_transferred = λ step p q r is so. one_of (dims_after step p.dims) (reached step p) q r is so;
   one_joined = λ a b p q is so. one_of a.dims (hull_of a b) p q is so;
   one_started = λ p given g h e f. e ∙ sym f;
   one_grown = one_growth;
@@ -123,9 +123,9 @@ polyhedron_single = record {
 }
 
 -- going back allows one polyhedron, too
-pub polyhedron_goes_back_once : SingleRetracing polyhedron_retracing
+pub polyhedron_goes_back_once : SingleBackward polyhedron_retracing
 polyhedron_goes_back_once = record {
-  one_undone = one_undone;
+  one_pre = one_undone;
   one_met = λ p q r t is so. one_of p.dims (Meet (Con p.rows) (Con q.rows)) r t is so;
 }
   where
@@ -137,17 +137,17 @@ polyhedron_goes_back_once = record {
     one_undone (embed k) p q r is so = absurd is
     one_undone (remove_last k) p q r is so = absurd is
 
-pub polyhedron_plain : PlainLaws polyhedron_meaning
+pub polyhedron_plain : BaseLaws polyhedron_meaning
 polyhedron_plain = record {
   one_part = one_part;
-  one_universal = λ n c d p q is so. polyhedron_unique n (Con []) (Con []) p q (λ x i k. k, λ x i k. k) is so;
+  one_top = λ n c d p q is so. polyhedron_unique n (Con []) (Con []) p q (λ x i k. k, λ x i k. k) is so;
   one_joined = λ a b p q is so. polyhedron_unique a.dims (hull_of a b) (hull_of a b) p q (λ x i k. k, λ x i k. k) is so;
   one_started = λ p given g h e f. e ∙ sym f;
   one_valued = λ h p q e f. e ∙ sym f;
-  covered_reflexive = covered_refl;
-  covered_transitive = covered_trans;
-  inside_covered = λ a b. (λ c. c, λ c. c);
-  partless_covered = λ a b c e. c.partless e;
+  leq_reflexive = covered_refl;
+  leq_transitive = covered_trans;
+  included_leq = λ a b. (λ c. c, λ c. c);
+  partless_leq = λ a b c e. c.partless e;
   joined_covered = joined_covered;
   stays_covered = λ h a b mode u c. covered_trans a b h.value u c;
   stays_joined = λ h a b j mode is u c. joined_covered a b j h.value is u c;

@@ -1,6 +1,6 @@
 -- The meaning of closed polyhedra. All is said of sets of rational points; a store of whole numbers is one of them.
 use Rattle.std.specs.Prelude.{◌≡◌, ◌≤◌, []}
-use Rattle.lra_domain.specs.Meaning.{Meaning}
+use Rattle.lra_domain.specs.Abstraction.{Abstraction}
 use Rattle.lra_linear_spec.specs.declared.Excess as E
 use Rattle.lra_linear_spec.specs.Descriptions.{Con}
 use Rattle.lra_linear_spec.specs.Representable.{IsRepresentable}
@@ -14,30 +14,30 @@ use Rattle.lra_polydom.specs.Content.{Answers, Covered, HeadContent, IsHeadForme
 use Rattle.lra_polydom.specs.Heads.{GrowthStrains, IsGivenUp, IsGrown, IsLeft, head_rank}
 use Rattle.lra_polydom.specs.Sets.{ChangeStrains, HoldsPoints, IsChanged, IsJoin, KeepsPoints}
 
-abbrev pub polyhedron_meaning : Meaning Polyhedron HeadContent
+abbrev pub polyhedron_meaning : Abstraction Polyhedron HeadContent
 polyhedron_meaning = record {
-  formed = IsRepresentable;
-  has = PolyhedronHas;
+  well_formed = IsRepresentable;
+  gamma = PolyhedronHas;
   dims = λ p. p.dims;
   parts = polyhedron_parts;
   capped = λ p c. 1 ≤ c;
   bounded = PolyhedronBounded;
-  covered = Covered;
-  universal = λ n cap p. IsPolyhedronOf n (Con []) p;
-  void = λ n cap p. (p.dims ≡ n) × IsEmptySet n (Con p.rows) × IsPolyhedron p;
+  leq = Covered;
+  top = λ n cap p. IsPolyhedronOf n (Con []) p;
+  bottom = λ n cap p. (p.dims ≡ n) × IsEmptySet n (Con p.rows) × IsPolyhedron p;
   keeps = KeepsPoints;
-  done = IsChanged;
+  transferred = IsChanged;
   strains = λ step p. (loss : Loss) × ChangeStrains step p loss;
   joined = IsJoin;
   join_strains = λ p q. (loss : Loss) × HullStrains p q loss;
-  inside = Covered;
-  inside_strains = λ p q. (e : E.Excess) × InclusionStrains p q e;
-  head_formed = IsHeadFormed;
-  head_has = λ h. PolyhedronHas h.value;
+  included = Covered;
+  inclusion_strains = λ p q. (e : E.Excess) × InclusionStrains p q e;
+  head_well_formed = IsHeadFormed;
+  head_gamma = λ h. PolyhedronHas h.value;
   head_dims = λ h. h.value.dims;
   head_capped = λ h c. 1 ≤ c;
   rank = head_rank;
-  head_covered = λ a b. Covered a.value b.value;
+  head_leq = λ a b. Covered a.value b.value;
   started = λ p given h. h ≡ record { value = p; given = constraints given };
   stays = λ h p mode. Covered p h.value;
   answers = λ h p mode i. Answers p h.value i;

@@ -2,7 +2,7 @@
 -- value that pass; and by the meet.
 use Rattle.std.specs.Prelude.{suc}
 use Rattle.lra_domain.specs.Actions.{Action, assign, forget, test, embed, remove_last}
-use Rattle.lra_domain.specs.Backward.{Retracing}
+use Rattle.lra_domain.specs.Backward.{BackwardAbstraction}
 use Rattle.lra_linear_forms.specs.Form.{form_row}
 use Rattle.lra_linear_spec.specs.Descriptions.{Con}
 use Rattle.lra_linear_spec.specs.OperationStrain.{AddTestStrains, MeetStrains, PreimageStrains}
@@ -27,10 +27,10 @@ UndoStrains (test kind e) p = AddTestStrains p (test_row kind e)
 UndoStrains (embed k) p = λ loss. ⊥
 UndoStrains (remove_last k) p = λ loss. ⊥
 
-abbrev pub polyhedron_retracing : Retracing Polyhedron
+abbrev pub polyhedron_retracing : BackwardAbstraction Polyhedron
 polyhedron_retracing = record {
-  undone = IsUndone;
-  undo_strains = λ step p. (loss : Loss) × UndoStrains step p loss;
+  pre = IsUndone;
+  pre_strains = λ step p. (loss : Loss) × UndoStrains step p loss;
   met = λ p q r. IsPolyhedronOf p.dims (Meet (Con p.rows) (Con q.rows)) r;
   meet_strains = λ p q. (loss : Loss) × MeetStrains p q loss;
 }

@@ -3,7 +3,7 @@
 ghost use Rattle.std.specs.Prelude.{◌≡◌, ◌≢◌, IfOk};
 ghost use Rattle.lra_domain.specs.declared.Exactness.TheVariants.{Flagged};
 ghost use Rattle.lra_domain.specs.declared.Mode.TheVariants.{Join};
-ghost use Rattle.lra_domain.specs.Meaning.{Grew};
+ghost use Rattle.lra_domain.specs.Abstraction.{Grew};
 ghost use Rattle.lra_domain.specs.Rank.{RankBelow, RankFits};
 ghost use Rattle.lra_linear_spec.specs.declared.Excess as E;
 ghost use Rattle.lra_linear_spec.specs.OperationStrain.{InclusionStrains};

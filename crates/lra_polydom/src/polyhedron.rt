@@ -1,7 +1,7 @@
 //! Closed polyhedra as a domain.
 
 ghost use Rattle.std.specs.Prelude.{◌≡◌, ◌≢◌, IfOk, OnErr, OnOk};
-ghost use Rattle.lra_domain.specs.Meaning.{Grew};
+ghost use Rattle.lra_domain.specs.Abstraction.{Grew};
 ghost use Rattle.lra_domain.specs.Parts.{CapsWithin};
 ghost use Rattle.lra_domain.specs.Rank.{RankBelow, RankFits};
 ghost use Rattle.lra_linear_spec.specs.Representable.{IsRepresentable};
@@ -11,7 +11,9 @@ ghost use Rattle.lra_polydom.specs.Meaning.{polyhedron_meaning};
 
 use crate::head::PolyhedronHead;
 use crate::outcomes::{exactness_of, included, opposite_of, rounded_down};
-use lra_domain::{Backward, Domain, Exactness, Grown, Included, Mode, Plain, Rank, Told};
+use lra_domain::{
+    Backward, BaseDomain, Domain, ExactParts, Exactness, Grown, Included, Mode, Rank,
+};
 use lra_images::{forget, image, preimage};
 use lra_linear_forms::{LinExpr, Test};
 use lra_maps::{embed, remove_last};
@@ -88,7 +90,7 @@ impl Polyhedron {
 impl Domain for Polyhedron {
     type Head = PolyhedronHead;
 
-    ghost meaning = { polyhedron_meaning };
+    ghost abstraction = { polyhedron_meaning };
 
     ghost use Rattle.lra_polydom.specs.Laws.{polyhedron_laws};
 
@@ -240,21 +242,21 @@ impl Domain for Polyhedron {
     }
 }
 
-impl Plain for Polyhedron {
+impl BaseDomain for Polyhedron {
     ghost use Rattle.lra_polydom.specs.Laws.{polyhedron_plain};
 
-    ghost plain = { polyhedron_plain };
+    ghost base_laws = { polyhedron_plain };
 }
 
-impl Told for Polyhedron {
+impl ExactParts for Polyhedron {
     #[tactic(auto, using(crate::proofs::PartLemmas::parts_tell))]
-    fn parts_tell_all(&self) {}
+    fn parts_are_exact(&self) {}
 }
 
 impl Backward for Polyhedron {
     ghost use Rattle.lra_polydom.specs.Retracing.{polyhedron_retracing};
 
-    ghost retracing = { polyhedron_retracing };
+    ghost backward_abstraction = { polyhedron_retracing };
 
     fn before_assign(&mut self, x: usize, e: &LinExpr) -> Result<Exactness, AllocError> {
         let outcome = preimage(&mut self.poly, x, e)?;

@@ -29,12 +29,13 @@ fn polyhedra(alloc: Global, parts: &[ConSys]) -> Result<(Vec<Poly>, Outcome), Al
 /// domain gives: each store of the value meets one of them, so it is in one of the polyhedra. Where it is flagged these
 /// have at least the points of the parts.
 pub fn polyhedra_of<D: Domain>(alloc: Global, value: &D) -> Result<(Vec<Poly>, Outcome), AllocError>
-    ensures dims { IfOk result (λ r. All (λ p. p.dims ≡ D.meaning.dims value.now) r.0.items) }
-    ensures made { IfOk result (λ r. AreMadeOf (D.meaning.parts value.now) r.0.items r.1) }
-    ensures stores { IfOk result (λ r. (s : List ℤ) → D.meaning.has value.now s →
+    ensures dims { IfOk result (λ r. All (λ p. p.dims ≡ D.abstraction.dims value.now) r.0.items) }
+    ensures made { IfOk result (λ r. AreMadeOf (D.abstraction.parts value.now) r.0.items r.1) }
+    ensures stores { IfOk result (λ r. (s : List ℤ) → D.abstraction.gamma value.now s →
         SomeHas r.0.items s) }
-    ensures back { IfOk result (λ r. IfExact ((s : List ℤ) → length s ≡ D.meaning.dims value.now →
-        SomeHas r.0.items s → SomePartHolds (D.meaning.parts value.now) s) r.1) }
+    ensures back { IfOk result
+        (λ r. IfExact ((s : List ℤ) → length s ≡ D.abstraction.dims value.now →
+        SomeHas r.0.items s → SomePartHolds (D.abstraction.parts value.now) s) r.1) }
 {
     let _formed = value.is_empty();
     let parts = value.parts(alloc)?;

@@ -5,12 +5,12 @@ use Rattle.std.specs.Prelude.{slice_set}
 use Rattle.std.proofs.Math.ListN.{length-set}
 use Rattle.std.proofs.lemmas.Option.{same_Some}
 use Rattle.lra_domain.specs.declared.Exactness.TheVariants.{Exact}
-use Rattle.lra_others.specs.Others.{Many, none, more, Admits}
+use Rattle.lra_interference.specs.Interference.{RelyClosure, none, more, Absorbs}
 use Rattle.lra_box.specs.declared.interval.Interval.{Interval}
 use Rattle.lra_box.specs.Bounds.{InInterval, InBounds}
-use Rattle.lra_box.specs.Content.{Content, BoxFormed, BoundsFit}
+use Rattle.lra_box.specs.Content.{BoxContent, WellFormedBox, BoundsFit}
 use Rattle.lra_box.specs.Tables.{has_bounds, on_bounds, admitting, admitted}
-use Rattle.lra_box.specs.Meaning.{BoxHas, box_meaning}
+use Rattle.lra_box.specs.Abstraction.{BoxGamma, box_abstraction}
 use Rattle.lra_box.specs.Laws.{same_within}
 use Rattle.lra_box.proofs.AdmitLemmas.{joined_first, joined_second, admitted_formed, admitted_stays}
 use Rattle.lra_rounds.proofs.ListLemmas.{drop_all}
@@ -19,19 +19,19 @@ use Rattle.lra_rounds.specs.Telling.{admitting_option, admitting_row, interval_a
 
 -- formed, and with all stores --------------------------------------------------------------------------------------
 
-pub option_formed : (x : ℕ) (i : Option Interval) (v : Content) → OptionFits i → BoxFormed v → BoxFormed (admitting_option x i v)
+pub option_formed : (x : ℕ) (i : Option Interval) (v : BoxContent) → OptionFits i → WellFormedBox v → WellFormedBox (admitting_option x i v)
 option_formed x None v fits h = h
 option_formed x (Some i) v fits h = admitted_formed x i v fits h
 
-option_stays : (x : ℕ) (i : Option Interval) (v : Content) (s : List ℤ) → BoxHas v s → BoxHas (admitting_option x i v) s
+option_stays : (x : ℕ) (i : Option Interval) (v : BoxContent) (s : List ℤ) → BoxGamma v s → BoxGamma (admitting_option x i v) s
 option_stays x None v s h = h
 option_stays x (Some i) v s h = admitted_stays x i v s h
 
-row_formed : (x : ℕ) (row : Row) (v : Content) → RowFits row → BoxFormed v → BoxFormed (admitting_row x row v)
+row_formed : (x : ℕ) (row : Row) (v : BoxContent) → RowFits row → WellFormedBox v → WellFormedBox (admitting_row x row v)
 row_formed x [] v fits h = h
 row_formed x (i ∷ is) v fits h = row_formed (suc x) is (admitting_option x i v) fits.1 (option_formed x i v fits.0 h)
 
-row_stays : (x : ℕ) (row : Row) (v : Content) (s : List ℤ) → BoxHas v s → BoxHas (admitting_row x row v) s
+row_stays : (x : ℕ) (row : Row) (v : BoxContent) (s : List ℤ) → BoxGamma v s → BoxGamma (admitting_row x row v) s
 row_stays x [] v s h = h
 row_stays x (i ∷ is) v s h = row_stays (suc x) is (admitting_option x i v) s (option_stays x i v s h)
 
@@ -59,7 +59,7 @@ takes_still (i ∷ is) zero (suc g) j z h = h
 takes_still (i ∷ is) (suc x) zero j z h = h
 takes_still (i ∷ is) (suc x) (suc g) j z h = takes_still is x g j z h
 
-option_takes : (x : ℕ) (i : Option Interval) (v : Content) (g : ℕ) (z : ℤ) → BoundsTake v.bounds g z
+option_takes : (x : ℕ) (i : Option Interval) (v : BoxContent) (g : ℕ) (z : ℤ) → BoundsTake v.bounds g z
     → BoundsTake (admitting_option x i v).bounds g z
 option_takes x None v g z h = h
 option_takes x (Some i) v g z h = by_bounds v.bounds h
@@ -73,12 +73,12 @@ own_takes : (x : ℕ) (i : Interval) (b : Option (List Interval)) (z : ℤ) → 
 own_takes x i None z h = tt
 own_takes x i (Some is) z h = takes_own is x i z h
 
-still_takes : (x : ℕ) (row : Row) (v : Content) (g : ℕ) (z : ℤ) → BoundsTake v.bounds g z → BoundsTake (admitting_row x row v).bounds g z
+still_takes : (x : ℕ) (row : Row) (v : BoxContent) (g : ℕ) (z : ℤ) → BoundsTake v.bounds g z → BoundsTake (admitting_row x row v).bounds g z
 still_takes x [] v g z h = h
 still_takes x (i ∷ is) v g z h = still_takes (suc x) is (admitting_option x i v) g z (option_takes x i v g z h)
 
 -- a number of the row's interval at a place is taken there
-row_takes : (x k g : ℕ) (row : Row) (v : Content) (i : Interval) (z : ℤ) → x + k ≡ g → interval_at k row ≡ Some i → InInterval i z
+row_takes : (x k g : ℕ) (row : Row) (v : BoxContent) (i : Interval) (z : ℤ) → x + k ≡ g → interval_at k row ≡ Some i → InInterval i z
     → BoundsTake (admitting_row x row v).bounds g z
 row_takes x k g [] v i z e told h = let wrong : ⊥ = cc in absurd wrong
 row_takes x zero g (None ∷ is) v i z e told h = let wrong : ⊥ = cc in absurd wrong
@@ -95,7 +95,7 @@ intervals_take (i ∷ is) [] g z t h = absurd h
 intervals_take (i ∷ is) (v ∷ s) zero z t h = (t, h.1)
 intervals_take (i ∷ is) (v ∷ s) (suc g) z t h = (h.0, intervals_take is s g z t h.1)
 
-box_takes : (v : Content) (s : List ℤ) (g : ℕ) (z : ℤ) → BoundsTake v.bounds g z → BoxHas v s → BoxHas v (slice_set s g z)
+box_takes : (v : BoxContent) (s : List ℤ) (g : ℕ) (z : ℤ) → BoundsTake v.bounds g z → BoxGamma v s → BoxGamma v (slice_set s g z)
 box_takes v s g z t h = (length-set {A = ℤ} s g z ∙ h.0, by_bounds v.bounds t h.1)
   where
     by_bounds : (b : Option (List Interval)) → BoundsTake b g z → has_bounds b s → has_bounds b (slice_set s g z)
@@ -104,21 +104,21 @@ box_takes v s g z t h = (length-set {A = ℤ} s g z ∙ h.0, by_bounds v.bounds 
 
 -- any number of gifts ----------------------------------------------------------------------------------------------
 
-given : (row : Row) (v : Content) (s t : List ℤ) → BoxHas (admitting_row 0 row v) s → MayGive row s t → BoxHas (admitting_row 0 row v) t
+given : (row : Row) (v : BoxContent) (s t : List ℤ) → BoxGamma (admitting_row 0 row v) s → MayGive row s t → BoxGamma (admitting_row 0 row v) t
 given row v s t h gift =
     let has = box_takes (admitting_row 0 row v) s gift.global gift.number
     (row_takes 0 gift.global gift.global row v gift.interval gift.number (omega arith) gift.is_told gift.is_in) h in
-    subst (λ (u : List ℤ). BoxHas (admitting_row 0 row v) u) (sym gift.after) has
+    subst (λ (u : List ℤ). BoxGamma (admitting_row 0 row v) u) (sym gift.after) has
 
-all_given : (row : Row) (v : Content) (s t : List ℤ) → BoxHas v s → Many (MayGive row) s t → BoxHas (admitting_row 0 row v) t
+all_given : (row : Row) (v : BoxContent) (s t : List ℤ) → BoxGamma v s → RelyClosure (MayGive row) s t → BoxGamma (admitting_row 0 row v) t
 all_given row v s _ h (none _) = row_stays 0 row v s h
 all_given row v s u h (more _ t _ many gift) = given row v t u (all_given row v s t h many) gift
 
-pub row_admits : (row : Row) (old new : Content) → RowFits row → BoxFormed old → new ≡ admitting_row 0 row old
-    → Admits (telling row) box_meaning old Exact new
+pub row_admits : (row : Row) (old new : BoxContent) → RowFits row → WellFormedBox old → new ≡ admitting_row 0 row old
+    → Absorbs (telling row) box_abstraction old Exact new
 row_admits row old new fits fine e = record {
-  formed = subst BoxFormed (sym e) (row_formed 0 row old fits fine);
-  stores = λ s t h many. subst (λ (v : Content). BoxHas v t) (sym e) (all_given row old s t h many);
+  formed = subst WellFormedBox (sym e) (row_formed 0 row old fits fine);
+  stores = λ s t h many. subst (λ (v : BoxContent). BoxGamma v t) (sym e) (all_given row old s t h many);
   exact = λ _. e;
   covers = λ flagged v done. same_within v new (done ∙ sym e);
   flagged = λ no. cc;
@@ -140,7 +140,7 @@ admitting_beyond [] x i h = refl
 admitting_beyond (j ∷ is) zero i h = absurd (omega (arith, h))
 admitting_beyond (j ∷ is) (suc x) i h = ap (λ (js : List Interval). j ∷ js) (admitting_beyond is x i (omega (arith, h)))
 
-pub option_beyond : (x : ℕ) (i : Option Interval) (v : Content) → BoxFormed v → v.dims ≤ x → admitting_option x i v ≡ v
+pub option_beyond : (x : ℕ) (i : Option Interval) (v : BoxContent) → WellFormedBox v → v.dims ≤ x → admitting_option x i v ≡ v
 option_beyond x None v fine h = refl
 option_beyond x (Some i) v fine h = by_bounds v.bounds fine.0
   where
@@ -149,30 +149,30 @@ option_beyond x (Some i) v fine h = by_bounds v.bounds fine.0
     by_bounds None fit = refl
     by_bounds (Some is) fit = ap (λ (js : List Interval). record v { bounds = Some js }) (admitting_beyond is x i (omega (arith, fit, h)))
 
-option_dims : (x : ℕ) (i : Option Interval) (v : Content) → (admitting_option x i v).dims ≡ v.dims
+option_dims : (x : ℕ) (i : Option Interval) (v : BoxContent) → (admitting_option x i v).dims ≡ v.dims
 option_dims x None v = refl
 option_dims x (Some i) v = refl
 
-pub row_dims : (x : ℕ) (row : Row) (v : Content) → (admitting_row x row v).dims ≡ v.dims
+pub row_dims : (x : ℕ) (row : Row) (v : BoxContent) → (admitting_row x row v).dims ≡ v.dims
 row_dims x [] v = refl
 row_dims x (i ∷ is) v = row_dims (suc x) is (admitting_option x i v) ∙ option_dims x i v
 
 -- one more interval has come in
-pub step_kept : (x : ℕ) (items all : Row) (old v new : Content) → items ≡ all → RowFits all → x < length items → BoxFormed v
+pub step_kept : (x : ℕ) (items all : Row) (old v new : BoxContent) → items ≡ all → RowFits all → x < length items → WellFormedBox v
     → new ≡ admitting_option x (get_or items x None) v → admitting_row x (drop x items) v ≡ admitting_row 0 items old
-    → BoxFormed new × (admitting_row (x + 1) (drop (x + 1) items) new ≡ admitting_row 0 items old)
+    → WellFormedBox new × (admitting_row (x + 1) (drop (x + 1) items) new ≡ admitting_row 0 items old)
 step_kept x items all old v new e fits few fine is rest =
     let fit = fits_get items all x e fits in
-    let formed = subst BoxFormed (sym is) (option_formed x (get_or items x None) v fit fine) in
+    let formed = subst WellFormedBox (sym is) (option_formed x (get_or items x None) v fit fine) in
     let taken : drop x items ≡ get_or items x None ∷ drop (suc x) items = drop-cons items x None few in
     let before : admitting_row (suc x) (drop (suc x) items) (admitting_option x (get_or items x None) v) ≡ admitting_row 0 items old =
     subst (λ (row : Row). admitting_row x row v ≡ admitting_row 0 items old) taken rest in
-    let after = subst (λ (w : Content). admitting_row (suc x) (drop (suc x) items) w ≡ admitting_row 0 items old) (sym is) before in
+    let after = subst (λ (w : BoxContent). admitting_row (suc x) (drop (suc x) items) w ≡ admitting_row 0 items old) (sym is) before in
     let next : suc x ≡ x + 1 = omega arith in
     (formed, subst (λ (y : ℕ). admitting_row y (drop y items) new ≡ admitting_row 0 items old) next after)
 
 -- all have
-pub all_kept : (x : ℕ) (items all row : Row) (old v : Content) → items ≡ all → all ≡ row → length items ≤ x
+pub all_kept : (x : ℕ) (items all row : Row) (old v : BoxContent) → items ≡ all → all ≡ row → length items ≤ x
     → admitting_row x (drop x items) v ≡ admitting_row 0 items old → v ≡ admitting_row 0 row old
 all_kept x items all row old v e d end rest =
     let last : v ≡ admitting_row 0 items old = subst (λ (is : Row). admitting_row x is v ≡ admitting_row 0 items old) (drop_all items x end) rest in

@@ -2,8 +2,8 @@
 use Rattle.std.proofs.Common.{◌≡◌, ◌≤◌, ℕ, zero, suc, List, [], ◌∷◌, length, Option, None, Some, refl, ap, arith}
 use Rattle.std.specs.Prelude.{slice_index_or}
 use Rattle.lra_box.specs.declared.interval.Interval.{Interval}
-use Rattle.lra_box.specs.Bounds.{open_interval}
-use Rattle.lra_box.specs.Content.{Content, BoxFormed, BoundsFit, BoundsSound}
+use Rattle.lra_box.specs.Bounds.{full_interval}
+use Rattle.lra_box.specs.Content.{BoxContent, WellFormedBox, BoundsFit, BoundsAreValid}
 use Rattle.lra_box.specs.Parts.{box_parts}
 use Rattle.lra_box.specs.Tables.{bound_at}
 use Rattle.lra_box.proofs.SoundLemmas.{at_sound, low_range, high_range, widen_low_range, widen_high_range}
@@ -36,29 +36,29 @@ none_fits (suc n) = (tt, none_fits n)
 
 -- the bounds of a place --------------------------------------------------------------------------------------------
 
-pub bound_fits : (x : ℕ) (v : Content) → BoxFormed v → OptionFits (bound_at x v.bounds)
+pub bound_fits : (x : ℕ) (v : BoxContent) → WellFormedBox v → OptionFits (bound_at x v.bounds)
 bound_fits x v fine = by_bounds v.bounds fine.1
   where
-    by_bounds : (b : Option (List Interval)) → BoundsSound b → OptionFits (bound_at x b)
+    by_bounds : (b : Option (List Interval)) → BoundsAreValid b → OptionFits (bound_at x b)
     by_bounds None sound = tt
     by_bounds (Some is) sound = (at_sound is x sound).0
 
-pub bound_none : (x : ℕ) (v : Content) → box_parts v.dims v.bounds ≡ [] → None ≡ bound_at x v.bounds
+pub bound_none : (x : ℕ) (v : BoxContent) → box_parts v.dims v.bounds ≡ [] → None ≡ bound_at x v.bounds
 bound_none x v none = by_bounds v.bounds none
   where
     by_bounds : (b : Option (List Interval)) → box_parts v.dims b ≡ [] → None ≡ bound_at x b
     by_bounds None none = refl
     by_bounds (Some is) none = let wrong : ⊥ = cc in absurd wrong
 
-index_past : (is : List Interval) (x : ℕ) → length is ≤ x → open_interval ≡ slice_index_or is x open_interval
+index_past : (is : List Interval) (x : ℕ) → length is ≤ x → full_interval ≡ slice_index_or is x full_interval
 index_past [] x past = refl
 index_past (i ∷ is) zero past = absurd (omega (arith, past))
 index_past (i ∷ is) (suc x) past = index_past is x (omega (arith, past))
 
-pub bound_past : (x : ℕ) (v : Content) → BoxFormed v → ¬ (box_parts v.dims v.bounds ≡ []) → v.dims ≤ x
-    → Some open_interval ≡ bound_at x v.bounds
+pub bound_past : (x : ℕ) (v : BoxContent) → WellFormedBox v → ¬ (box_parts v.dims v.bounds ≡ []) → v.dims ≤ x
+    → Some full_interval ≡ bound_at x v.bounds
 bound_past x v fine some past = by_bounds v.bounds fine.0 some
   where
-    by_bounds : (b : Option (List Interval)) → BoundsFit v.dims b → ¬ (box_parts v.dims b ≡ []) → Some open_interval ≡ bound_at x b
+    by_bounds : (b : Option (List Interval)) → BoundsFit v.dims b → ¬ (box_parts v.dims b ≡ []) → Some full_interval ≡ bound_at x b
     by_bounds None fit some = absurd (some refl)
     by_bounds (Some is) fit some = ap (λ (i : Interval). Some i) (index_past is x (omega (arith, fit, past)))

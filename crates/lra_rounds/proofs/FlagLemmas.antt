@@ -2,8 +2,8 @@
 use Rattle.std.proofs.Common.{◌≡◌, ◌∙◌, ◌+◌, ◌-◌, ℕ, zero, suc, List, [], ◌∷◌, length, Option, None, Some, refl, ap, sym, subst, arith}
 use Rattle.std.specs.Prelude.{slice_get}
 use Rattle.std.proofs.lemmas.Option.{same_Some, slice_get_within}
-use Rattle.lra_others.specs.Others.{Others}
-use Rattle.lra_box.specs.Content.{Content}
+use Rattle.lra_interference.specs.Interference.{Interference}
+use Rattle.lra_box.specs.Content.{BoxContent}
 use Rattle.lra_rounds.specs.Intervals.{Table, TableWithin, empty_table, next_table}
 use Rattle.lra_rounds.specs.Telling.{others_of}
 use Rattle.lra_rounds.specs.Rounds.{Finding, Settled, flag_of, first_flag, flag_so_far, written_in, AreFound, IsRound, Rounds}
@@ -26,8 +26,8 @@ first_none {R} flag k (x ∷ xs) e zero r is =
 first_none flag k (x ∷ xs) e (suc j) r is =
     first_none flag (suc k) xs (flag_of_none k (flag x) (first_flag flag (suc k) xs) e).1 j r is
 
-module _ {R : Type 0} (finding : Finding R) (globals : ℕ) (A B : ℕ → Others Content → R → Type 0)
-    (exact : (k : ℕ) (o : Others Content) (r : R) → A k o r → finding.flag r ≡ None → B k o r) where
+module _ {R : Type 0} (finding : Finding R) (globals : ℕ) (A B : ℕ → Interference BoxContent → R → Type 0)
+    (exact : (k : ℕ) (o : Interference BoxContent) (r : R) → A k o r → finding.flag r ≡ None → B k o r) where
   unflagged_round : (count : ℕ) (flag : Option (ℕ × ℕ)) (table : Table) (found : List R) (written : Table) (first : Option (ℕ × ℕ))
       → IsRound finding globals A count flag table found written first → first ≡ None
       → (flag ≡ None) × IsRound finding globals B count flag table found written first
@@ -106,7 +106,7 @@ first_some flag n [] k q e = let wrong : ⊥ = cc in absurd wrong
 first_some flag n (x ∷ xs) k q e = by_flag flag n x xs k q (flag x) refl (λ rest. first_some flag (suc n) xs k q rest) e
 
 -- the first flag of all rounds stays
-flag_stays : {R : Type 0} (finding : Finding R) (globals : ℕ) (A : ℕ → Others Content → R → Type 0) (count left : ℕ) (f : ℕ × ℕ)
+flag_stays : {R : Type 0} (finding : Finding R) (globals : ℕ) (A : ℕ → Interference BoxContent → R → Type 0) (count left : ℕ) (f : ℕ × ℕ)
     (flag : Option (ℕ × ℕ)) (table : Table) (end : Settled R) → flag ≡ Some f → Rounds finding globals A count left flag table end
     → end.flag ≡ Some f
 flag_stays finding globals A count left f flag table _ e (settled _ _ first _ written found round within) =
@@ -115,9 +115,9 @@ flag_stays finding globals A count left f flag table end e (unsettled _ _ first 
     flag_stays finding globals A count (left - 1) f first _ end
     (round.is_first ∙ ap (λ (g : Option (ℕ × ℕ)). flag_so_far g (first_flag finding.flag 0 found)) e) rest
 
-module _ {R : Type 0} (finding : Finding R) (globals : ℕ) (A B : ℕ → Others Content → R → Type 0)
-    (S : ℕ → Others Content → ℕ → Type 0) (exact : (k : ℕ) (o : Others Content) (r : R) → A k o r → finding.flag r ≡ None → B k o r)
-    (strains : (k q : ℕ) (o : Others Content) (r : R) → A k o r → finding.flag r ≡ Some q → S k o q) where
+module _ {R : Type 0} (finding : Finding R) (globals : ℕ) (A B : ℕ → Interference BoxContent → R → Type 0)
+    (S : ℕ → Interference BoxContent → ℕ → Type 0) (exact : (k : ℕ) (o : Interference BoxContent) (r : R) → A k o r → finding.flag r ≡ None → B k o r)
+    (strains : (k q : ℕ) (o : Interference BoxContent) (r : R) → A k o r → finding.flag r ≡ Some q → S k o q) where
   strained_round : (count left k q : ℕ) (table : Table) (found : List R) (written : Table) (first : Option (ℕ × ℕ))
       → IsRound finding globals A count None table found written first → first ≡ Some (k, q)
       → ComesToStrain finding globals B S count left table k q
@@ -164,7 +164,7 @@ module _ {R : Type 0} (finding : Finding R) (globals : ℕ) (A B : ℕ → Other
 
 -- the round that settles --------------------------------------------------------------------------------------------
 
-module _ {R : Type 0} (finding : Finding R) (globals : ℕ) (A : ℕ → Others Content → R → Type 0) where
+module _ {R : Type 0} (finding : Finding R) (globals : ℕ) (A : ℕ → Interference BoxContent → R → Type 0) where
   settled_round : (count left : ℕ) (flag : Option (ℕ × ℕ)) (table : Table) (end : Settled R)
       → Rounds finding globals A count left flag table end
       → AreFound globals A count end.table end.found × TableWithin (written_in finding globals end.found) end.table

@@ -3,8 +3,8 @@ use Rattle.std.proofs.Common.{◌≡◌, ◌∙◌, ◌+◌, ◌-◌, ℕ, zero,
 use Rattle.std.proofs.Common.{true, false, ◌↔◌, length, map, Option, None, Some, refl, ap, sym, subst, arith}
 use Rattle.std.specs.Prelude.{slice_get, IsTrue}
 use Rattle.std.proofs.lemmas.List.{length-map}
-use Rattle.lra_others.specs.Others.{Others}
-use Rattle.lra_box.specs.Content.{Content}
+use Rattle.lra_interference.specs.Interference.{Interference}
+use Rattle.lra_box.specs.Content.{BoxContent}
 use Rattle.lra_rounds.specs.Intervals.{Row, Table, TableWithin, AreWide, empty_table, grown_table, growth_of}
 use Rattle.lra_rounds.specs.Telling.{others_of, telling, told_to, written_by, written_from}
 use Rattle.lra_rounds.specs.Rounds.{Finding, Settled, flag_of, first_flag, flag_so_far, written_in}
@@ -62,7 +62,7 @@ denied b X h e x = let wrong = h.1 x in cc
 
 -- a round ----------------------------------------------------------------------------------------------------------
 
-module _ {R : Type 0} (finding : Finding R) (globals : ℕ) (IsFound : ℕ → Others Content → R → Type 0) where
+module _ {R : Type 0} (finding : Finding R) (globals : ℕ) (IsFound : ℕ → Interference BoxContent → R → Type 0) where
   -- the first k threads of a round
   pub record SoFar (k : ℕ) (flag : Option (ℕ × ℕ)) (table : Table) (found : List R) (written : Table) (first : Option (ℕ × ℕ)) : Type 0 where
     pub all : length found ≡ k
@@ -94,7 +94,7 @@ module _ {R : Type 0} (finding : Finding R) (globals : ℕ) (IsFound : ℕ → O
       → after ≡ found ++ r ∷ [] → wrote ≡ written ++ w ∷ [] → last_flag ≡ flag_so_far first (flag_of k point None)
       → SoFar (k + 1) flag table after wrote last_flag
   one_more k flag table found written first r w point after wrote last_flag so own writes flagged a b c =
-      let others = subst (λ (o : Others Content). IsFound k o r) (telling_others globals k table) own in
+      let others = subst (λ (o : Interference BoxContent). IsFound k o r) (telling_others globals k table) own in
       let long : length found ≡ k = so.all in
       let place : k ≡ 0 + length found = omega (arith, long) in
       let last = subst (λ (n : ℕ). IsFound n (others_of globals n table) r) place others in

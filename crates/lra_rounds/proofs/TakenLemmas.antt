@@ -5,7 +5,7 @@ use Rattle.std.specs.Prelude.{if◌then◌else◌}
 use Rattle.std.proofs.lemmas.List.{length-replicate}
 use Rattle.std.proofs.lemmas.Bool.Decides.{nat_tests}
 use Rattle.lra_box.specs.declared.interval.Interval.{Interval}
-use Rattle.lra_box.specs.Content.{Content}
+use Rattle.lra_box.specs.Content.{BoxContent}
 use Rattle.lra_box.specs.Tables.{bound_at}
 use Rattle.lra_rounds.specs.declared.growth.Growth.TheVariants.{Join}
 use Rattle.lra_rounds.specs.Intervals.{Row, joined_option, grown_option, updated, no_values}
@@ -40,13 +40,13 @@ one_taken : (t : Bool) (o now b w : Option Interval) → (t ≡ true → now ≡
 one_taken true o now b w here other = ap (λ (i : Option Interval). joined_option i w) (here refl) ∙ option_again o b w
 one_taken false o now b w here other = ap (λ (i : Option Interval). joined_option i w) (other refl)
 
-taken_length : (notes : List (ℕ × Content)) (row : Row) → length (taken_all row notes) ≡ length row
+taken_length : (notes : List (ℕ × BoxContent)) (row : Row) → length (taken_all row notes) ≡ length row
 taken_length [] row = refl
 taken_length ((x, v) ∷ notes) row =
     taken_length notes (updated x (λ i. grown_option Join i (bound_at x v.bounds)) row)
     ∙ updated_length row x (λ i. grown_option Join i (bound_at x v.bounds))
 
-taken_at : (notes : List (ℕ × Content)) (row : Row) (k : ℕ) → k < length row
+taken_at : (notes : List (ℕ × BoxContent)) (row : Row) (k : ℕ) → k < length row
     → interval_at k (taken_all row notes) ≡ joined_option (interval_at k row) (written_to k notes)
 taken_at [] row k few = sym (joined_none (interval_at k row))
 taken_at ((x, v) ∷ notes) row k few =
@@ -60,7 +60,7 @@ taken_at ((x, v) ∷ notes) row k few =
     at_place e = subst (λ (y : ℕ). interval_at k (updated y (λ i. grown_option Join i (bound_at y v.bounds)) row)
         ≡ joined_option (interval_at k row) (bound_at k v.bounds)) (sym e) (updated_here row k (λ i. grown_option Join i (bound_at k v.bounds)) few)
 
-row_is : (row : Row) (x : ℕ) (notes : List (ℕ × Content)) → ((k : ℕ) → k < length row → interval_at k row ≡ written_to (x + k) notes)
+row_is : (row : Row) (x : ℕ) (notes : List (ℕ × BoxContent)) → ((k : ℕ) → k < length row → interval_at k row ≡ written_to (x + k) notes)
     → row ≡ written_from x (length row) notes
 row_is [] x notes h = refl
 row_is (i ∷ is) x notes h =
@@ -70,7 +70,7 @@ row_is (i ∷ is) x notes h =
     subst (λ (y : ℕ). interval_at k is ≡ written_to y notes) e (h (suc k) (omega (arith, few))) in
     ap (λ (j : Option Interval). j ∷ is) own ∙ ap (λ (js : Row). written_to x notes ∷ js) (row_is is (suc x) notes later)
 
-pub taken_is_written : (globals : ℕ) (notes : List (ℕ × Content)) → taken_all (no_values globals) notes ≡ written_by globals notes
+pub taken_is_written : (globals : ℕ) (notes : List (ℕ × BoxContent)) → taken_all (no_values globals) notes ≡ written_by globals notes
 taken_is_written globals notes =
     let empty : Row = no_values globals in
     let start : length empty ≡ globals = length-replicate globals None in

@@ -5,9 +5,9 @@ use Rattle.std.proofs.Math.Path.{fun_ext}
 use Rattle.std.proofs.lemmas.Int.{ints, clamps}
 use Rattle.std.proofs.lemmas.List.{length-replicate}
 use Rattle.lra_domain.specs.Bounds.{lesser_low, greater}
-use Rattle.lra_others.specs.Others.{Others}
+use Rattle.lra_interference.specs.Interference.{Interference}
 use Rattle.lra_box.specs.declared.interval.Interval.{Interval}
-use Rattle.lra_box.specs.Content.{Content}
+use Rattle.lra_box.specs.Content.{BoxContent}
 use Rattle.lra_box.specs.Tables.{on_bounds, joined_interval, admitting}
 use Rattle.lra_rounds.specs.Intervals.{Row, Table, joined_option, grown_option, grown_row}
 use Rattle.lra_rounds.specs.declared.growth.Growth.TheVariants.{Join}
@@ -49,7 +49,7 @@ admitting_twice [] x i j = refl
 admitting_twice (k ∷ is) zero i j = ap (λ (l : Interval). l ∷ is) (interval_again k i j)
 admitting_twice (k ∷ is) (suc x) i j = ap (λ (js : List Interval). k ∷ js) (admitting_twice is x i j)
 
-option_twice : (x : ℕ) (i j : Option Interval) (v : Content) → admitting_option x j (admitting_option x i v) ≡ admitting_option x (joined_option i j) v
+option_twice : (x : ℕ) (i j : Option Interval) (v : BoxContent) → admitting_option x j (admitting_option x i v) ≡ admitting_option x (joined_option i j) v
 option_twice x None j v = refl
 option_twice x (Some i) None v = refl
 option_twice x (Some i) (Some j) v = by_bounds v.bounds
@@ -63,15 +63,15 @@ abbrev joined_all : Option Interval → List (Option Interval) → Option Interv
 joined_all i [] = i
 joined_all i (j ∷ js) = joined_all (joined_option i j) js
 
-all_at_once : (x : ℕ) (i : Option Interval) (is : List (Option Interval)) (v : Content)
+all_at_once : (x : ℕ) (i : Option Interval) (is : List (Option Interval)) (v : BoxContent)
     → admitting_all x is (admitting_option x i v) ≡ admitting_option x (joined_all i is) v
 all_at_once x i [] v = refl
 all_at_once x i (j ∷ js) v =
-    ap (λ (w : Content). admitting_all x js w) (option_twice x i j v) ∙ all_at_once x (joined_option i j) js v
+    ap (λ (w : BoxContent). admitting_all x js w) (option_twice x i j v) ∙ all_at_once x (joined_option i j) js v
 
 -- place by place ---------------------------------------------------------------------------------------------------
 
-row_once : (row : Row) (x : ℕ) (rows : Table) (v : Content)
+row_once : (row : Row) (x : ℕ) (rows : Table) (v : BoxContent)
     → ((k : ℕ) → k < length row → interval_at k row ≡ joined_all None (column (x + k) rows))
     → admitting_row x row v ≡ disturbed_from x (length row) rows v
 row_once [] x rows v h = refl
@@ -83,7 +83,7 @@ row_once (i ∷ is) x rows v h =
     let later = λ (k : ℕ) (few : k < length is). let e : x + suc k ≡ suc x + k = omega arith in
     subst (λ (y : ℕ). interval_at k is ≡ joined_all None (column y rows)) e (h (suc k) (omega (arith, few))) in
     row_once is (suc x) rows (admitting_option x i v) later
-    ∙ ap (λ (w : Content). disturbed_from (suc x) (length is) rows w) first
+    ∙ ap (λ (w : BoxContent). disturbed_from (suc x) (length is) rows w) first
 
 joined_row_at : (row other : Row) (k : ℕ) → k < length row → interval_at k (grown_row Join row other) ≡ joined_option (interval_at k row) (interval_at k other)
 joined_row_at [] other k few = absurd (omega (arith, few))
@@ -123,7 +123,7 @@ told_parts globals k table nothing first all front back a b c d e =
     ∙ ap₂ (λ (xs ys : Table). joined_rows (replicate globals None) (xs ++ ys)) b behind
 
 -- what is told at once does as what is told one by one
-pub one_by_one : (globals k : ℕ) (table : Table) (v : Content) → admitting_row 0 (told_to globals k table) v ≡ disturbed globals k table v
+pub one_by_one : (globals k : ℕ) (table : Table) (v : BoxContent) → admitting_row 0 (told_to globals k table) v ≡ disturbed globals k table v
 one_by_one globals k table v =
     let rows = others_than k table in
     let empty : Row = replicate globals None in
@@ -137,5 +137,6 @@ one_by_one globals k table v =
     (row_once (told_to globals k table) 0 rows v at)
 
 pub telling_others : (globals k : ℕ) (table : Table) → telling (told_to globals k table) ≡ others_of globals k table
-telling_others globals k table = ap (λ (done : Content → Content → Type 0). let o : Others Content = record (others_of globals k table) { done = done } in o)
-    (fun_ext (λ v. fun_ext (λ w. ap (λ (u : Content). w ≡ u) (one_by_one globals k table v))))
+telling_others globals k table =
+    ap (λ (done : BoxContent → BoxContent → Type 0). let o : Interference BoxContent = record (others_of globals k table) { done = done } in o)
+    (fun_ext (λ v. fun_ext (λ w. ap (λ (u : BoxContent). w ≡ u) (one_by_one globals k table v))))

@@ -1,15 +1,16 @@
 -- What a first flag of all rounds tells.
 use Rattle.std.specs.Prelude.{◌≡◌, ◌<◌, ◌-◌, ℕ, List, length, None, Some, slice_get}
-use Rattle.lra_others.specs.Others.{Others}
-use Rattle.lra_box.specs.Content.{Content}
+use Rattle.lra_interference.specs.Interference.{Interference}
+use Rattle.lra_box.specs.Content.{BoxContent}
 use Rattle.lra_rounds.specs.Intervals.{Table, TableWithin, next_table}
 use Rattle.lra_rounds.specs.Telling.{others_of}
 use Rattle.lra_rounds.specs.Rounds.{Finding, IsRound}
 
 -- The rounds go, each thread as IsFound says and without a flag, up to an analysis that strains: of this thread, at
 -- this point. Strains k others q: an analysis of the k-th thread among these others strains at q.
-pub data ComesToStrain {R : Type 0} (finding : Finding R) (globals : ℕ) (IsFound : ℕ → Others Content → R → Type 0)
-    (Strains : ℕ → Others Content → ℕ → Type 0) (count : ℕ) : ℕ → Table → ℕ → ℕ → Type 0 where
+pub data ComesToStrain {R : Type 0} (finding : Finding R) (globals : ℕ)
+    (IsFound : ℕ → Interference BoxContent → R → Type 0)
+    (Strains : ℕ → Interference BoxContent → ℕ → Type 0) (count : ℕ) : ℕ → Table → ℕ → ℕ → Type 0 where
   here : (left : ℕ) (table : Table) (k q : ℕ) (before : List R) → k < count → length before ≡ k
       → ((j : ℕ) (r : R) → slice_get before j ≡ Some r →
       IsFound j (others_of globals j table) r × (finding.flag r ≡ None))

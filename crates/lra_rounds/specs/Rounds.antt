@@ -1,8 +1,8 @@
 -- Threads are analysed in rounds, each thread among what the others wrote so far, until nothing is written that wasn't
 -- told. What an analysis of one thread is stands open here: a relation.
 use Rattle.std.specs.Prelude.{◌≡◌, ◌-◌, ℕ, suc, List, [], ◌∷◌, length, map, Option, None, Some, slice_get}
-use Rattle.lra_others.specs.Others.{Others}
-use Rattle.lra_box.specs.Content.{Content}
+use Rattle.lra_interference.specs.Interference.{Interference}
+use Rattle.lra_box.specs.Content.{BoxContent}
 use Rattle.lra_rounds.specs.Intervals.{Table, empty_table, TableWithin, next_table}
 use Rattle.lra_rounds.specs.Telling.{others_of, written_by}
 
@@ -13,7 +13,7 @@ joining_rounds = 2
 -- What is found of a thread, R: its notes (variables, each with the value behind a gift to it), and its first flagged
 -- point.
 pub record Finding (R : Type 0) : Type 0 where
-  pub notes : R → List (ℕ × Content)
+  pub notes : R → List (ℕ × BoxContent)
   pub flag : R → Option ℕ
 
 abbrev pub flag_of : ℕ → Option ℕ → Option (ℕ × ℕ) → Option (ℕ × ℕ)
@@ -42,13 +42,14 @@ abbrev pub written_in : {R : Type 0} → Finding R → ℕ → List R → Table
 written_in finding globals found = map (λ r. written_by globals (finding.notes r)) found
 
 -- one for each thread; IsFound k others r: an analysis of the k-th thread among these others finds r
-pub record AreFound {R : Type 0} (globals : ℕ) (IsFound : ℕ → Others Content → R → Type 0) (count : ℕ) (table : Table)
+pub record AreFound {R : Type 0} (globals : ℕ) (IsFound : ℕ → Interference BoxContent → R → Type 0) (count : ℕ)
+    (table : Table)
     (found : List R) : Type 0 where
   pub all : length found ≡ count
   pub each : (k : ℕ) (r : R) → slice_get found k ≡ Some r → IsFound k (others_of globals k table) r
 
 -- one round, with this first flag so far; what is written, and the first flag then
-pub record IsRound {R : Type 0} (finding : Finding R) (globals : ℕ) (IsFound : ℕ → Others Content → R → Type 0)
+pub record IsRound {R : Type 0} (finding : Finding R) (globals : ℕ) (IsFound : ℕ → Interference BoxContent → R → Type 0)
     (count : ℕ) (flag : Option (ℕ × ℕ)) (table : Table) (found : List R) (written : Table) (first : Option (ℕ × ℕ))
     : Type 0 where
   pub are_found : AreFound globals IsFound count table found
@@ -56,7 +57,7 @@ pub record IsRound {R : Type 0} (finding : Finding R) (globals : ℕ) (IsFound :
   pub is_first : first ≡ flag_so_far flag (first_flag finding.flag 0 found)
 
 -- so many rounds of joining left, with this first flag so far, the rounds from these intervals end so
-pub data Rounds {R : Type 0} (finding : Finding R) (globals : ℕ) (IsFound : ℕ → Others Content → R → Type 0)
+pub data Rounds {R : Type 0} (finding : Finding R) (globals : ℕ) (IsFound : ℕ → Interference BoxContent → R → Type 0)
     (count : ℕ) : ℕ → Option (ℕ × ℕ) → Table → Settled R → Type 0 where
   settled : (left : ℕ) (flag first : Option (ℕ × ℕ)) (table written : Table) (found : List R)
       → IsRound finding globals IsFound count flag table found written first → TableWithin written table
@@ -68,6 +69,7 @@ pub data Rounds {R : Type 0} (finding : Finding R) (globals : ℕ) (IsFound : �
       → Rounds finding globals IsFound count left flag table end
 
 -- from empty intervals
-abbrev pub AllRounds : {R : Type 0} → Finding R → ℕ → (ℕ → Others Content → R → Type 0) → ℕ → Settled R → Type 0
+abbrev pub AllRounds : {R : Type 0} → Finding R → ℕ → (ℕ → Interference BoxContent → R → Type 0) → ℕ → Settled R →
+    Type 0
 AllRounds finding globals IsFound count end =
     Rounds finding globals IsFound count joining_rounds None (empty_table count globals) end

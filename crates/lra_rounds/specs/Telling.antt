@@ -4,10 +4,10 @@ use Rattle.std.specs.Prelude.{◌≡◌, ◌++◌, ℕ, zero, suc, ℤ, List, []
 use Rattle.std.specs.Prelude.{slice_set, nat_eq, if◌then◌else◌}
 use Rattle.std.proofs.Common.{subst, sym}
 use Rattle.std.proofs.Math.ListN.{length-set}
-use Rattle.lra_others.specs.Others.{Others}
+use Rattle.lra_interference.specs.Interference.{Interference}
 use Rattle.lra_box.specs.declared.interval.Interval.{Interval}
 use Rattle.lra_box.specs.Bounds.{InInterval}
-use Rattle.lra_box.specs.Content.{Content}
+use Rattle.lra_box.specs.Content.{BoxContent}
 use Rattle.lra_box.specs.Tables.{bound_at, admitted}
 use Rattle.lra_rounds.specs.Intervals.{Row, Table, no_values, joined_option, grown_option, grown_row, updated}
 use Rattle.lra_rounds.specs.declared.growth.Growth.TheVariants.{Join}
@@ -18,12 +18,12 @@ others_than k xs = take k xs ++ drop (suc k) xs
 
 -- a value among others ---------------------------------------------------------------------------------------------
 
-abbrev pub admitting_option : ℕ → Option Interval → Content → Content
+abbrev pub admitting_option : ℕ → Option Interval → BoxContent → BoxContent
 admitting_option x None v = v
 admitting_option x (Some i) v = admitted x i v
 
 -- dimension x may have each value of these intervals, one after the other
-abbrev pub admitting_all : ℕ → List (Option Interval) → Content → Content
+abbrev pub admitting_all : ℕ → List (Option Interval) → BoxContent → BoxContent
 admitting_all x [] v = v
 admitting_all x (i ∷ is) v = admitting_all x is (admitting_option x i v)
 
@@ -39,12 +39,12 @@ column x [] = []
 column x (row ∷ rows) = interval_at x row ∷ column x rows
 
 -- for each global from x on, in order, those of these threads, in the order of threads
-abbrev pub disturbed_from : ℕ → ℕ → Table → Content → Content
+abbrev pub disturbed_from : ℕ → ℕ → Table → BoxContent → BoxContent
 disturbed_from x zero rows v = v
 disturbed_from x (suc more) rows v = disturbed_from (suc x) more rows (admitting_all x (column x rows) v)
 
 -- what the other threads make of a value of the k-th
-abbrev pub disturbed : ℕ → ℕ → Table → Content → Content
+abbrev pub disturbed : ℕ → ℕ → Table → BoxContent → BoxContent
 disturbed globals k table v = disturbed_from 0 globals (others_than k table) v
 
 -- what is told at once ---------------------------------------------------------------------------------------------
@@ -59,7 +59,7 @@ abbrev pub told_to : ℕ → ℕ → Table → Row
 told_to globals k table = joined_rows (no_values globals) (others_than k table)
 
 -- from global x on, each may have the values of its interval
-abbrev pub admitting_row : ℕ → Row → Content → Content
+abbrev pub admitting_row : ℕ → Row → BoxContent → BoxContent
 admitting_row x [] v = v
 admitting_row x (i ∷ is) v = admitting_row (suc x) is (admitting_option x i v)
 
@@ -76,18 +76,18 @@ pub as_long : (told : Row) (s t : List ℤ) → MayGive told s t → length t �
 as_long told s t h = subst (λ (u : List ℤ). length u ≡ length s) (sym h.after) (length-set {A = ℤ} s h.global h.number)
 
 -- what others may do of whom this is told
-abbrev pub telling : Row → Others Content
+abbrev pub telling : Row → Interference BoxContent
 telling told = record {
-  may = MayGive told;
+  rely = MayGive told;
   as_long = as_long told;
   done = λ v w. w ≡ admitting_row 0 told v;
   strains = λ v. ⊥;
 }
 
 -- the other threads, to the k-th; what a value becomes is written one by one
-abbrev pub others_of : ℕ → ℕ → Table → Others Content
+abbrev pub others_of : ℕ → ℕ → Table → Interference BoxContent
 others_of globals k table = record {
-  may = MayGive (told_to globals k table);
+  rely = MayGive (told_to globals k table);
   as_long = as_long (told_to globals k table);
   done = λ v w. w ≡ disturbed globals k table v;
   strains = λ v. ⊥;
@@ -96,21 +96,21 @@ others_of globals k table = record {
 -- what is written --------------------------------------------------------------------------------------------------
 
 -- the bounds of the variable x in each value that was noted for it, joined; none where all these are empty
-abbrev pub written_to : ℕ → List (ℕ × Content) → Option Interval
+abbrev pub written_to : ℕ → List (ℕ × BoxContent) → Option Interval
 written_to x [] = None
 written_to x ((y, v) ∷ notes) =
     if nat_eq y x then joined_option (bound_at x v.bounds) (written_to x notes) else written_to x notes
 
 -- of so many globals from x on
-abbrev pub written_from : ℕ → ℕ → List (ℕ × Content) → Row
+abbrev pub written_from : ℕ → ℕ → List (ℕ × BoxContent) → Row
 written_from x zero notes = []
 written_from x (suc more) notes = written_to x notes ∷ written_from (suc x) more notes
 
 -- by a thread whose notes these are
-abbrev pub written_by : ℕ → List (ℕ × Content) → Row
+abbrev pub written_by : ℕ → List (ℕ × BoxContent) → Row
 written_by globals notes = written_from 0 globals notes
 
 -- note by note, of all globals
-abbrev pub taken_all : Row → List (ℕ × Content) → Row
+abbrev pub taken_all : Row → List (ℕ × BoxContent) → Row
 taken_all row [] = row
 taken_all row ((x, v) ∷ notes) = taken_all (updated x (λ i. grown_option Join i (bound_at x v.bounds)) row) notes

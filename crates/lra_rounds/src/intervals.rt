@@ -1,7 +1,7 @@
 //! For each global an interval, or none.
 
 ghost use Rattle.std.specs.Prelude.{◌≡◌, ◌↔◌, IfOk, IsTrue};
-ghost use Rattle.lra_box.specs.Content.{BoxFormed};
+ghost use Rattle.lra_box.specs.Content.{WellFormedBox};
 ghost use Rattle.lra_box.specs.Tables.{bound_at};
 ghost use Rattle.lra_rounds.specs.Intervals.{grown_option, grown_row, no_values, updated, OptionFits, RowWithin};
 ghost use Rattle.lra_rounds.specs.declared.growth.Growth.TheVariants.{Join};
@@ -11,7 +11,7 @@ use crate::growth::Growth;
 use crate::rows::{all_within, grow_all, grow_at, nothing};
 use lra_box::{Boxes, Interval};
 use lra_domain::{Domain, Exactness};
-use lra_others::Disturb;
+use lra_interference::Interfere;
 use std::alloc::{AllocError, Global};
 use std::marker::Model;
 
@@ -95,7 +95,7 @@ impl Intervals {
 
 /// The place may have each value of the interval; a value without the place stays.
 fn admit_at(value: &mut Boxes, x: usize, interval: Option<Interval>)
-    requires formed { BoxFormed value.old }
+    requires formed { WellFormedBox value.old }
     requires fits { OptionFits interval }
     ensures { value.new ≡ admitting_option x interval value.old }
 {
@@ -106,8 +106,8 @@ fn admit_at(value: &mut Boxes, x: usize, interval: Option<Interval>)
     }
 }
 
-impl Disturb<Boxes> for Intervals {
-    ghost others = { telling };
+impl Interfere<Boxes> for Intervals {
+    ghost interference = { telling };
 
     fn apply(&self, value: &mut Boxes) -> Result<Exactness, AllocError> {
         // a value that is held is formed

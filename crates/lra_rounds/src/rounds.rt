@@ -1,8 +1,8 @@
 //! The rounds: each thread is analysed among what the others wrote so far, until nothing is written that wasn't told.
 
 ghost use Rattle.std.specs.Prelude.{◌≡◌, ◌<◌, ℕ, [], ◌∷◌, ◌++◌, None, length, IfOk};
-ghost use Rattle.lra_others.specs.Others.{Others};
-ghost use Rattle.lra_box.specs.Content.{Content};
+ghost use Rattle.lra_interference.specs.Interference.{Interference};
+ghost use Rattle.lra_box.specs.Content.{BoxContent};
 ghost use Rattle.lra_rounds.specs.Telling.{telling, told_to, written_by};
 ghost use Rattle.lra_rounds.specs.Rounds.{flag_of, flag_so_far, Finding, IsRound, AllRounds};
 ghost use Rattle.lra_rounds.specs.Found.{settled_view};
@@ -28,7 +28,7 @@ pub trait Threads {
     ghost finding: { Finding Self.Found };
 
     /// What an analysis of a thread, by its number, among others finds.
-    ghost finds: { Self → ℕ → Others Content → Self.Found → Type 0 };
+    ghost finds: { Self → ℕ → Interference BoxContent → Self.Found → Type 0 };
 
     /// How many threads there are.
     fn count(&self) -> usize

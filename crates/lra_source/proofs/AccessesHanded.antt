@@ -9,7 +9,7 @@ use Rattle.std.proofs.lemmas.List.{append-nil, map-append}
 use Rattle.std.proofs.lemmas.Option.{none-some, same_Some}
 use Rattle.lra_linear_spec.proofs.Membership.{contains_tail}
 use Rattle.lra_base.specs.declared.refusals.Place.{Place}
-use Rattle.lra_domain.specs.Meaning.{Meaning}
+use Rattle.lra_domain.specs.Abstraction.{Abstraction}
 use Rattle.lra_domain.specs.declared.Exactness.{Exactness}
 use Rattle.lra_program.specs.Accesses.{expr_accesses, cond_accesses, arguments_accesses, aim_accesses, op_accesses, op_accesses_any}
 use Rattle.lra_program.specs.Program.{Element, Cond, compare, nonzero, opposite, both_of, either_of}
@@ -41,7 +41,7 @@ both_placed : (xs ys : List Element) (us ws js : List (Place × Bool)) → js �
 both_placed xs ys us ws js is one two =
     ap (map place_told) is ∙ map-append place_told us ws ∙ ap₂ (λ (k l : List Place). k ++ l) one two ∙ sym (map-append named_at xs ys)
 
-module _ {V H : Type 0} (m : Meaning V H) (ops : Operations V H) where
+module _ {V H : Type 0} (m : Abstraction V H) (ops : Operations V H) where
   each_placed : (v : V) (base : ℕ) (xs : List Element) (js : List (Place × Bool)) (e : Exactness) → EachJudged m ops v base xs js e → ArePlaced xs js
   each_placed v base [] js e (none, exact) = ap (map place_told) none
   each_placed v base (x ∷ xs) js e (b, later, c, d, first, rest, is, flags) =
@@ -124,7 +124,7 @@ some_there q (x ∷ xs) some = by (nat_eq x.point q) refl some (λ later. some_t
 
 -- what the listing asks --------------------------------------------------------------------------------------------------
 
-module _ {V H : Type 0} (m : Meaning V H) (ops : Operations V H) (g : Node) (values : List V) (flagged : Option ℕ)
+module _ {V H : Type 0} (m : Abstraction V H) (ops : Operations V H) (g : Node) (values : List V) (flagged : Option ℕ)
     (inside : List (ℕ × List (Place × Bool))) (behind : Option ℕ) (once : AreAskedOnce op_accesses_any g) where
   accessed_there : (a : Asked) → Contains (accessed_in None g) a → accesses_at g a.point ≡ op_accesses a.op
   accessed_there a among = let (k, there) = place_of (accessed_in None g) a among in one_there (accessed_in None g) once k a there

@@ -3,7 +3,7 @@ use Rattle.std.proofs.Common.{◌≡◌, ◌∙◌, ℕ, List, Option, Some, Boo
 use Rattle.std.specs.Prelude.{slice_get}
 use Rattle.std.specs.List.{Contains}
 use Rattle.lra_base.specs.declared.refusals.Place.{Place}
-use Rattle.lra_domain.specs.Meaning.{Meaning}
+use Rattle.lra_domain.specs.Abstraction.{Abstraction}
 use Rattle.lra_domain.specs.Laws.{Laws}
 use Rattle.lra_program.specs.Program.{Program}
 use Rattle.lra_program.specs.WellFormed.{AreGoodGlobals}
@@ -22,7 +22,7 @@ use Rattle.lra_source.specs.Soundness.{AccessesAreSound}
 use Rattle.lra_source.proofs.Found.{found_of, one_asked_there}
 use Rattle.lra_source.proofs.Sound.{held_there}
 
-module _ (V H : Type 0) (m : Meaning V H) (laws : Laws m) (set : Plan) (P : Program) (good : AreGoodGlobals P.globals) (g : Node) (r : Result V)
+module _ (V H : Type 0) (m : Abstraction V H) (laws : Laws m) (set : Plan) (P : Program) (good : AreGoodGlobals P.globals) (g : Node) (r : Result V)
     (derived : Derivation m set P g r) (agrees : Agrees P g) (values : List V) (verdicts : List (ℕ × Bool)) (flagged : Option ℕ)
     (solves : Solves m r values verdicts flagged)
     (well : AccessesWell P g) where
@@ -42,7 +42,7 @@ module _ (V H : Type 0) (m : Meaning V H) (laws : Laws m) (set : Plan) (P : Prog
       (subst (λ (ks : List (Place × Bool)). AskedInside m (dropping m) values a ks j.exactness) same judged) in
       inside_never_stray m laws values b js j.exactness v c.state n place here held.0 held.1 is_so inner outside
 
-pub accesses_sound : (V H : Type 0) (m : Meaning V H) → Laws m → AccessesAreSound m
+pub accesses_sound : (V H : Type 0) (m : Abstraction V H) → Laws m → AccessesAreSound m
 accesses_sound V H m laws plan P tree values verdicts inside flagged behind last solved good graph agrees well judges q s js n place site told inner strays =
     inside_holds V H m laws plan P good tree solved.result solved.derived agrees values verdicts flagged solved.solves well inside behind last judges q s js n
     place site told inner strays

@@ -4,7 +4,7 @@ use Rattle.std.specs.Prelude.{IsTrue, nat_eq}
 use Rattle.std.proofs.lemmas.Bool.{eqb-true}
 use Rattle.std.specs.List.{Contains, list_any}
 use Rattle.std.proofs.lemmas.List.Folds.{Any-from_list_any, list_any_at}
-use Rattle.lra_domain.specs.Meaning.{Meaning}
+use Rattle.lra_domain.specs.Abstraction.{Abstraction}
 use Rattle.lra_program.specs.Sites.{Site}
 use Rattle.lra_operations.specs.Graph.{Node}
 use Rattle.lra_operations.specs.Asked.{Asked, asked_in}
@@ -22,7 +22,7 @@ asked_there asked q h =
     let (k, a, inside, is, at) = Any-from_list_any (λ (x : Asked). nat_eq x.point q) asked h in
     (a, (k, inside, is), eqb-true _ _ at)
 
-module _ {V H : Type 0} (m : Meaning V H) (ops : Operations V H) (g : Node) (values : List V) (flagged : Option ℕ) (fitting : List (ℕ × Bool))
+module _ {V H : Type 0} (m : Abstraction V H) (ops : Operations V H) (g : Node) (values : List V) (flagged : Option ℕ) (fitting : List (ℕ × Bool))
     (behind : Option ℕ) where
   pub fitting_on : (sites : List Site) → length values ≡ length sites → Judges m ops g values flagged fitting behind
       → AreVerdictsOn (IsComputing g sites) fitting
@@ -30,7 +30,7 @@ module _ {V H : Type 0} (m : Meaning V H) (ops : Operations V H) (g : Node) (val
       (λ a one low. let (s, site) = site_there sites a.point (subst (λ (n : ℕ). a.point < n) many low) in (s, site, computes_there (asked_in None g) a one))
       (λ q (s, site, so). asked_there (asked_in None g) q so)
 
-pub unflagged_before : {V H : Type 0} (m : Meaning V H) (ops : Operations V H) (b : Bool) (g : Node) (values : List V) (flagged : Option ℕ)
+pub unflagged_before : {V H : Type 0} (m : Abstraction V H) (ops : Operations V H) (b : Bool) (g : Node) (values : List V) (flagged : Option ℕ)
     (fitting : List (ℕ × Bool)) (behind : Option ℕ) → behind ≡ None → JudgesIf m ops b g values flagged fitting behind → flagged ≡ None
 unflagged_before m ops true g values flagged fitting behind none j = none_before ops (OpFits m ops) (asked_in None g) values flagged fitting behind j none
 unflagged_before m ops false g values flagged fitting behind none j = sym j.1 ∙ none

@@ -2,7 +2,7 @@
 use Rattle.std.proofs.Common.{◌≡◌, ◌∙◌, ℕ, List, Option, Some, Bool, true, refl, sym, ap, subst}
 use Rattle.std.specs.Prelude.{slice_get}
 use Rattle.std.specs.List.{Contains}
-use Rattle.lra_domain.specs.Meaning.{Meaning}
+use Rattle.lra_domain.specs.Abstraction.{Abstraction}
 use Rattle.lra_domain.specs.Laws.{Laws}
 use Rattle.lra_program.specs.Program.{Program}
 use Rattle.lra_program.specs.WellFormed.{AreGoodGlobals}
@@ -21,7 +21,7 @@ use Rattle.lra_source.specs.Soundness.{FittingIsSound}
 use Rattle.lra_source.proofs.Found.{found_of, one_asked_there}
 use Rattle.lra_source.proofs.Sound.{held_there}
 
-module _ (V H : Type 0) (m : Meaning V H) (laws : Laws m) (set : Plan) (P : Program) (good : AreGoodGlobals P.globals) (g : Node) (r : Result V)
+module _ (V H : Type 0) (m : Abstraction V H) (laws : Laws m) (set : Plan) (P : Program) (good : AreGoodGlobals P.globals) (g : Node) (r : Result V)
     (derived : Derivation m set P g r) (agrees : Agrees P g) (values : List V) (verdicts : List (ℕ × Bool)) (flagged : Option ℕ)
     (solves : Solves m r values verdicts flagged)
     (well : AsksWell P g) where
@@ -41,7 +41,7 @@ module _ (V H : Type 0) (m : Meaning V H) (laws : Laws m) (set : Plan) (P : Prog
       (subst (λ (x : Bool). AskedJudged m (dropping m) values a x j.exactness) (fits ∙ yes_so) judged) in
       fitting_never_overflows m laws values b j.exactness v c.state here held.0 held.1 is_so stops
 
-pub fitting_sound : (V H : Type 0) (m : Meaning V H) → Laws m → FittingIsSound m
+pub fitting_sound : (V H : Type 0) (m : Abstraction V H) → Laws m → FittingIsSound m
 fitting_sound V H m laws plan P tree values verdicts fitting flagged behind solved good graph agrees well judges q s site told over =
     fitting_holds V H m laws plan P good tree solved.result solved.derived agrees values verdicts flagged solved.solves well fitting behind judges q s true
     site told refl over

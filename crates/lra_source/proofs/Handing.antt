@@ -9,7 +9,7 @@ use Rattle.std.proofs.lemmas.List.Elements.{Contains-append_cases}
 use Rattle.std.proofs.lemmas.Option.{none-some, same_Some}
 use Rattle.lra_linear_spec.proofs.Membership.{contains_cases, contains_head, contains_none, contains_tail, map_from}
 use Rattle.lra_base.specs.declared.refusals.Place.{Place}
-use Rattle.lra_domain.specs.Meaning.{Meaning}
+use Rattle.lra_domain.specs.Abstraction.{Abstraction}
 use Rattle.lra_domain.specs.Laws.{Laws}
 use Rattle.lra_program.specs.Program.{Program}
 use Rattle.lra_operations.specs.Graph.{Node}
@@ -123,7 +123,7 @@ at_place Q [] i x all at = absurd (none-some _ at)
 at_place Q (y ∷ ys) zero x all at = subst Q (same_Some _ _ at) all.0
 at_place Q (y ∷ ys) (suc i) x all at = at_place Q ys i x all.1 at
 
-module _ {V H : Type 0} (m : Meaning V H) (plan : Plan) (P : Program) (g : Node) (r : Result V) (values : List V) (verdicts : List (ℕ × Bool)) (flagged : Option ℕ)
+module _ {V H : Type 0} (m : Abstraction V H) (plan : Plan) (P : Program) (g : Node) (r : Result V) (values : List V) (verdicts : List (ℕ × Bool)) (flagged : Option ℕ)
     (graph : IsGraph P g) (derived : Derivation m plan P g r) (solves : Solves m r values verdicts flagged) where
   counts : (q : ℕ) → Found q r.entries (values_in g q) (checks_in g q)
   counts q = iteration_found V H (dropping m) q plan P g r derived

@@ -1,6 +1,6 @@
 -- What an iteration finds holds in all runs.
 use Rattle.std.proofs.Common.{true, refl}
-use Rattle.lra_domain.specs.Meaning.{Meaning}
+use Rattle.lra_domain.specs.Abstraction.{Abstraction}
 use Rattle.lra_domain.specs.Laws.{Laws}
 use Rattle.lra_flow.specs.Operations.{dropping}
 use Rattle.lra_iter.proofs.Counting.{iteration_fails_once}
@@ -8,7 +8,7 @@ use Rattle.lra_source.specs.Soundness.{SolvedAreSound}
 use Rattle.lra_source.proofs.Numbering.{numbered}
 use Rattle.lra_source.proofs.Sound.{value_there, proved_holds, none_comes}
 
-pub solved_holds : (V H : Type 0) (m : Meaning V H) → Laws m → SolvedAreSound m
+pub solved_holds : (V H : Type 0) (m : Abstraction V H) → Laws m → SolvedAreSound m
 solved_holds V H m laws plan P tree values verdicts flagged solved good graph agrees = record {
   stores = value_there V H m laws plan P good tree solved.result solved.derived agrees values verdicts flagged solved.solves;
   proved = λ q s there listed. proved_holds V H m laws plan P good tree solved.result solved.derived agrees values verdicts flagged solved.solves

@@ -4,20 +4,20 @@ use Rattle.std.specs.Prelude.{◌⊎◌, option_map, slice_get}
 use Rattle.std.specs.List.{Contains, flat_map}
 use Rattle.std.proofs.lemmas.Option.{none-some, same_Some}
 use Rattle.lra_linear_spec.proofs.Membership.{contains_head, contains_tail, contains_none}
-use Rattle.lra_domain.specs.Laws.{SingleLaws, PlainLaws}
-use Rattle.lra_box.specs.Laws.{box_single, box_plain}
-use Rattle.lra_oct.specs.Single.{octagon_single}
-use Rattle.lra_oct.specs.Laws.{octagon_plain}
+use Rattle.lra_domain.specs.Laws.{SingleLaws, BaseLaws}
+use Rattle.lra_box.specs.Laws.{box_single, box_base}
+use Rattle.lra_octagon.specs.Single.{octagon_single}
+use Rattle.lra_octagon.specs.Laws.{octagon_base}
 use Rattle.lra_polydom.specs.Laws.{polyhedron_single, polyhedron_plain}
-use Rattle.lra_set.specs.Content.{Parts, Head}
-use Rattle.lra_set.specs.Meaning.{set_meaning}
-use Rattle.lra_set.specs.Single.{set_single}
+use Rattle.lra_powerset.specs.Content.{SetContent, SetHead}
+use Rattle.lra_powerset.specs.Abstraction.{set_abstraction}
+use Rattle.lra_powerset.specs.Single.{set_single}
 use Rattle.lra_states.specs.Sets.{shown_set}
 use Rattle.lra_meaning.specs.LiveNames.{globals_named}
 use Rattle.lra_options.specs.declared.options.Domain.{Domain}
 use Rattle.lra_options.specs.declared.options.Domain.TheVariants.{Poly, Box, Oct}
 use Rattle.lra_base.specs.declared.refusals.Place.{Place}
-use Rattle.lra_domain.specs.Meaning.{Meaning}
+use Rattle.lra_domain.specs.Abstraction.{Abstraction}
 use Rattle.lra_domain.specs.declared.Exactness.{Exactness}
 use Rattle.lra_tree.specs.Trees.{FileTree}
 use Rattle.lra_tree.specs.Labels.{Labelled, labels_of}
@@ -174,7 +174,7 @@ module _ (vs us fs gs : List (ℕ × Bool)) (ones others : List (ℕ × List (Pl
   ]
 
 -- what is judged twice of the same values is one thing
-module _ {V H A : Type 0} (m : Meaning V H) (asks : Op → Bool) (Q : Op → State → Type 0) (Told : Op → V → A → Exactness → Type 0)
+module _ {V H A : Type 0} (m : Abstraction V H) (asks : Op → Bool) (Q : Op → State → Type 0) (Told : Op → V → A → Exactness → Type 0)
     (one_answer : (values : List V) (a : Asked) (x y : A) (e f : Exactness) → AskedTold (defined m) Told values a x e
     → AskedTold (defined m) Told values a y f → x ≡ y)
     (P : Program) (g : Node) (well : AsksFor asks Q P g) (values : List V) where
@@ -190,7 +190,7 @@ module _ {V H A : Type 0} (m : Meaning V H) (asks : Op → Bool) (Q : Op → Sta
       subst (λ (z : Asked). AskedTold (defined m) Told values z l.answer l.exactness) equal other in
       sym is ∙ one_answer values u k.answer l.answer k.exactness l.exactness judged here ∙ same
 
-module _ {V H : Type 0} (m : Meaning V H) (laws : SingleLaws m) (P : Program) (g : Node) (values : List V) where
+module _ {V H : Type 0} (m : Abstraction V H) (laws : SingleLaws m) (P : Program) (g : Node) (values : List V) where
   judged_same : AsksWell P g → (b : Bool) (fs gs : List (ℕ × Bool)) → JudgesIf m (defined m) b g values None fs None
       → JudgesIf m (defined m) b g values None gs None → AgreeBy fs gs
   judged_same well true fs gs x y = found_once m op_computes OpOverflows (OpFits m (defined m)) (one_asked m (defined m) (defined_single m laws)) P g well
@@ -207,7 +207,7 @@ one_flag None told is none = refl
 one_flag (Some q) told is none = absurd (none-some _ (sym none ∙ is))
 
 -- where nothing is flagged last, nothing is before
-module _ {V H : Type 0} (m : Meaning V H) {shown : V → Invariant} {o : Options} {constants : List ℤ} {P : Program} {r : Report}
+module _ {V H : Type 0} (m : Abstraction V H) {shown : V → Invariant} {o : Options} {constants : List ℤ} {P : Program} {r : Report}
     (x : IsAnalysed m shown o constants P r) (none : x.last ≡ None) where
   pub unflagged_behind : x.behind ≡ None
   unflagged_behind = none_before (dropping m) (OpInside m (dropping m)) (accessed_in None x.tree) x.values x.behind x.inside x.last x.accessed none
@@ -221,7 +221,7 @@ pub record SayTheSame (r s : Report) : Type 0 where
   pub states : map state_of r.points ≡ map state_of s.points
   pub verdicts : SayOne (map told_of r.verdicts) (map told_of s.verdicts)
 
-pub one_analysis : {V H : Type 0} (m : Meaning V H) → SingleLaws m → (shown : V → Invariant) (o : Options) (constants : List ℤ) (P : Program) (r s : Report) → IsAnalysed m shown o constants P r
+pub one_analysis : {V H : Type 0} (m : Abstraction V H) → SingleLaws m → (shown : V → Invariant) (o : Options) (constants : List ℤ) (P : Program) (r s : Report) → IsAnalysed m shown o constants P r
     → IsAnalysed m shown o constants P s
     → r.flagged ≡ None → s.flagged ≡ None → SayTheSame r s
 one_analysis {V} m laws shown o constants P r s a b e f =
@@ -248,16 +248,16 @@ one_analysis {V} m laws shown o constants P r s a b e f =
 
 -- what follows of two things that are said of each domain with one value of each definition follows of those that are said
 -- over the options
-module _ (a b : Saying) (X : Type 0) (follows : (V H : Type 0) (m : Meaning V H) (shown : V → Invariant) → SingleLaws m → a V H m shown → b V H m shown → X) where
-  by_number : (n : ℕ) (V H : Type 0) (m : Meaning V H) (shown : V → Invariant) → SingleLaws m → PlainLaws m → AloneOrSets n a V H m shown → AloneOrSets n b V H m shown → X
+module _ (a b : Saying) (X : Type 0) (follows : (V H : Type 0) (m : Abstraction V H) (shown : V → Invariant) → SingleLaws m → a V H m shown → b V H m shown → X) where
+  by_number : (n : ℕ) (V H : Type 0) (m : Abstraction V H) (shown : V → Invariant) → SingleLaws m → BaseLaws m → AloneOrSets n a V H m shown → AloneOrSets n b V H m shown → X
   by_number zero V H m shown l p h k = follows V H m shown l h k
   by_number (suc zero) V H m shown l p h k = follows V H m shown l h k
-  by_number (suc (suc n)) V H m shown l p h k = follows (Parts V) (Head V H) (set_meaning m) (shown_set shown) (set_single m l p) h k
+  by_number (suc (suc n)) V H m shown l p h k = follows (SetContent V) (SetHead V H) (set_abstraction m) (shown_set shown) (set_single m l p) h k
 
   by_domain : (d : Domain) (n : ℕ) → OverDomain d (AloneOrSets n a) → OverDomain d (AloneOrSets n b) → X
   by_domain Poly n h k = by_number n _ _ _ _ polyhedron_single polyhedron_plain h k
-  by_domain Box n h k = by_number n _ _ _ _ box_single box_plain h k
-  by_domain Oct n h k = by_number n _ _ _ _ octagon_single octagon_plain h k
+  by_domain Box n h k = by_number n _ _ _ _ box_single box_base h k
+  by_domain Oct n h k = by_number n _ _ _ _ octagon_single octagon_base h k
 
 pub one_unflagged : OneAnswer Spells → OneConstants → OneUnflaggedReport
 one_unflagged one one_list o source r s x y e f =

@@ -24,7 +24,7 @@ use Rattle.lra_options.specs.declared.options.Options.{Options}
 use Rattle.lra_report.specs.Report.{Invariant, Report}
 use Rattle.lra_report.specs.Listing.{Lists}
 use Rattle.lra_meaning.specs.Refuse.{greatest_live, greatest_points, limit_fault}
-use Rattle.lra_domain.specs.Meaning.{Meaning}
+use Rattle.lra_domain.specs.Abstraction.{Abstraction}
 use Rattle.lra_domain.specs.Laws.{Laws}
 use Rattle.lra_flow.specs.Room.{most_live}
 use Rattle.lra_flow.specs.Plan.{Plan, plan_of}
@@ -114,7 +114,7 @@ few_points t g sites has =
 -- what is shown of the values -----------------------------------------------------------------------------------------
 
 -- under another name of the domain, and of a list that is the same
-pub shown_there : {V H : Type 0} (m : Meaning V H) (shown : V → Invariant) (domain named : Domain) (values listed : List V) → domain ≡ named → listed ≡ values → AreShown m named shown listed
+pub shown_there : {V H : Type 0} (m : Abstraction V H) (shown : V → Invariant) (domain named : Domain) (values listed : List V) → domain ≡ named → listed ≡ values → AreShown m named shown listed
     → AreShown m domain shown values
 shown_there {V} m shown domain named values listed is same are =
     subst (λ (d : Domain). AreShown m d shown values) (sym is) (subst (λ (vs : List V). AreShown m named shown vs) same are)
@@ -129,7 +129,7 @@ canonical_there {V} dims shown domain named values listed is same are =
 accesses_well : (t : FileTree) (g : Node) (sites : List Site) → HasGraph t g sites → AccessesWell (resolve t) g
 accesses_well t g sites has = graphs_access_well (resolve t) g (distinct_sites (resolve t) has.well) has.is_graph
 
-module _ {V H : Type 0} (m : Meaning V H) (t : FileTree) (g : Node) (sites : List Site) (has : HasGraph t g sites) (plan : Plan)
+module _ {V H : Type 0} (m : Abstraction V H) (t : FileTree) (g : Node) (sites : List Site) (has : HasGraph t g sites) (plan : Plan)
     (values : List V) (verdicts : List (ℕ × Bool)) (flagged : Option ℕ) (solved : IsSolved m plan (resolve t) g values verdicts flagged) where
   pub states_handed : Laws m → (domain : Domain) (shown : V → Invariant) → AreShown m domain shown values
       → (states : List Invariant) → states ≡ map shown values → AreInvariants sites states
@@ -204,7 +204,7 @@ module _ {V H : Type 0} (m : Meaning V H) (t : FileTree) (g : Node) (sites : Lis
 
 -- the report ---------------------------------------------------------------------------------------------------------
 
-pub is_told : {V H : Type 0} (m : Meaning V H) (shown : V → Invariant) (o : Options) (constants : List ℤ) (t : FileTree) (g : Node) (sites : List Site)
+pub is_told : {V H : Type 0} (m : Abstraction V H) (shown : V → Invariant) (o : Options) (constants : List ℤ) (t : FileTree) (g : Node) (sites : List Site)
     (values : List V) (verdicts : List (ℕ × Bool)) (flagged : Option ℕ) (fitting : List (ℕ × Bool)) (behind : Option ℕ)
     (inside : List (ℕ × List (Place × Bool))) (last : Option ℕ) (states : List Invariant) (r : Report)
     → HasGraph t g sites → IsSolved m (plan_of o constants) (resolve t) g values verdicts flagged → JudgesIf m (dropping m) o.fits g values flagged fitting
@@ -288,7 +288,7 @@ told_so told vs us fs gs ones others is one two three =
     is ∙ ap (λ (l : List (ℕ × Bool)). told_all l fs ones) one ∙ ap₂ (λ (l : List (ℕ × Bool)) (k : List (ℕ × List (Place × Bool))). told_all us l k) two three
 
 -- it shows these values and tells these verdicts
-pub tells_solution : {V H : Type 0} (m : Meaning V H) (shown : V → Invariant) (asked : Bool) (g : Node) (values : List V) (verdicts : List (ℕ × Bool))
+pub tells_solution : {V H : Type 0} (m : Abstraction V H) (shown : V → Invariant) (asked : Bool) (g : Node) (values : List V) (verdicts : List (ℕ × Bool))
     (flagged : Option ℕ) (fitting : List (ℕ × Bool)) (behind : Option ℕ) (inside : List (ℕ × List (Place × Bool))) (states : List Invariant) (r : Report)
     → JudgesIf m (dropping m) asked g values flagged fitting behind → states ≡ map shown values → map state_of r.points ≡ states
     → map told_of r.verdicts ≡ told_all verdicts fitting inside → TellsSolution shown asked values verdicts r

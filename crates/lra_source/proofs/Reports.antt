@@ -33,7 +33,7 @@ use Rattle.lra_flow.specs.Plan.{plan_of}
 use Rattle.lra_flow.specs.Operations.{dropping}
 use Rattle.lra_flow.specs.Fits.{OpFits, JudgesIf}
 use Rattle.lra_flow.specs.Accesses.{OpInside}
-use Rattle.lra_domain.specs.Meaning.{Meaning}
+use Rattle.lra_domain.specs.Abstraction.{Abstraction}
 use Rattle.lra_domain.specs.Laws.{Laws}
 use Rattle.lra_flow.proofs.Caps.{solved_capped}
 use Rattle.lra_listing.specs.Given.{Told, told, told_accesses, told_all, told_of}
@@ -80,7 +80,7 @@ listed_length o ls n (s ∷ ss) (p ∷ ps) l = ap suc (listed_length o ls (suc n
 
 -- reports ------------------------------------------------------------------------------------------------------------
 
-module _ {V H : Type 0} (m : Meaning V H) (laws : Laws m) (shown : V → Invariant) (settings : Options) (constants : List ℤ) (t : FileTree) (r : Report) (lists : Lists t r)
+module _ {V H : Type 0} (m : Abstraction V H) (laws : Laws m) (shown : V → Invariant) (settings : Options) (constants : List ℤ) (t : FileTree) (r : Report) (lists : Lists t r)
     (x : IsAnalysed m shown settings constants (resolve t) r) (agrees : Agrees (resolve t) x.tree) where
   -- the value at a listed point, by whose state it is shown
   value_of : (k : ℕ) (p : PointReport) → slice_get r.points k ≡ Some p → (v : V) × (slice_get x.values k ≡ Some v) × (p.state ≡ shown v)

@@ -3,23 +3,23 @@ use Rattle.std.proofs.Common.{◌≡◌, ℕ, zero, suc, ℤ, ◌≤◌, ◌<◌
 use Rattle.lra_options.specs.declared.options.Domain.{Domain}
 use Rattle.lra_options.specs.declared.options.Domain.TheVariants.{Poly, Box, Oct}
 use Rattle.lra_options.specs.declared.options.Options.{Options}
-use Rattle.lra_domain.specs.Meaning.{Meaning}
+use Rattle.lra_domain.specs.Abstraction.{Abstraction}
 use Rattle.lra_report.specs.Report.{Invariant, Report}
 use Rattle.lra_meaning.specs.Resolve.{resolve}
 use Rattle.lra_program.specs.Program.{Program}
-use Rattle.lra_box.specs.Meaning.{box_meaning}
-use Rattle.lra_oct.specs.Meaning.{octagon_meaning}
+use Rattle.lra_box.specs.Abstraction.{box_abstraction}
+use Rattle.lra_octagon.specs.Abstraction.{octagon_abstraction}
 use Rattle.lra_polydom.specs.Meaning.{polyhedron_meaning}
 use Rattle.lra_states.specs.Polyhedra.{shown_polyhedron}
 use Rattle.lra_states.specs.Shown.{shown_state}
-use Rattle.lra_set.specs.Content.{Parts, Head}
-use Rattle.lra_set.specs.Meaning.{set_meaning}
+use Rattle.lra_powerset.specs.Content.{SetContent, SetHead}
+use Rattle.lra_powerset.specs.Abstraction.{set_abstraction}
 use Rattle.lra_states.specs.Sets.{shown_set}
 use Rattle.lra_source.specs.Analysed.{IsAnalysed}
 use Rattle.lra_source.specs.Answers.{Saying, AloneOrSets, OverDomain, Over, IsAnsweredOver, TellsAnalysis, IsAnswered}
 
-module _ (say : Saying) {V H : Type 0} (m : Meaning V H) (shown : V → Invariant) where
-  pub over_sets : (n : ℕ) → 1 < n → say (Parts V) (Head V H) (set_meaning m) (shown_set shown) → AloneOrSets n say V H m shown
+module _ (say : Saying) {V H : Type 0} (m : Abstraction V H) (shown : V → Invariant) where
+  pub over_sets : (n : ℕ) → 1 < n → say (SetContent V) (SetHead V H) (set_abstraction m) (shown_set shown) → AloneOrSets n say V H m shown
   over_sets zero some h = absurd (omega (arith, some))
   over_sets (suc zero) some h = absurd (omega (arith, some))
   over_sets (suc (suc n)) some h = h
@@ -30,11 +30,11 @@ module _ (say : Saying) {V H : Type 0} (m : Meaning V H) (shown : V → Invarian
   over_one (suc (suc n)) few h = absurd (omega (arith, few))
 
 -- what follows over each domain follows over those that the options name
-module _ (say tell : Saying) (follows : (V H : Type 0) (m : Meaning V H) (shown : V → Invariant) → say V H m shown → tell V H m shown) where
-  each_number : (n : ℕ) (V H : Type 0) (m : Meaning V H) (shown : V → Invariant) → AloneOrSets n say V H m shown → AloneOrSets n tell V H m shown
+module _ (say tell : Saying) (follows : (V H : Type 0) (m : Abstraction V H) (shown : V → Invariant) → say V H m shown → tell V H m shown) where
+  each_number : (n : ℕ) (V H : Type 0) (m : Abstraction V H) (shown : V → Invariant) → AloneOrSets n say V H m shown → AloneOrSets n tell V H m shown
   each_number zero V H m shown h = follows V H m shown h
   each_number (suc zero) V H m shown h = follows V H m shown h
-  each_number (suc (suc n)) V H m shown h = follows (Parts V) (Head V H) (set_meaning m) (shown_set shown) h
+  each_number (suc (suc n)) V H m shown h = follows (SetContent V) (SetHead V H) (set_abstraction m) (shown_set shown) h
 
   each_domain : (d : Domain) (n : ℕ) → OverDomain d (AloneOrSets n say) → OverDomain d (AloneOrSets n tell)
   each_domain Poly n h = each_number n _ _ _ _ h
@@ -46,21 +46,21 @@ module _ (say tell : Saying) (follows : (V H : Type 0) (m : Meaning V H) (shown 
 
 -- and what doesn't name the domain follows as it is
 module _ (X : Type 0) where
-  same_number : (n : ℕ) (V H : Type 0) (m : Meaning V H) (shown : V → Invariant) → AloneOrSets n (λ V H m shown. X) V H m shown → X
+  same_number : (n : ℕ) (V H : Type 0) (m : Abstraction V H) (shown : V → Invariant) → AloneOrSets n (λ V H m shown. X) V H m shown → X
   same_number zero V H m shown h = h
   same_number (suc zero) V H m shown h = h
   same_number (suc (suc n)) V H m shown h = h
 
   same_domain : (d : Domain) (n : ℕ) → OverDomain d (AloneOrSets n (λ V H m shown. X)) → X
   same_domain Poly n h = same_number n _ _ polyhedron_meaning shown_polyhedron h
-  same_domain Box n h = same_number n _ _ box_meaning (shown_state box_meaning) h
-  same_domain Oct n h = same_number n _ _ octagon_meaning (shown_state octagon_meaning) h
+  same_domain Box n h = same_number n _ _ box_abstraction (shown_state box_abstraction) h
+  same_domain Oct n h = same_number n _ _ octagon_abstraction (shown_state octagon_abstraction) h
 
   pub over_same : (o : Options) → Over o (λ V H m shown. X) → X
   over_same o h = same_domain o.domain o.parts h
 
 -- what answers over this domain answers as the options say
-module _ (d : Domain) (o : Options) (source : List ℕ) {V H : Type 0} (m : Meaning V H) (shown : V → Invariant) (is : o.domain ≡ d) (names : (say : Saying) → say V H m shown → OverDomain d say)
+module _ (d : Domain) (o : Options) (source : List ℕ) {V H : Type 0} (m : Abstraction V H) (shown : V → Invariant) (is : o.domain ≡ d) (names : (say : Saying) → say V H m shown → OverDomain d say)
     (r : Report) where
   abbrev Answers : ℕ → Type 0
   Answers n = AloneOrSets n (λ V H m shown. IsAnsweredOver m shown o source r) V H m shown

@@ -3,7 +3,7 @@ use Rattle.std.proofs.Common.{◌≡◌, ℕ, zero, suc, ◌+◌, ◌++◌, ◌�
 use Rattle.std.specs.Prelude.{ℤ, ◌⊎◌, slice_get, IsTrue, cond}
 use Rattle.std.specs.List.{AllByRecursion, Contains}
 use Rattle.std.proofs.lemmas.Option.{none-some, same_Some}
-use Rattle.lra_domain.specs.Meaning.{Meaning}
+use Rattle.lra_domain.specs.Abstraction.{Abstraction}
 use Rattle.lra_domain.specs.Laws.{Laws}
 use Rattle.lra_program.specs.Program.{Element, Program}
 use Rattle.lra_program.specs.WellFormed.{AreGoodGlobals}
@@ -25,7 +25,7 @@ use Rattle.lra_iter.proofs.Covering.{begun_covers}
 
 -- runs -----------------------------------------------------------------------------------------------------------------
 
-module _ (V H : Type 0) (m : Meaning V H) where
+module _ (V H : Type 0) (m : Abstraction V H) where
   module _ (laws : Laws m) (set : Plan) (P : Program) (good : AreGoodGlobals P.globals) (g : Node) (r : Result V) where
     -- from the globals on, whatever is drawn, the iteration has the stores of the tree's runs
     pub derivation_covers : Derivation m set P g r → (draws : List ℤ) → Covers m g (begun P draws) r
@@ -42,7 +42,7 @@ module _ (V H : Type 0) (m : Meaning V H) where
           (v, (solves.is_value q v).1 found, there, laws.sized v store there.0 there.1)
 
       pub value_there : (q : ℕ) (s : Site) (store : List ℤ) → slice_get (sites_of P) q ≡ Some s → At P (point_of s) store
-          → (v : V) × (slice_get values q ≡ Some v) × m.has v store × (length store ≡ m.dims v)
+          → (v : V) × (slice_get values q ≡ Some v) × m.gamma v store × (length store ≡ m.dims v)
       value_there q s store there at = let h = held_there q s store there at in (h.0, h.1, h.2.1, h.3)
 
       -- no run comes where the value has no part

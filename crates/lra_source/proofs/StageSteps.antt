@@ -5,7 +5,7 @@ use Rattle.lra_tree.specs.Grammar.{Spells}
 use Rattle.lra_options.specs.declared.options.Options.{Options}
 use Rattle.lra_report.specs.Report.{Invariant, Report}
 use Rattle.lra_meaning.specs.Refuse.{Accepts}
-use Rattle.lra_domain.specs.Meaning.{Meaning}
+use Rattle.lra_domain.specs.Abstraction.{Abstraction}
 use Rattle.lra_domain.specs.Laws.{Laws}
 use Rattle.lra_front.specs.Stages.{HasConstants, HasTree}
 use Rattle.lra_front.proofs.StageSteps.{accepted}
@@ -13,7 +13,7 @@ use Rattle.lra_source.specs.Answers.{IsAnsweredOver}
 use Rattle.lra_source.specs.Stages.{IsToldOf}
 use Rattle.lra_source.proofs.Reports.{sound, is_report}
 
-module _ {V H : Type 0} (m : Meaning V H) (laws : Laws m) (shown : V → Invariant) (o : Options) (constants : List ℤ) (source : List ℕ) (t : FileTree)
+module _ {V H : Type 0} (m : Abstraction V H) (laws : Laws m) (shown : V → Invariant) (o : Options) (constants : List ℤ) (source : List ℕ) (t : FileTree)
     (r : Report) (has : HasTree source t) (own : HasConstants source constants) (is : IsToldOf m shown o constants t r) (some : 1 ≤ o.parts) where
   -- a source whose tree's report is told
   pub is_answered : IsAnsweredOver m shown o source r

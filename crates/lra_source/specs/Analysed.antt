@@ -2,7 +2,7 @@
 -- flagged point.
 use Rattle.std.specs.Prelude.{◌≡◌, ℕ, suc, ℤ, List, map, Bool, Option, None, Some, option_map}
 use Rattle.lra_base.specs.declared.refusals.Place.{Place}
-use Rattle.lra_domain.specs.Meaning.{Meaning}
+use Rattle.lra_domain.specs.Abstraction.{Abstraction}
 use Rattle.lra_program.specs.Program.{Program}
 use Rattle.lra_program.specs.WellFormed.{AreGoodGlobals}
 use Rattle.lra_operations.specs.Graph.{Node}
@@ -20,7 +20,7 @@ use Rattle.lra_listing.specs.Given.{told_all, told_of}
 use Rattle.lra_states.specs.Shown.{AreShown}
 
 -- `shown` is what the domain shows of a value; the program has these constants
-pub record IsAnalysed {V H : Type 0} (m : Meaning V H) (shown : V → Invariant) (settings : Options)
+pub record IsAnalysed {V H : Type 0} (m : Abstraction V H) (shown : V → Invariant) (settings : Options)
     (constants : List ℤ) (P : Program) (r : Report) : Type 0 where
   -- the globals begin with numbers of their types
   pub globals : AreGoodGlobals P.globals

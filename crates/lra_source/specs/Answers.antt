@@ -10,12 +10,12 @@ use Rattle.lra_program.specs.Program.{Program}
 use Rattle.lra_tree.specs.Grammar.{Spells}
 use Rattle.lra_report.specs.Listing.{IsReportOf}
 use Rattle.lra_report.specs.Spelled.{IsReadable}
-use Rattle.lra_domain.specs.Meaning.{Meaning}
-use Rattle.lra_box.specs.Meaning.{box_meaning}
-use Rattle.lra_oct.specs.Meaning.{octagon_meaning}
+use Rattle.lra_domain.specs.Abstraction.{Abstraction}
+use Rattle.lra_box.specs.Abstraction.{box_abstraction}
+use Rattle.lra_octagon.specs.Abstraction.{octagon_abstraction}
 use Rattle.lra_polydom.specs.Meaning.{polyhedron_meaning}
-use Rattle.lra_set.specs.Content.{Parts, Head}
-use Rattle.lra_set.specs.Meaning.{set_meaning}
+use Rattle.lra_powerset.specs.Content.{SetContent, SetHead}
+use Rattle.lra_powerset.specs.Abstraction.{set_abstraction}
 use Rattle.lra_states.specs.Polyhedra.{shown_polyhedron}
 use Rattle.lra_states.specs.Sets.{shown_set}
 use Rattle.lra_states.specs.Canonical.{IsCanonicalState}
@@ -30,7 +30,7 @@ AreCanonical o r = AllByRecursion (λ (p : PointReport). IsCanonicalState o.doma
 -- a report of the source that tells an analysis over a domain with this meaning, by the source's constants, with
 -- canonical lists over polyhedra; it is told by its text, which has numbers of the range and each part as wide as its
 -- point has names
-pub record IsAnsweredOver {V H : Type 0} (m : Meaning V H) (shown : V → Invariant) (o : Options) (source : List ℕ)
+pub record IsAnsweredOver {V H : Type 0} (m : Abstraction V H) (shown : V → Invariant) (o : Options) (source : List ℕ)
     (r : Report) : Type 0 where
   pub report : IsReportOf Spells o source r
   pub constants : List ℤ
@@ -41,18 +41,18 @@ pub record IsAnsweredOver {V H : Type 0} (m : Meaning V H) (shown : V → Invari
 
 -- what is said of a domain's meaning, and of the states that show its values
 abbrev pub Saying : Type 1
-Saying = (V H : Type 0) → Meaning V H → (V → Invariant) → Type 0
+Saying = (V H : Type 0) → Abstraction V H → (V → Invariant) → Type 0
 
 -- it is said of the sets of a domain's values where there may be more parts than one, else of the domain itself
 abbrev pub AloneOrSets : ℕ → Saying → Saying
-AloneOrSets (suc (suc n)) say V H m shown = say (Parts V) (Head V H) (set_meaning m) (shown_set shown)
+AloneOrSets (suc (suc n)) say V H m shown = say (SetContent V) (SetHead V H) (set_abstraction m) (shown_set shown)
 AloneOrSets n say V H m shown = say V H m shown
 
 -- it is said of this domain
 abbrev pub OverDomain : Domain → Saying → Type 0
 OverDomain Poly say = say _ _ polyhedron_meaning shown_polyhedron
-OverDomain Box say = say _ _ box_meaning (shown_state box_meaning)
-OverDomain Oct say = say _ _ octagon_meaning (shown_state octagon_meaning)
+OverDomain Box say = say _ _ box_abstraction (shown_state box_abstraction)
+OverDomain Oct say = say _ _ octagon_abstraction (shown_state octagon_abstraction)
 
 -- it is said of the domain and the number of parts that the options name
 abbrev pub Over : Options → Saying → Type 0

@@ -15,7 +15,7 @@ use Rattle.lra_meaning.specs.Refuse.{Accepts}
 use Rattle.lra_report.specs.Listing.{Lists, IsReportOf}
 use Rattle.lra_outcomes.specs.Fits.{TreeFits}
 use Rattle.lra_iter.specs.Numbers.{AreBelow, IsNumbered}
-use Rattle.lra_domain.specs.Meaning.{Meaning}
+use Rattle.lra_domain.specs.Abstraction.{Abstraction}
 use Rattle.lra_front.specs.Claims.{AreFew}
 use Rattle.lra_source.specs.Analysed.{IsAnalysed}
 use Rattle.lra_source.specs.Answers.{IsAnswered}
@@ -29,14 +29,14 @@ abbrev pub TreesAreNumbered : Type 0
 TreesAreNumbered = (P : Program) (g : Node) → IsGraph P g → IsNumbered (sites_of P) g × AreBelow (length (sites_of P)) g
 
 -- where tree and runs agree the states hold in all runs, and no assertion that is marked proved fails
-abbrev pub AnalysedAreSound : {V H : Type 0} → Meaning V H → Type 0
+abbrev pub AnalysedAreSound : {V H : Type 0} → Abstraction V H → Type 0
 AnalysedAreSound {V} m = (shown : V → Invariant) (settings : Options) (constants : List ℤ) (t : FileTree) (r : Report)
     → (x : IsAnalysed m shown settings constants (resolve t) r) → Agrees (resolve t) x.tree → Lists t r
     → IsSound (resolve t) r
 
 -- and of an accepted source it is a report, under options that name the analysis' domain and allow as many parts as it
 -- had, or more
-abbrev pub AnalysedAreReports : {V H : Type 0} → Meaning V H → Type 0
+abbrev pub AnalysedAreReports : {V H : Type 0} → Abstraction V H → Type 0
 AnalysedAreReports {V} m = (shown : V → Invariant) (o : Options) (settings : Options) (constants : List ℤ)
     (source : List ℕ) (t : FileTree) (r : Report)
     → (x : IsAnalysed m shown settings constants (resolve t) r)

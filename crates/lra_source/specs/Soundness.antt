@@ -2,7 +2,7 @@
 use Rattle.std.specs.Prelude.{◌≡◌, ℕ, ℤ, List, length, Bool, true, Option, Some, slice_get}
 use Rattle.std.specs.List.{Contains}
 use Rattle.lra_base.specs.declared.refusals.Place.{Place}
-use Rattle.lra_domain.specs.Meaning.{Meaning}
+use Rattle.lra_domain.specs.Abstraction.{Abstraction}
 use Rattle.lra_program.specs.Program.{Program}
 use Rattle.lra_program.specs.WellFormed.{AreGoodGlobals}
 use Rattle.lra_operations.specs.Graph.{Node}
@@ -21,10 +21,10 @@ use Rattle.lra_iter.specs.Solved.{IsSolved}
 
 -- the value at a point has each store that a run brings there, no assertion that is proved fails, and no run comes
 -- where the value has no part
-pub record HoldsInRuns {V H : Type 0} (m : Meaning V H) (P : Program) (values : List V)
+pub record HoldsInRuns {V H : Type 0} (m : Abstraction V H) (P : Program) (values : List V)
     (verdicts : List (ℕ × Bool)) : Type 0 where
   pub stores : (q : ℕ) (s : Site) (store : List ℤ) → slice_get (sites_of P) q ≡ Some s → At P (point_of s) store
-      → (v : V) × (slice_get values q ≡ Some v) × m.has v store × (length store ≡ m.dims v)
+      → (v : V) × (slice_get values q ≡ Some v) × m.gamma v store × (length store ≡ m.dims v)
   pub proved : (q : ℕ) (s : Site) → slice_get (sites_of P) q ≡ Some s → Contains verdicts (q, true) →
       Fails P (point_of s) → ⊥
   pub unreached : (q : ℕ) (s : Site) (v : V) (store : List ℤ) → slice_get (sites_of P) q ≡ Some s
@@ -32,14 +32,14 @@ pub record HoldsInRuns {V H : Type 0} (m : Meaning V H) (P : Program) (values : 
 
 -- so it is with what is found over a tree that agrees with its program's runs, where first values are numbers of
 -- their types
-abbrev pub SolvedAreSound : {V H : Type 0} → Meaning V H → Type 0
+abbrev pub SolvedAreSound : {V H : Type 0} → Abstraction V H → Type 0
 SolvedAreSound {V} m =
     (plan : Plan) (P : Program) (tree : Node) (values : List V) (verdicts : List (ℕ × Bool))
     (flagged : Option ℕ) → IsSolved m plan P tree values verdicts flagged → AreGoodGlobals P.globals
     → IsGraph P tree → Agrees P tree → HoldsInRuns m P values verdicts
 
 -- where all that is computed at a point is judged to fit by what is found, no run stops there by a number
-abbrev pub FittingIsSound : {V H : Type 0} → Meaning V H → Type 0
+abbrev pub FittingIsSound : {V H : Type 0} → Abstraction V H → Type 0
 FittingIsSound {V} m =
     (plan : Plan) (P : Program) (tree : Node) (values : List V) (verdicts fitting : List (ℕ × Bool))
     (flagged behind : Option ℕ) → IsSolved m plan P tree values verdicts flagged → AreGoodGlobals P.globals
@@ -49,7 +49,7 @@ FittingIsSound {V} m =
     → ⊥
 
 -- where an access is judged to be inside its array by what is found, no run evaluates it outside
-abbrev pub AccessesAreSound : {V H : Type 0} → Meaning V H → Type 0
+abbrev pub AccessesAreSound : {V H : Type 0} → Abstraction V H → Type 0
 AccessesAreSound {V} m =
     (plan : Plan) (P : Program) (tree : Node) (values : List V) (verdicts : List (ℕ × Bool))
     (inside : List (ℕ × List (Place × Bool))) (flagged behind last : Option ℕ)

@@ -14,13 +14,13 @@ use Rattle.lra_listing.specs.Given.{told_all, told_of}
 use Rattle.lra_meaning.specs.Refuse.{limit_fault}
 use Rattle.lra_tree.specs.Reach.{NotRecursive}
 use Rattle.lra_report.specs.Spelled.{IsReadable}
-use Rattle.lra_domain.specs.Meaning.{Meaning}
+use Rattle.lra_domain.specs.Abstraction.{Abstraction}
 use Rattle.lra_source.specs.Analysed.{IsAnalysed}
 use Rattle.lra_source.specs.Answers.{AreCanonical}
 
 -- a report that lists the points of an accepted source's tree, tells what an analysis of its program found, by
 -- canonical lists over polyhedra, and is told by its text
-pub record IsToldOf {V H : Type 0} (m : Meaning V H) (shown : V → Invariant) (o : Options) (constants : List ℤ)
+pub record IsToldOf {V H : Type 0} (m : Abstraction V H) (shown : V → Invariant) (o : Options) (constants : List ℤ)
     (t : FileTree) (r : Report) : Type 0 where
   pub names : name_faults t ≡ []
   pub straight : NotRecursive t

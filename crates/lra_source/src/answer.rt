@@ -18,14 +18,14 @@ ghost use Rattle.lra_source.specs.Stages.{IsToldOf};
 use crate::reporting::{report_solution, solve_front};
 use lra_base::SourceError;
 use lra_box::Boxes;
-use lra_domain::Plain;
+use lra_domain::BaseDomain;
 use lra_front::{Front, read_source};
 use lra_iter::Plan;
-use lra_oct::Octagon;
+use lra_octagon::Octagon;
 use lra_options::{Domain, Options};
 use lra_polydom::Polyhedron;
+use lra_powerset::PowerSet;
 use lra_report::Report;
-use lra_set::PowerSet;
 use lra_states::Show;
 use std::alloc::{AllocError, Global};
 
@@ -44,7 +44,7 @@ fn report_front<D: Show>(
     requires labels { front.now.resolution.labels.labels ≡ labels_of (tree_view front.now.tree) }
     requires program { program_view front.now.resolution.program ≡
         resolve (tree_view front.now.tree) }
-    ensures { IfOk result (λ r. IsToldOf D.meaning D.shown options front.now.constants.items
+    ensures { IfOk result (λ r. IsToldOf D.abstraction D.shown options front.now.constants.items
         (tree_view front.now.tree) (report_of r)) }
 {
     let solution = solve_front::<D>(alloc, plan, front)?;
@@ -61,7 +61,7 @@ fn analyse_over<D: Show>(
     requires parts { 1 ≤ options.parts }
     requires named { options.domain ≡ D.named }
     requires bound { length bytes.now + 1 < 2 ^ 32 }
-    ensures answered { IfOk result (λ r. IsAnsweredOver D.meaning D.shown options bytes.now
+    ensures answered { IfOk result (λ r. IsAnsweredOver D.abstraction D.shown options bytes.now
         (report_of r)) }
     ensures refused { IfRefused result (λ r. Refuse Spells bytes.now r.cause r.place) }
 {
@@ -73,7 +73,7 @@ fn analyse_over<D: Show>(
 
 /// The report of a source over the sets of a domain's values where the options allow more parts than one, else over the
 /// domain itself; or its one refusal.
-fn analyse_parts<D: Show + Plain>(
+fn analyse_parts<D: Show + BaseDomain>(
     alloc: Global,
     options: Options,
     bytes: &[u8],
@@ -82,7 +82,7 @@ fn analyse_parts<D: Show + Plain>(
     requires named { options.domain ≡ D.named }
     requires bound { length bytes.now + 1 < 2 ^ 32 }
     ensures answered { IfOk result (λ r. AloneOrSets options.parts
-        (λ V H m shown. IsAnsweredOver m shown options bytes.now (report_of r)) _ _ D.meaning
+        (λ V H m shown. IsAnsweredOver m shown options bytes.now (report_of r)) _ _ D.abstraction
         D.shown) }
     ensures refused { IfRefused result (λ r. Refuse Spells bytes.now r.cause r.place) }
 {

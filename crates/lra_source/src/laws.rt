@@ -33,24 +33,24 @@ pub fn trees_fit()
 /// What a report tells of an analysis over a domain holds in all runs, and the report is one of its source, where the
 /// options name that domain and allow as many parts as the analysis had.
 pub fn analyses_are_right<D: Domain>()
-    ensures sound { AnalysedAreSound D.meaning }
-    ensures reports { AnalysedAreReports D.meaning }
+    ensures sound { AnalysedAreSound D.abstraction }
+    ensures reports { AnalysedAreReports D.abstraction }
 {}
 
 /// What an iteration over a domain finds, of a program whose first values are numbers of their types, holds in all
 /// runs.
 pub fn solved_are_sound<D: Domain>()
-    ensures { SolvedAreSound D.meaning }
+    ensures { SolvedAreSound D.abstraction }
 {}
 
 /// Where all that is computed at a point is judged to fit, no run stops there by a number.
 pub fn fitting_is_sound<D: Domain>()
-    ensures { FittingIsSound D.meaning }
+    ensures { FittingIsSound D.abstraction }
 {}
 
 /// Where an access is judged to be inside its array, no run evaluates it outside.
 pub fn accesses_are_sound<D: Domain>()
-    ensures { AccessesAreSound D.meaning }
+    ensures { AccessesAreSound D.abstraction }
 {}
 
 /// Linear forms have the value of their expressions wherever it exists, and so has what is seen of divisions, over the

@@ -39,9 +39,10 @@ fn judge_if<D: AbstractDomain>(
     values: &[D],
     flagged: Option<usize>,
 ) -> Result<Fitting, AllocError>
-    requires few { All (λ v. D.meaning.dims v < most_live) values.now }
+    requires few { All (λ v. D.abstraction.dims v < most_live) values.now }
     requires below { AreBelow (length values.now) (asked_in None (node_view tree.now)) }
-    ensures { IfOk result (λ f. JudgesIf D.meaning (dropping D.meaning) asked (node_view tree.now)
+    ensures { IfOk result
+        (λ f. JudgesIf D.abstraction (dropping D.abstraction) asked (node_view tree.now)
         values.now flagged f.verdicts.items f.flagged) }
 {
     if asked {
@@ -69,15 +70,15 @@ fn judge_solution<D: AbstractDomain>(
     tree: &Node,
     solution: &Solution<D>,
 ) -> Result<Judged, AllocError>
-    requires few { All (λ v. D.meaning.dims v < most_live) solution.now.values.items }
+    requires few { All (λ v. D.abstraction.dims v < most_live) solution.now.values.items }
     requires computing { AreBelow (length solution.now.values.items)
         (asked_in None (node_view tree.now)) }
     requires accessing { AreBelow (length solution.now.values.items)
         (accessed_in None (node_view tree.now)) }
-    ensures fits { IfOk result (λ j. JudgesIf D.meaning (dropping D.meaning) asked
+    ensures fits { IfOk result (λ j. JudgesIf D.abstraction (dropping D.abstraction) asked
         (node_view tree.now) solution.now.values.items solution.now.flagged
         j.fitting.verdicts.items j.fitting.flagged) }
-    ensures accesses { IfOk result (λ j. JudgesAccesses D.meaning (dropping D.meaning)
+    ensures accesses { IfOk result (λ j. JudgesAccesses D.abstraction (dropping D.abstraction)
         (node_view tree.now) solution.now.values.items j.fitting.flagged
         (map told_view j.inside.verdicts.items) j.inside.flagged) }
 {
@@ -97,7 +98,7 @@ pub fn solve_front<D: AbstractDomain>(
         (map site_view front.now.graph.sites.items) }
     requires program { program_view front.now.resolution.program ≡
         resolve (tree_view front.now.tree) }
-    ensures { IfOk result (λ s. IsSolved D.meaning plan.now (resolve (tree_view front.now.tree))
+    ensures { IfOk result (λ s. IsSolved D.abstraction plan.now (resolve (tree_view front.now.tree))
         (node_view front.now.graph.tree) s.values.items s.verdicts.items s.flagged) }
 {
     let globals = front.resolution.program.globals.as_slice();
@@ -119,10 +120,11 @@ pub fn report_solution<D: Show>(
     requires labels { front.now.resolution.labels.labels ≡ labels_of (tree_view front.now.tree) }
     requires program { program_view front.now.resolution.program ≡
         resolve (tree_view front.now.tree) }
-    requires solved { IsSolved D.meaning (plan_of options front.now.constants.items)
+    requires solved { IsSolved D.abstraction (plan_of options front.now.constants.items)
         (resolve (tree_view front.now.tree)) (node_view front.now.graph.tree)
         solution.now.values.items solution.now.verdicts.items solution.now.flagged }
-    ensures told { IfOk result (λ r. IsToldOf D.meaning D.shown options front.now.constants.items
+    ensures told { IfOk result
+        (λ r. IsToldOf D.abstraction D.shown options front.now.constants.items
         (tree_view front.now.tree) (report_of r)) }
     ensures own { IfOk result (λ r. TellsSolution D.shown options.fits solution.now.values.items
         solution.now.verdicts.items (report_of r)) }

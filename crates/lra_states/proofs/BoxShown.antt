@@ -9,8 +9,8 @@ use Rattle.lra_report.proofs.Every.{every_append}
 use Rattle.lra_box.specs.declared.interval.Interval.{Interval}
 use Rattle.lra_box.specs.Bounds.{InBounds}
 use Rattle.lra_box.specs.Tables.{has_bounds}
-use Rattle.lra_box.specs.Parts.{bound_row, is_single, low_rows, high_rows, equal_rows, unequal_rows, box_rows, box_system, box_parts}
-use Rattle.lra_box.specs.Meaning.{box_meaning}
+use Rattle.lra_box.specs.Parts.{bound_row, is_single, low_rows, high_rows, box_equalities, box_inequalities, box_rows, box_system, box_parts}
+use Rattle.lra_box.specs.Abstraction.{box_abstraction}
 use Rattle.lra_box.proofs.PartLemmas.{parts_mean}
 use Rattle.lra_options.specs.declared.options.Domain.TheVariants.{Box}
 use Rattle.lra_report.specs.Report.{Holds}
@@ -49,23 +49,23 @@ chosen_wide : (n : ℕ) (b : Bool) (xs ys : List (List ℤ)) → AreWide n xs �
 chosen_wide n true xs ys h i = h
 chosen_wide n false xs ys h i = i
 
-equal_wide : (n k : ℕ) (is : List Interval) → AreWide n (equal_rows n k is)
+equal_wide : (n k : ℕ) (is : List Interval) → AreWide n (box_equalities n k is)
 equal_wide n k [] = tt
 equal_wide n k (i ∷ is) =
     let chosen = chosen_wide n (is_single i) (low_rows n k i.low) [] (low_wide n k i.low) tt in
-    both_wide n (if is_single i then low_rows n k i.low else []) (equal_rows n (suc k) is) chosen (equal_wide n (suc k) is)
+    both_wide n (if is_single i then low_rows n k i.low else []) (box_equalities n (suc k) is) chosen (equal_wide n (suc k) is)
 
-unequal_wide : (n k : ℕ) (is : List Interval) → AreWide n (unequal_rows n k is)
+unequal_wide : (n k : ℕ) (is : List Interval) → AreWide n (box_inequalities n k is)
 unequal_wide n k [] = tt
 unequal_wide n k (i ∷ is) =
     let both = both_wide n (low_rows n k i.low) (high_rows n k i.high) (low_wide n k i.low) (high_wide n k i.high) in
     let chosen = chosen_wide n (is_single i) [] (low_rows n k i.low ++ high_rows n k i.high) tt both in
-    both_wide n (if is_single i then [] else low_rows n k i.low ++ high_rows n k i.high) (unequal_rows n (suc k) is) chosen (unequal_wide n (suc k) is)
+    both_wide n (if is_single i then [] else low_rows n k i.low ++ high_rows n k i.high) (box_inequalities n (suc k) is) chosen (unequal_wide n (suc k) is)
 
 parts_wide : (n : ℕ) (b : Option (List Interval)) → AllByRecursion (HasWidth n) (map shown_part (box_parts n b))
 parts_wide n None = tt
 parts_wide n (Some is) =
-    let rows = both_wide n (equal_rows n 0 is) (unequal_rows n 0 is) (equal_wide n 0 is) (unequal_wide n 0 is) in
+    let rows = both_wide n (box_equalities n 0 is) (box_inequalities n 0 is) (equal_wide n 0 is) (unequal_wide n 0 is) in
     ((shown_wide n (box_rows n is) (box_system n is).kinds rows, tt), tt)
 
 no_generators : (n : ℕ) (ps : List (LinearSystem ConKind)) → AllByRecursion (Tells Box n) (map shown_part ps)
@@ -88,20 +88,20 @@ chosen_straight : (b : Bool) (rows : List (List ℤ)) → AllByRecursion IsStrai
 chosen_straight true rows h = h
 chosen_straight false rows h = tt
 
-equal_straight : (n k : ℕ) (is : List Interval) → AllByRecursion IsStraight (equal_rows n k is)
+equal_straight : (n k : ℕ) (is : List Interval) → AllByRecursion IsStraight (box_equalities n k is)
 equal_straight n k [] = tt
 equal_straight n k (i ∷ is) =
     let chosen = chosen_straight (is_single i) (low_rows n k i.low) (low_straight n k i.low) in
-    every_append IsStraight (if is_single i then low_rows n k i.low else []) (equal_rows n (suc k) is) chosen (equal_straight n (suc k) is)
+    every_append IsStraight (if is_single i then low_rows n k i.low else []) (box_equalities n (suc k) is) chosen (equal_straight n (suc k) is)
 
 parts_directed : (n : ℕ) (b : Option (List Interval)) → AllByRecursion AreDirected (map shown_part (box_parts n b))
 parts_directed n None = tt
-parts_directed n (Some is) = (rows_directed (equal_rows n 0 is) (unequal_rows n 0 is) (equal_straight n 0 is), tt)
+parts_directed n (Some is) = (rows_directed (box_equalities n 0 is) (box_inequalities n 0 is) (equal_straight n 0 is), tt)
 
-pub boxes_are_shown : ShowsRows box_meaning Box
+pub boxes_are_shown : ShowsRows box_abstraction Box
 boxes_are_shown = record {
   wide = λ v. parts_wide v.dims v.bounds;
-  tell = λ v. no_generators v.dims (box_meaning.parts v);
+  tell = λ v. no_generators v.dims (box_abstraction.parts v);
   holds = λ v s h. content_holds v.dims v.bounds s h.1 h.0;
   directed = λ v. parts_directed v.dims v.bounds;
 }

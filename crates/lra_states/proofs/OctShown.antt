@@ -10,12 +10,13 @@ use Rattle.lra_linear_spec.specs.declared.ConKind.{ConKind}
 use Rattle.lra_linear_spec.specs.declared.ConKind.TheVariants.{Ge, Eq}
 use Rattle.lra_dbm.specs.Tight.{Entries, with_sign}
 use Rattle.lra_dbm.specs.Cells.{Cells, entries}
-use Rattle.lra_oct.specs.Content.{Content, OctagonHas}
-use Rattle.lra_oct.specs.Laws.{sized_stores}
-use Rattle.lra_oct.specs.Meaning.{octagon_meaning}
-use Rattle.lra_oct.specs.Parts.{sign_of, pair_row, printed, is_equality, row_if_any, kind_row, RowsAt, rising, falling, rows_with, equal_rows, unequal_rows}
-use Rattle.lra_oct.specs.Parts.{octagon_system, octagon_parts}
-use Rattle.lra_oct.proofs.MeanLemmas.{stores_hold}
+use Rattle.lra_octagon.specs.Content.{OctagonContent, OctagonGamma}
+use Rattle.lra_octagon.specs.Laws.{sized_stores}
+use Rattle.lra_octagon.specs.Abstraction.{octagon_abstraction}
+use Rattle.lra_octagon.specs.Parts.{sign_of, pair_row, printed, is_equality_pair, row_if_any, kind_row, RowsAt, rising, falling, rows_with, octagon_equalities}
+use Rattle.lra_octagon.specs.Parts.{octagon_inequalities}
+use Rattle.lra_octagon.specs.Parts.{octagon_system, octagon_parts}
+use Rattle.lra_octagon.proofs.MeanLemmas.{stores_hold}
 use Rattle.lra_report.specs.Report.{Holds}
 use Rattle.lra_show.specs.Texts.{is_turned}
 use Rattle.lra_report.specs.Parts.{Tells}
@@ -50,16 +51,18 @@ module _ (P : List ℤ → Type 0) where
       (every_append P up (f i i) (rising_each (f i) (i / 2) (suc (i / 2)) (n - suc (i / 2)) after later) own)
       (falling_each (f i) (i / 2) (suc (i / 2)) (n - suc (i / 2)) after later)
 
-  equal_each : (n : ℕ) (m : Entries) (a k : ℕ) → ((a : ℕ) → AllByRecursion P (rows_with n (kind_row Eq n m) (2 * a))) → AllByRecursion P (equal_rows n m a k)
+  equal_each : (n : ℕ) (m : Entries) (a k : ℕ) → ((a : ℕ) → AllByRecursion P (rows_with n (kind_row Eq n m) (2 * a))) →
+      AllByRecursion P (octagon_equalities n m a k)
   equal_each n m a zero h = tt
-  equal_each n m a (suc k) h = every_append P (rows_with n (kind_row Eq n m) (2 * a)) (equal_rows n m (suc a) k) (h a) (equal_each n m (suc a) k h)
+  equal_each n m a (suc k) h = every_append P (rows_with n (kind_row Eq n m) (2 * a)) (octagon_equalities n m (suc a) k) (h a) (equal_each n m (suc a) k h)
 
-  unequal_each : (n : ℕ) (m : Entries) (a k : ℕ) → ((i : ℕ) → AllByRecursion P (rows_with n (kind_row Ge n m) i)) → AllByRecursion P (unequal_rows n m a k)
+  unequal_each : (n : ℕ) (m : Entries) (a k : ℕ) → ((i : ℕ) → AllByRecursion P (rows_with n (kind_row Ge n m) i)) →
+      AllByRecursion P (octagon_inequalities n m a k)
   unequal_each n m a zero h = tt
   unequal_each n m a (suc k) h =
       let plus = rows_with n (kind_row Ge n m) (2 * a) in
       let minus = rows_with n (kind_row Ge n m) (2 * a + 1) in
-      every_append P (plus ++ minus) (unequal_rows n m (suc a) k) (every_append P plus minus (h (2 * a)) (h (2 * a + 1))) (unequal_each n m (suc a) k h)
+      every_append P (plus ++ minus) (octagon_inequalities n m (suc a) k) (every_append P plus minus (h (2 * a)) (h (2 * a + 1))) (unequal_each n m (suc a) k h)
 
 -- widths --------------------------------------------------------------------------------------------------------------
 
@@ -76,14 +79,14 @@ abbrev IsWide : ℕ → List ℤ → Type 0
 IsWide n r = length r ≡ suc n
 
 kind_wide : (kind : ConKind) (n : ℕ) (m : Entries) (i j : ℕ) → AreWide n (kind_row kind n m i j)
-kind_wide Eq n m i j = chosen_each (IsWide n) (is_equality m i j) (row_if_any n i j (printed m i j)) [] (any_wide n i j (printed m i j)) tt
-kind_wide Ge n m i j = chosen_each (IsWide n) (is_equality m i j) [] (row_if_any n i j (printed m i j)) tt (any_wide n i j (printed m i j))
+kind_wide Eq n m i j = chosen_each (IsWide n) (is_equality_pair m i j) (row_if_any n i j (printed m i j)) [] (any_wide n i j (printed m i j)) tt
+kind_wide Ge n m i j = chosen_each (IsWide n) (is_equality_pair m i j) [] (row_if_any n i j (printed m i j)) tt (any_wide n i j (printed m i j))
 
 with_wide : (kind : ConKind) (n : ℕ) (m : Entries) (i : ℕ) → AreWide n (rows_with n (kind_row kind n m) i)
 with_wide kind n m i = with_each (IsWide n) n (kind_row kind n m) i (kind_wide kind n m i i) (λ j l. kind_wide kind n m i j)
 
-system_wide : (n : ℕ) (m : Entries) → AreWide n (equal_rows n m 0 n ++ unequal_rows n m 0 n)
-system_wide n m = every_append (IsWide n) (equal_rows n m 0 n) (unequal_rows n m 0 n)
+system_wide : (n : ℕ) (m : Entries) → AreWide n (octagon_equalities n m 0 n ++ octagon_inequalities n m 0 n)
+system_wide n m = every_append (IsWide n) (octagon_equalities n m 0 n) (octagon_inequalities n m 0 n)
     (equal_each (IsWide n) n m 0 n (λ a. with_wide Eq n m (2 * a))) (unequal_each (IsWide n) n m 0 n (with_wide Ge n m))
 
 parts_wide : (n : ℕ) (o : Option Cells) → AllByRecursion (HasWidth n) (map shown_part (octagon_parts n o))
@@ -132,7 +135,7 @@ any_straight n a j (Some q) (inr e) = (
 
 kind_straight : (n : ℕ) (m : Entries) (a j : ℕ) → (a < j / 2) ⊎ (j ≡ 2 * a) → AllByRecursion IsStraight (kind_row Eq n m (2 * a) j)
 kind_straight n m a j c =
-    chosen_each IsStraight (is_equality m (2 * a) j) (row_if_any n (2 * a) j (printed m (2 * a) j)) [] (any_straight n a j (printed m (2 * a) j) c) tt
+    chosen_each IsStraight (is_equality_pair m (2 * a) j) (row_if_any n (2 * a) j (printed m (2 * a) j)) [] (any_straight n a j (printed m (2 * a) j) c) tt
 
 with_straight : (n : ℕ) (m : Entries) (a : ℕ) → AllByRecursion IsStraight (rows_with n (kind_row Eq n m) (2 * a))
 with_straight n m a = with_each IsStraight n (kind_row Eq n m) (2 * a) (kind_straight n m a (2 * a) (inr refl))
@@ -142,17 +145,17 @@ parts_directed : (n : ℕ) (o : Option Cells) → AllByRecursion AreDirected (ma
 parts_directed n None = tt
 parts_directed n (Some cells) =
     let m = entries n cells in
-    (rows_directed (equal_rows n m 0 n) (unequal_rows n m 0 n) (equal_each IsStraight n m 0 n (with_straight n m)), tt)
+    (rows_directed (octagon_equalities n m 0 n) (octagon_inequalities n m 0 n) (equal_each IsStraight n m 0 n (with_straight n m)), tt)
 
 -- stores --------------------------------------------------------------------------------------------------------------
 
-octagon_holds : (v : Content) (s : List ℤ) → OctagonHas v s → Holds (map shown_part (octagon_parts v.dims v.cells)) s
+octagon_holds : (v : OctagonContent) (s : List ℤ) → OctagonGamma v s → Holds (map shown_part (octagon_parts v.dims v.cells)) s
 octagon_holds v s h = parts_hold (octagon_parts v.dims v.cells) s (stores_hold v.dims v.cells s (sized_stores v.dims v.cells s h) h)
 
-pub octagons_are_shown : ShowsRows octagon_meaning Oct
+pub octagons_are_shown : ShowsRows octagon_abstraction Oct
 octagons_are_shown = record {
   wide = λ v. parts_wide v.dims v.cells;
-  tell = λ v. no_generators v.dims (octagon_meaning.parts v);
+  tell = λ v. no_generators v.dims (octagon_abstraction.parts v);
   holds = octagon_holds;
   directed = λ v. parts_directed v.dims v.cells;
 }

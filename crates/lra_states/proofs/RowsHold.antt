@@ -13,8 +13,8 @@ use Rattle.lra_linear_spec.specs.declared.ConKind.TheVariants.{Ge, Eq}
 use Rattle.lra_show.specs.Shown.{report_row}
 use Rattle.lra_show.specs.Lists.{shown_rows}
 use Rattle.lra_report.specs.Spelled.{IsDirected}
-use Rattle.lra_domain.specs.Meaning.{Meaning}
-use Rattle.lra_domain.specs.Laws.{PartsTell}
+use Rattle.lra_domain.specs.Abstraction.{Abstraction}
+use Rattle.lra_domain.specs.Laws.{PartsAreExact}
 use Rattle.lra_domain.specs.Parts.{SomePartHolds}
 use Rattle.lra_show.specs.Part.{Part}
 use Rattle.lra_report.specs.Report.{Holds}
@@ -69,8 +69,8 @@ parts_held (p ∷ ps) s (inl h) = inl (rows_held p.rows p.kinds s h)
 parts_held (p ∷ ps) s (inr h) = inr (parts_held ps s h)
 
 -- what the parts of a value mean, their state means
-pub state_means : {V H : Type 0} (m : Meaning V H) (v : V) (ps : List (LinearSystem ConKind)) (state : List Part) → state ≡ map shown_part ps
-    → ps ≡ m.parts v → ((s : List ℤ) → m.has v s → SomePartHolds ps s) → PartsTell m v → MeansValue m v state
+pub state_means : {V H : Type 0} (m : Abstraction V H) (v : V) (ps : List (LinearSystem ConKind)) (state : List Part) → state ≡ map shown_part ps
+    → ps ≡ m.parts v → ((s : List ℤ) → m.gamma v s → SomePartHolds ps s) → PartsAreExact m v → MeansValue m v state
 state_means m v ps state is own hold tell s long = (
   λ h. subst (λ l. Holds l s) (sym is) (parts_hold ps s (hold s h)),
   λ h. tell s long (subst (λ l. SomePartHolds l s) own (parts_held ps s (subst (λ l. Holds l s) is h))),

@@ -6,7 +6,7 @@ use Rattle.std.proofs.lemmas.List.{length-map}
 use Rattle.lra_options.specs.declared.options.Domain.{Domain}
 use Rattle.lra_systems.specs.LinearSystems.{LinearSystem}
 use Rattle.lra_linear_spec.specs.declared.ConKind.{ConKind}
-use Rattle.lra_domain.specs.Meaning.{Meaning}
+use Rattle.lra_domain.specs.Abstraction.{Abstraction}
 use Rattle.lra_show.specs.Rows.{Row}
 use Rattle.lra_show.specs.Part.{Part}
 use Rattle.lra_report.specs.Report.{Invariant, Holds}
@@ -27,7 +27,7 @@ parts_spelled : (ps : List (LinearSystem ConKind)) → AllByRecursion AreDirecte
 parts_spelled [] d h = tt
 parts_spelled (p ∷ ps) d h = (record { rows = rows_spelled (shown_rows p.rows p.kinds) d.0 h.0; generators = tt }, parts_spelled ps d.1 h.1)
 
-module _ {V H E : Type 0} (m : Meaning V H) (domain : Domain) (shows : ShowsRows m domain) (v : V) where
+module _ {V H E : Type 0} (m : Abstraction V H) (domain : Domain) (shows : ShowsRows m domain) (v : V) where
   pub told : (x : Result (Vec Part Global) E) → IfOk x (λ s. s.items ≡ shown_state m v) → IfOk x (λ s. MeansValue m v s.items) → IfOk x
       (λ s. IsShown m domain v s.items)
   told (Ok s) is mean = record {

@@ -4,11 +4,11 @@ use Rattle.std.specs.Prelude.{flat_map, Result, Ok, Err, IfOk}
 use Rattle.std.specs.List.{AllByRecursion}
 use Rattle.std.proofs.lemmas.List.{length-append}
 use Rattle.lra_linear_spec.proofs.Membership.{contains_head, contains_tail}
-use Rattle.lra_domain.specs.Meaning.{Meaning}
-use Rattle.lra_set.specs.Content.{Parts}
-use Rattle.lra_set.specs.Lists.{EachPart, SomePart}
-use Rattle.lra_set.specs.Content.{PartFits}
-use Rattle.lra_set.specs.Meaning.{set_meaning}
+use Rattle.lra_domain.specs.Abstraction.{Abstraction}
+use Rattle.lra_powerset.specs.Content.{SetContent}
+use Rattle.lra_powerset.specs.Lists.{EachPart, SomePart}
+use Rattle.lra_powerset.specs.Content.{PartFits}
+use Rattle.lra_powerset.specs.Abstraction.{set_abstraction}
 use Rattle.lra_options.specs.declared.options.Domain.{Domain}
 use Rattle.lra_report.specs.Listing.{HasWidth}
 use Rattle.lra_report.proofs.Every.{every_append}
@@ -37,7 +37,7 @@ holds_either (p ∷ a) b s (inr h) = elim (holds_either a b s h) [ inl i ↦ inl
 
 -- parts ------------------------------------------------------------------------------------------------------------
 
-module _ {V H : Type 0} (m : Meaning V H) (domain : Domain) (shown : V → Invariant) where
+module _ {V H : Type 0} (m : Abstraction V H) (domain : Domain) (shown : V → Invariant) where
   rest_shown : (p : V) (ps : List V) → AreShown m domain shown (p ∷ ps) → AreShown m domain shown ps
   rest_shown p ps are v k = are v (contains_tail p v ps k)
 
@@ -60,13 +60,13 @@ module _ {V H : Type 0} (m : Meaning V H) (domain : Domain) (shown : V → Invar
       (subst (λ (k : ℕ). AllByRecursion (P k) (shown p)) fit.0.dims (so p (first_shown p ps are)))
       (each_part P n ps fit.1 (rest_shown p ps are) so)
 
-  holds : (ps : List V) (s : List ℤ) → AreShown m domain shown ps → SomePart (λ p. m.has p s) ps → Holds (flat_map shown ps) s
+  holds : (ps : List V) (s : List ℤ) → AreShown m domain shown ps → SomePart (λ p. m.gamma p s) ps → Holds (flat_map shown ps) s
   holds [] s are h = absurd h
   holds (p ∷ ps) s are (inl h) = holds_first (shown p) (flat_map shown ps) s ((first_shown p ps are).holds s h)
   holds (p ∷ ps) s are (inr h) = holds_second (shown p) (flat_map shown ps) s (holds ps s (rest_shown p ps are) h)
 
   only : (n : ℕ) (ps : List V) (s : List ℤ) → EachPart (PartFits m n) ps → AreShown m domain shown ps → length s ≡ n → Holds (flat_map shown ps) s
-      → SomePart (λ p. m.has p s) ps
+      → SomePart (λ p. m.gamma p s) ps
   only n [] s fit are long h = absurd h
   only n (p ∷ ps) s fit are long h = elim (holds_either (shown p) (flat_map shown ps) s h) [
     | inl own ↦ inl ((first_shown p ps are).only s (long ∙ sym fit.0.dims) own)
@@ -75,7 +75,8 @@ module _ {V H : Type 0} (m : Meaning V H) (domain : Domain) (shown : V → Invar
 
   -- the set ----------------------------------------------------------------------------------------------------------
 
-  pub set_shown : (v : Parts V) → EachPart (PartFits m v.dims) v.parts → AreShown m domain shown v.parts → IsShown (set_meaning m) domain v (shown_set shown v)
+  pub set_shown : (v : SetContent V) → EachPart (PartFits m v.dims) v.parts → AreShown m domain shown v.parts →
+      IsShown (set_abstraction m) domain v (shown_set shown v)
   set_shown v fit are = record {
     as_many = as_many v.parts are;
     wide = each_part HasWidth v.dims v.parts fit are (λ p is. is.wide);
@@ -85,10 +86,10 @@ module _ {V H : Type 0} (m : Meaning V H) (domain : Domain) (shown : V → Invar
   }
 
   -- and so with a state that is made of a list that has the set's parts
-  pub state_told : {E : Type 0} (v : Parts V) (ps : List V) → ps ≡ v.parts → EachPart (PartFits m v.dims) v.parts → (x : Result (Vec Part Global) E)
-      → IfOk x (λ s. s.items ≡ flat_map shown ps) → IfOk x (λ _. AreShown m domain shown ps) → IfOk x (λ s. IsShown (set_meaning m) domain v s.items)
+  pub state_told : {E : Type 0} (v : SetContent V) (ps : List V) → ps ≡ v.parts → EachPart (PartFits m v.dims) v.parts → (x : Result (Vec Part Global) E)
+      → IfOk x (λ s. s.items ≡ flat_map shown ps) → IfOk x (λ _. AreShown m domain shown ps) → IfOk x (λ s. IsShown (set_abstraction m) domain v s.items)
   state_told v ps same fit (Ok s) is are =
-      subst (λ (state : Invariant). IsShown (set_meaning m) domain v state) (sym (is ∙ ap (flat_map shown) same))
+      subst (λ (state : Invariant). IsShown (set_abstraction m) domain v state) (sym (is ∙ ap (flat_map shown) same))
       (set_shown v fit (subst (AreShown m domain shown) same are))
   state_told v ps same fit (Err e) is are = tt
 
@@ -101,7 +102,7 @@ module _ {V H : Type 0} (m : Meaning V H) (domain : Domain) (shown : V → Invar
       (subst (λ (k : ℕ). IsCanonicalState domain k (shown p)) fit.0.dims are.0)
       (each_canonical n ps fit.1 are.1)
 
-  pub state_canonical : {E : Type 0} (v : Parts V) (ps : List V) → ps ≡ v.parts → EachPart (PartFits m v.dims) v.parts → (x : Result (Vec Part Global) E)
+  pub state_canonical : {E : Type 0} (v : SetContent V) (ps : List V) → ps ≡ v.parts → EachPart (PartFits m v.dims) v.parts → (x : Result (Vec Part Global) E)
       → IfOk x (λ s. s.items ≡ flat_map shown ps) → IfOk x (λ _. AreCanonicallyShown domain m.dims shown ps) → IfOk x
       (λ s. IsCanonicalState domain v.dims s.items)
   state_canonical v ps same fit (Ok s) is are =

@@ -7,17 +7,17 @@ ghost use Rattle.lra_states.specs.Canonical.{AreCanonicallyShown};
 ghost use Rattle.lra_states.specs.Shown.{AreShown};
 
 use crate::show::Show;
-use lra_domain::Plain;
+use lra_domain::BaseDomain;
+use lra_powerset::PowerSet;
 use lra_report::Part;
-use lra_set::PowerSet;
 use std::alloc::{AllocError, Global};
 
 /// The states of all values, one after another.
 fn states_in_turn<D: Show>(alloc: Global, values: &[D]) -> Result<Vec<Part>, AllocError>
     ensures shown { IfOk result (λ s. s.items ≡ flat_map D.shown values.now) }
-    ensures told { IfOk result (λ _. AreShown D.meaning D.named D.shown values.now) }
+    ensures told { IfOk result (λ _. AreShown D.abstraction D.named D.shown values.now) }
     ensures spelled { IfOk result (λ s. AllByRecursion IsSpelledPart s.items) }
-    ensures canonical { IfOk result (λ _. AreCanonicallyShown D.named D.meaning.dims D.shown values.now) }
+    ensures canonical { IfOk result (λ _. AreCanonicallyShown D.named D.abstraction.dims D.shown values.now) }
 {
     let mut state = Vec::new(alloc);
     'values: for value in values {
@@ -26,7 +26,7 @@ fn states_in_turn<D: Show>(alloc: Global, values: &[D]) -> Result<Vec<Part>, All
     Ok(state)
 }
 
-impl<D: Show + Plain> Show for PowerSet<D> {
+impl<D: Show + BaseDomain> Show for PowerSet<D> {
     ghost use Rattle.lra_states.specs.Sets.{shown_set};
 
     ghost named = { D.named };

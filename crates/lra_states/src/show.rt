@@ -24,7 +24,7 @@ pub trait Show: Domain {
     /// the lists with a number for each dimension it holds at the value's stores and at no other.
     fn show(&self, alloc: Global) -> Result<Vec<Part>, AllocError>
         ensures shown { IfOk result (λ s. s.items ≡ shown self.now) }
-        ensures told { IfOk result (λ s. IsShown Self.meaning named self.now s.items) }
+        ensures told { IfOk result (λ s. IsShown Self.abstraction named self.now s.items) }
         ensures spelled { IfOk result (λ s. AllByRecursion IsSpelledPart s.items) }
-        ensures canonical { IfOk result (λ s. IsCanonicalState named (Self.meaning.dims self.now) s.items) };
+        ensures canonical { IfOk result (λ s. IsCanonicalState named (Self.abstraction.dims self.now) s.items) };
 }

@@ -13,10 +13,10 @@ use std::alloc::{AllocError, Global};
 /// The states of all values in order.
 pub fn states_of<D: Show>(alloc: Global, values: &[D]) -> Result<Vec<Vec<Part>>, AllocError>
     ensures shown { IfOk result (λ states. map (λ s. s.items) states.items ≡ map D.shown values.now) }
-    ensures told { IfOk result (λ _. AreShown D.meaning D.named D.shown values.now) }
+    ensures told { IfOk result (λ _. AreShown D.abstraction D.named D.shown values.now) }
     ensures spelled { IfOk result (λ states.
         AllByRecursion (AllByRecursion IsSpelledPart) (map (λ s. s.items) states.items)) }
-    ensures canonical { IfOk result (λ _. AreCanonicallyShown D.named D.meaning.dims D.shown values.now) }
+    ensures canonical { IfOk result (λ _. AreCanonicallyShown D.named D.abstraction.dims D.shown values.now) }
 {
     let mut states = Vec::new(alloc);
     'values: for value in values {

@@ -4,7 +4,7 @@ use Rattle.std.specs.Prelude.{slice_get, All, get_or}
 use Rattle.std.proofs.lemmas.List.{length-map}
 use Rattle.std.proofs.lemmas.Option.{none-some, same_Some, slice_get-get_or}
 use Rattle.lra_linear_spec.proofs.Membership.{contains_none, contains_cases}
-use Rattle.lra_domain.specs.Meaning.{Meaning}
+use Rattle.lra_domain.specs.Abstraction.{Abstraction}
 use Rattle.lra_operations.specs.declared.graph.Site as coded
 use Rattle.lra_operations.specs.GraphViews.{site_view}
 use Rattle.lra_operations.specs.Asked.{Asked, accessed_in, asked_in}
@@ -61,7 +61,7 @@ module _ (one two : Op) (kept : dims_behind one 1 ≡ 1) (kept_too : dims_behind
   )
 
   -- what the judging asks: each value has few dimensions
-  pub steps_few : {V H : Type 0} (m : Meaning V H) (values : List V) → length values ≡ 4
+  pub steps_few : {V H : Type 0} (m : Abstraction V H) (values : List V) → length values ≡ 4
       → (PointsHave steps_sites (tree_of one two) 0 → AreWide m steps_sites values) → All (λ (v : V). m.dims v < most_live) values
   steps_few m values many wide k d h =
       let (s, there, low) = one_at_most k (subst (λ (n : ℕ). k < n) many h) in

@@ -13,7 +13,7 @@ use lra_box::Boxes;
 use lra_domain::Domain;
 use lra_inside::{Inside, judge_accesses};
 use lra_iter::{Plan, analyse};
-use lra_oct::Octagon;
+use lra_octagon::Octagon;
 use lra_operations::{Graph, Op};
 use lra_program::{Array, Cond, Element, Expr};
 use std::alloc::{AllocError, Global};

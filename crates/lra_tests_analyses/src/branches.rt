@@ -13,7 +13,7 @@ use lra_base::{Comparison, NumberType};
 use lra_box::Boxes;
 use lra_domain::Domain;
 use lra_iter::{Plan, Solution, analyse};
-use lra_oct::Octagon;
+use lra_octagon::Octagon;
 use lra_operations::{Graph, Node, Op, Path, Site};
 use lra_program::{Cond, Expr, Receiver, Slot, Variable};
 use std::alloc::{AllocError, Global};

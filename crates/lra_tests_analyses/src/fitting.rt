@@ -11,7 +11,7 @@ use lra_box::Boxes;
 use lra_domain::Domain;
 use lra_fits::{Fitting, judge};
 use lra_iter::{Plan, analyse};
-use lra_oct::Octagon;
+use lra_octagon::Octagon;
 use lra_operations::{Graph, Op};
 use lra_program::{Expr, Operation, Receiver};
 use std::alloc::{AllocError, Global};

@@ -5,11 +5,11 @@ ghost use Rattle.std.specs.Prelude.{◌≡◌};
 use crate::boxes::{keep_by, set_by};
 use lra_box::Boxes;
 use lra_domain::Domain;
-use lra_gauge::Gauge;
+use lra_example_domain::ExampleDomain;
 use lra_linear_forms::LinExpr;
-use lra_oct::Octagon;
+use lra_octagon::Octagon;
 use lra_polydom::Polyhedron;
-use lra_set::PowerSet;
+use lra_powerset::PowerSet;
 use std::alloc::{AllocError, Global};
 
 /// A constant and two factors.
@@ -71,7 +71,7 @@ const OF_POLYHEDRA: [Case; 9] = [
 ];
 
 fn told_by<D: Domain>(alloc: Global, value: &D, form: &Numbers) -> Result<Told, AllocError>
-    requires { D.meaning.dims value.now ≡ 2 }
+    requires { D.abstraction.dims value.now ≡ 2 }
 {
     let form = LinExpr::new(alloc, form.0, &form.1)?;
     Ok(value.bounds(&form))
@@ -111,7 +111,9 @@ fn bounds_by_hand(rt: HostRuntime) {
 /// A gauge tells nothing.
 #[test]
 fn bounds_of_a_gauge(rt: HostRuntime) {
-    assert!(rt; bounds_by::<Gauge>(rt.alloc(), &TRIANGLE, &(0, [1, 1])) == Ok((None, None)));
+    assert!(rt;
+        bounds_by::<ExampleDomain>(rt.alloc(), &TRIANGLE, &(0, [1, 1])) == Ok((None, None))
+    );
 }
 
 /// x from 0 to (2^63 - 1)^2, four times which passes the range.

@@ -16,9 +16,9 @@ pub fn set_by<D: Domain>(
     constant: i64,
     factors: &[i64],
 ) -> Result<Exactness, AllocError>
-    requires place { x < D.meaning.dims value.old }
-    requires width { length factors.now ≡ D.meaning.dims value.old }
-    ensures { D.meaning.dims value.new ≡ D.meaning.dims value.old }
+    requires place { x < D.abstraction.dims value.old }
+    requires width { length factors.now ≡ D.abstraction.dims value.old }
+    ensures { D.abstraction.dims value.new ≡ D.abstraction.dims value.old }
 {
     let form = LinExpr::new(alloc, constant, factors)?;
     let exactness = value.assign(x, &form)?;
@@ -32,8 +32,8 @@ pub fn keep_by<D: Domain>(
     constant: i64,
     factors: &[i64],
 ) -> Result<Exactness, AllocError>
-    requires { length factors.now ≡ D.meaning.dims value.old }
-    ensures { D.meaning.dims value.new ≡ D.meaning.dims value.old }
+    requires { length factors.now ≡ D.abstraction.dims value.old }
+    ensures { D.abstraction.dims value.new ≡ D.abstraction.dims value.old }
 {
     let test = Test {
         expr: LinExpr::new(alloc, constant, factors)?,
@@ -45,7 +45,7 @@ pub fn keep_by<D: Domain>(
 
 /// x = 3 and 3 <= y <= 10, by an assignment and two tests through the bound.
 pub fn value_by<D: Domain>(alloc: Global) -> Result<D, AllocError>
-    ensures { IfOk result (λ v. D.meaning.dims v ≡ 2) }
+    ensures { IfOk result (λ v. D.abstraction.dims v ≡ 2) }
 {
     let mut value = D::universe(alloc, 2, 1)?;
     set_by(alloc, &mut value, 0, 3, &[0, 0])?;
@@ -56,8 +56,8 @@ pub fn value_by<D: Domain>(alloc: Global) -> Result<D, AllocError>
 
 /// Copies, comparisons, a forgotten dimension and a join, through the bound: whether each is as it should be.
 pub fn compares_by<D: Domain>(alloc: Global, value: &mut D) -> Result<[bool; 5], AllocError>
-    requires { D.meaning.dims value.old ≡ 2 }
-    ensures { D.meaning.dims value.new ≡ 2 }
+    requires { D.abstraction.dims value.old ≡ 2 }
+    ensures { D.abstraction.dims value.new ≡ 2 }
 {
     let mut other = value.copy(alloc)?;
     let same = other.same(value);
@@ -72,8 +72,8 @@ pub fn compares_by<D: Domain>(alloc: Global, value: &mut D) -> Result<[bool; 5],
 
 /// A dimension more and one less, through the bound; how many there were between.
 pub fn resizes_by<D: Domain>(value: &mut D) -> Result<usize, AllocError>
-    requires { D.meaning.dims value.old ≡ 2 }
-    ensures { IfOk result (λ n. D.meaning.dims value.new ≡ 2) }
+    requires { D.abstraction.dims value.old ≡ 2 }
+    ensures { IfOk result (λ n. D.abstraction.dims value.new ≡ 2) }
 {
     value.embed(1)?;
     let dims = value.dims();
@@ -88,10 +88,10 @@ fn grow_by<D: Domain>(
     value: &mut D,
     mode: Mode,
 ) -> Result<u64, AllocError>
-    requires head { D.meaning.head_dims head.old ≡ 1 }
-    requires value { D.meaning.dims value.old ≡ 1 }
-    ensures head { D.meaning.head_dims head.new ≡ 1 }
-    ensures value { D.meaning.dims value.new ≡ 1 }
+    requires head { D.abstraction.head_dims head.old ≡ 1 }
+    requires value { D.abstraction.dims value.old ≡ 1 }
+    ensures head { D.abstraction.head_dims head.new ≡ 1 }
+    ensures value { D.abstraction.dims value.new ≡ 1 }
 {
     set_by(alloc, value, 0, 1, &[1])?;
     D::grow(head, value, mode)?;
@@ -214,7 +214,7 @@ fn passing_the_range(rt: HostRuntime) {
 
 /// x and y from 0 to 2 * (2^63 - 1)^2, just below 2^127.
 fn near_the_range<D: Domain>(alloc: Global) -> Result<D, AllocError>
-    ensures { IfOk result (λ v. D.meaning.dims v ≡ 2) }
+    ensures { IfOk result (λ v. D.abstraction.dims v ≡ 2) }
 {
     let mut value = D::universe(alloc, 2, 1)?;
     keep_by(alloc, &mut value, 0, &[1, 0])?;

@@ -1,13 +1,13 @@
 ghost use Rattle.std.specs.Prelude.{◌≡◌};
 
 use lra_domain::{Domain, Exactness, Grown, Included, Mode};
-use lra_gauge::Gauge;
+use lra_example_domain::ExampleDomain;
 use std::alloc::AllocError;
 
-fn gauge(bound: u8) -> Gauge
+fn gauge(bound: u8) -> ExampleDomain
     ensures { result.dims ≡ 1 }
 {
-    Gauge { dims: 1, bound }
+    ExampleDomain { dims: 1, bound }
 }
 
 const EXACT: Grown = Grown::Grew(Exactness::Exact);
@@ -28,7 +28,7 @@ static GROWTHS: [(u8, u8, Mode, Grown, u8); 7] = [
 /// What growing a head of this bound does, and its bound then.
 fn grown(bound: u8, next: u8, mode: Mode) -> Result<(Grown, u8), AllocError> {
     let mut head = gauge(bound);
-    let answer = Gauge::grow(&mut head, &gauge(next), mode)?;
+    let answer = ExampleDomain::grow(&mut head, &gauge(next), mode)?;
     Ok((answer, head.bound))
 }
 

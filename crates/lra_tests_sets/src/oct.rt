@@ -5,12 +5,12 @@ ghost use Rattle.std.specs.Prelude.{◌≡◌, ◌<◌, IfOk};
 use crate::boxes::{compares_by, has_head_by, keep_by, resizes_by, set_by, shows_by};
 use lra_domain::Domain;
 use lra_linear_spec::ConKind;
-use lra_oct::Octagon;
+use lra_octagon::Octagon;
 use std::alloc::{AllocError, Global};
 
 /// x + y <= 1 and x <= y, through the bound.
 fn value_by<D: Domain>(alloc: Global) -> Result<D, AllocError>
-    ensures { IfOk result (λ v. D.meaning.dims v ≡ 2) }
+    ensures { IfOk result (λ v. D.abstraction.dims v ≡ 2) }
 {
     let mut value = D::universe(alloc, 2, 1)?;
     keep_by(alloc, &mut value, 1, &[-1, -1])?;
@@ -27,8 +27,8 @@ fn sets_by<D: Domain>(
     want: &[([i128; 3], ConKind); 3],
 ) -> Result<bool, AllocError>
     requires place { x < 2 }
-    requires dims { D.meaning.dims value.old ≡ 2 }
-    ensures { D.meaning.dims value.new ≡ 2 }
+    requires dims { D.abstraction.dims value.old ≡ 2 }
+    ensures { D.abstraction.dims value.new ≡ 2 }
 {
     set_by(alloc, value, x, form[0], &[form[1], form[2]])?;
     let shown = shows_by(alloc, value, want)?;
@@ -55,7 +55,7 @@ const SHIFTED: [([i128; 3], ConKind); 3] = [
 
 /// x + y <= 1 and x <= y, then y = x + 2, then x = 1 - x, through the bound: whether each has its rows.
 fn shown_by<D: Domain>(alloc: Global, value: &mut D) -> Result<bool, AllocError>
-    requires { D.meaning.dims value.old ≡ 2 }
+    requires { D.abstraction.dims value.old ≡ 2 }
 {
     let tested = shows_by(alloc, value, &TESTED)?;
     let equated = sets_by(alloc, value, 1, &[2, 1, 0], &EQUATED)?;

@@ -4,7 +4,7 @@ ghost use Rattle.std.specs.Prelude.{◌≡◌, IfOk};
 use crate::boxes::keep_by;
 use lra_box::Boxes;
 use lra_domain::{Domain, Exactness};
-use lra_set::PowerSet;
+use lra_powerset::PowerSet;
 use std::alloc::{AllocError, Global};
 
 /// Where a form of one dimension isn't negative, as one part of at most two.

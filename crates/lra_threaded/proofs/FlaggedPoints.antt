@@ -3,9 +3,9 @@ use Rattle.std.proofs.Common.{◌≡◌, ◌∙◌, ◌≤◌, ◌<◌, ◌+◌,
 use Rattle.std.specs.Prelude.{⊤, Option, None, Some, slice_get}
 use Rattle.std.specs.List.{Contains}
 use Rattle.std.proofs.lemmas.Option.{slice_get_past, slice_get_within}
-use Rattle.lra_others.specs.Others.{Others}
-use Rattle.lra_box.specs.Content.{Content}
-use Rattle.lra_box.specs.Meaning.{box_meaning}
+use Rattle.lra_interference.specs.Interference.{Interference}
+use Rattle.lra_box.specs.Content.{BoxContent}
+use Rattle.lra_box.specs.Abstraction.{box_abstraction}
 use Rattle.lra_base.specs.declared.refusals.Place.{Place}
 use Rattle.lra_program.specs.Program.{Program}
 use Rattle.lra_program.specs.Sites.{Site, sites_of}
@@ -38,7 +38,7 @@ abbrev pub IfFlag : (ℕ × ℕ → Type 0) → Option (ℕ × ℕ) → Type 0
 IfFlag So None = ⊤
 IfFlag So (Some f) = So f
 
-module _ {R : Type 0} (finding : Finding R) (globals count : ℕ) (IsFoundHere : ℕ → Others Content → R → Type 0) where
+module _ {R : Type 0} (finding : Finding R) (globals count : ℕ) (IsFoundHere : ℕ → Interference BoxContent → R → Type 0) where
   -- the round that settles
   end_found : (left : ℕ) (flag : Option (ℕ × ℕ)) (table : Table) (end : Settled R) → Rounds finding globals IsFoundHere count left flag table end
       → AreFound globals IsFoundHere count end.table end.found
@@ -48,8 +48,8 @@ module _ {R : Type 0} (finding : Finding R) (globals count : ℕ) (IsFoundHere :
   pub all_end_found : (end : Settled R) → AllRounds finding globals IsFoundHere count end → AreFound globals IsFoundHere count end.table end.found
   all_end_found end rounds = end_found joining_rounds None (empty_table count globals) end rounds
 
-module _ {R : Type 0} (finding : Finding R) (globals count : ℕ) (IsFoundHere : ℕ → Others Content → R → Type 0) (So : ℕ × ℕ → Type 0)
-    (each : (k : ℕ) (o : Others Content) (r : R) → IsFoundHere k o r → (q : ℕ) → finding.flag r ≡ Some q → So (k, q)) where
+module _ {R : Type 0} (finding : Finding R) (globals count : ℕ) (IsFoundHere : ℕ → Interference BoxContent → R → Type 0) (So : ℕ × ℕ → Type 0)
+    (each : (k : ℕ) (o : Interference BoxContent) (r : R) → IsFoundHere k o r → (q : ℕ) → finding.flag r ≡ Some q → So (k, q)) where
   flag_so : (k : ℕ) (own : Option ℕ) (later : Option (ℕ × ℕ)) → ((q : ℕ) → own ≡ Some q → So (k, q)) → IfFlag So later → IfFlag So (flag_of k own later)
   flag_so k None later own rest = rest
   flag_so k (Some q) later own rest = own q refl
@@ -85,16 +85,17 @@ pub if_flag : (So : ℕ × ℕ → Type 0) (flag : Option (ℕ × ℕ)) (k q : �
 if_flag So flag k q so is = subst (IfFlag So) is so
 
 -- what is told of accesses stands at points
-pub answers_low : (g : Node) (values : List Content) (before : Option ℕ) (told : List (ℕ × List (Place × Bool))) (flag : Option ℕ)
-    → JudgesAccesses box_meaning (dropping box_meaning) g values before told flag → (v : ℕ × List (Place × Bool)) → Contains told v → v.0 < length values
+pub answers_low : (g : Node) (values : List BoxContent) (before : Option ℕ) (told : List (ℕ × List (Place × Bool))) (flag : Option ℕ)
+    → JudgesAccesses box_abstraction (dropping box_abstraction) g values before told flag → (v : ℕ × List (Place × Bool)) → Contains told v →
+    v.0 < length values
 answers_low g values before told flag judged v among =
     let (j, one, at, answer) = found_of judged.found v.0 v.1 (subst (λ (l : List (ℕ × List (Place × Bool))). Contains l v) judged.told among) in
     subst (λ (q : ℕ). q < length values) at
-    (point_below (dropping box_meaning) (OpInside box_meaning (dropping box_meaning)) (accessed_in None g) values before told flag judged j one)
+    (point_below (dropping box_abstraction) (OpInside box_abstraction (dropping box_abstraction)) (accessed_in None g) values before told flag judged j one)
 
 -- of one thread ------------------------------------------------------------------------------------------------------
 
-module _ (o : Others Content) (plan : Plan) (P Q : Program) (g : Node) (graph : IsGraph Q g) (f : ThreadFound) (is : IsFound o plan P g f) where
+module _ (o : Interference BoxContent) (plan : Plan) (P Q : Program) (g : Node) (graph : IsGraph Q g) (f : ThreadFound) (is : IsFound o plan P g f) where
   abbrev m : ℕ
   m = length (sites_of Q)
 
@@ -107,30 +108,30 @@ module _ (o : Others Content) (plan : Plan) (P Q : Program) (g : Node) (graph : 
   counts : (k : ℕ) → values_at k is.solved.result.entries ≡ values_in whole k
   counts k =
       let (none, first, e, universal, values, pass) = is.solved.derived in
-      (pass_found Content _ (dropping box_meaning) (admitted o box_meaning) k plan whole _ first is.solved.result pass).values
+      (pass_found BoxContent _ (dropping box_abstraction) (admitted o box_abstraction) k plan whole _ first is.solved.result pass).values
 
   fails : (k : ℕ) → failing_at k is.solved.result.entries ≡ asserts_of (slice_get (sites_of Q) k)
   fails k =
       let (none, first, e, universal, values, pass) = is.solved.derived in
-      (pass_found Content _ (dropping box_meaning) (admitted o box_meaning) k plan whole _ first is.solved.result pass).checks ∙ numbers.checks k
+      (pass_found BoxContent _ (dropping box_abstraction) (admitted o box_abstraction) k plan whole _ first is.solved.result pass).checks ∙ numbers.checks k
 
   -- a value stands at a point, and each point has one
-  value_point : (k : ℕ) (v : Content) → slice_get (values_of f) k ≡ Some v → (s : Site) × (slice_get (sites_of Q) k ≡ Some s)
+  value_point : (k : ℕ) (v : BoxContent) → slice_get (values_of f) k ≡ Some v → (s : Site) × (slice_get (sites_of Q) k ≡ Some s)
   value_point k v there = at (slice_get (sites_of Q) k) refl
     where
       at : (x : Option Site) → slice_get (sites_of Q) k ≡ x → (s : Site) × (slice_get (sites_of Q) k ≡ Some s)
       at (Some s) e = (s, e)
       at None e =
-          let some = value_counted Content k v is.solved.result.entries ((is.solved.solves.is_value k v).0 there) in
+          let some = value_counted BoxContent k v is.solved.result.entries ((is.solved.solves.is_value k v).0 there) in
           let count = counts k in
           let zero = numbers.no_values k e in
           absurd (omega (arith, some, count, zero))
 
-  point_value : (k : ℕ) (s : Site) → slice_get (sites_of Q) k ≡ Some s → (v : Content) × (slice_get (values_of f) k ≡ Some v)
+  point_value : (k : ℕ) (s : Site) → slice_get (sites_of Q) k ≡ Some s → (v : BoxContent) × (slice_get (values_of f) k ≡ Some v)
   point_value k s there =
       let count = counts k in
       let one = numbers.values k s there in
-      let found = counted_value Content k is.solved.result.entries (omega (arith, count, one)) in
+      let found = counted_value BoxContent k is.solved.result.entries (omega (arith, count, one)) in
       (found.0, (is.solved.solves.is_value k found.0).1 found.1)
 
   many : length (values_of f) ≡ m
@@ -145,7 +146,7 @@ module _ (o : Others Content) (plan : Plan) (P Q : Program) (g : Node) (graph : 
   iteration_flag : (q : ℕ) → f.noted.solution.flagged ≡ Some q → q < m
   iteration_flag q flagged =
       let all = graph.all in
-      let below = iteration_among_below Content _ (dropping box_meaning) (admitted o box_meaning) m plan P whole is.solved.result
+      let below = iteration_among_below BoxContent _ (dropping box_abstraction) (admitted o box_abstraction) m plan P whole is.solved.result
       (omega (arith, all)) (opened_below m (length P.globals) g no_values (graph_below Q g graph)) is.solved.derived in
       subst (IsBelow m) (sym is.solved.solves.is_flagged ∙ flagged) below
 
@@ -153,7 +154,7 @@ module _ (o : Others Content) (plan : Plan) (P Q : Program) (g : Node) (graph : 
   pub verdict_low : (q : ℕ) (b : Bool) → Contains (verdicts_of f) (q, b) → q < m
   verdict_low q b listed =
       let (u, found, so) = is.solved.solves.is_verdict q b listed in
-      let some = failing_counted Content q u is.solved.result.entries found in
+      let some = failing_counted BoxContent q u is.solved.result.entries found in
       let count = fails q in
       at (slice_get (sites_of Q) q) refl (omega (arith, some, count))
     where
@@ -169,7 +170,8 @@ module _ (o : Others Content) (plan : Plan) (P Q : Program) (g : Node) (graph : 
 
   pub thread_flag : (q : ℕ) → flag_of_thread f ≡ Some q → q < m
   thread_flag q flagged =
-      flagged_below (dropping box_meaning) (OpInside box_meaning (dropping box_meaning)) (accessed_in None g) (values_of f) f.noted.solution.flagged (told_in f)
+      flagged_below (dropping box_abstraction) (OpInside box_abstraction (dropping box_abstraction)) (accessed_in None g) (values_of f) f.noted.solution.flagged
+      (told_in f)
       (flag_of_thread f) is.accessed m many iteration_flag q flagged
 
 -- of all threads, whose trees these are

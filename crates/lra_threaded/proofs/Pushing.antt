@@ -6,8 +6,8 @@ use Rattle.std.proofs.lemmas.List.{length-append, length-map, length-take-le, ma
 use Rattle.std.proofs.Math.Seq.{take-suc}
 use Rattle.std.proofs.lemmas.Option.{none-some, same_Some}
 use Rattle.lra_linear_spec.proofs.Membership.{contains_head, contains_tail}
-use Rattle.lra_box.specs.Content.{Content}
-use Rattle.lra_box.specs.Meaning.{box_meaning}
+use Rattle.lra_box.specs.Content.{BoxContent}
+use Rattle.lra_box.specs.Abstraction.{box_abstraction}
 use Rattle.lra_program.specs.Sites.{Site}
 use Rattle.lra_options.specs.declared.options.Domain.TheVariants.{Box}
 use Rattle.lra_report.specs.Listing.{AreListed, HasWidth}
@@ -46,18 +46,19 @@ pub next_so : {A : Type 0} (P : A → Type 0) (xs : List A) (n : ℕ) (x : A) �
 next_so P xs n x all low is = subst P (sym is) (all n x low)
 
 -- the states that are listed
-pub states_listed : (sites : List Site) (values : List Content) (states : List Invariant) → AreWide box_meaning sites values → length values ≡ length sites
-    → AreShown box_meaning Box (shown_state box_meaning) values → states ≡ map (shown_state box_meaning) values → AreInvariants sites states
+pub states_listed : (sites : List Site) (values : List BoxContent) (states : List Invariant) → AreWide box_abstraction sites values →
+    length values ≡ length sites
+    → AreShown box_abstraction Box (shown_state box_abstraction) values → states ≡ map (shown_state box_abstraction) values → AreInvariants sites states
 states_listed sites values states wide many shown are = record {
-  as_many = ap length are ∙ length-map values (shown_state box_meaning) ∙ many;
+  as_many = ap length are ∙ length-map values (shown_state box_abstraction) ∙ many;
   wide = λ q s state site there.
-      let (v, value, is) = image_of (shown_state box_meaning) values q state (ap (λ (l : List Invariant). slice_get l q) (sym are) ∙ there) in
+      let (v, value, is) = image_of (shown_state box_abstraction) values q state (ap (λ (l : List Invariant). slice_get l q) (sym are) ∙ there) in
       subst (λ (x : Invariant). AllByRecursion (HasWidth s.live) x) is
-      (subst (λ (n : ℕ). AllByRecursion (HasWidth n) (shown_state box_meaning v)) (wide q v value s site)
+      (subst (λ (n : ℕ). AllByRecursion (HasWidth n) (shown_state box_abstraction v)) (wide q v value s site)
       (shown v (value_among values q v value)).wide);
 }
   where
-    value_among : (vs : List Content) (q : ℕ) (v : Content) → slice_get vs q ≡ Some v → Contains vs v
+    value_among : (vs : List BoxContent) (q : ℕ) (v : BoxContent) → slice_get vs q ≡ Some v → Contains vs v
     value_among [] q v there = absurd (none-some v there)
     value_among (u ∷ vs) zero v there = subst (Contains (u ∷ vs)) (same_Some u v there) (contains_head u vs)
     value_among (u ∷ vs) (suc q) v there = contains_tail u v vs (value_among vs q v there)
@@ -115,7 +116,7 @@ module _ (t : FileTree) (graphs : List Graph) (are : AreGraphsOf t graphs) (k : 
   -- the points of a thread as they are listed alone
   pub listed_alone : (found : ThreadFound) (names : List (List ℕ)) (ls : List Labelled) (sites : List Site) (points : List PointReport) (states : List Invariant)
       → names ≡ globals_named t.parts → ls ≡ labels_of t → sites ≡ sites_in graph → AreListed names ls 1 sites points → map state_of points ≡ states
-      → states ≡ map (shown_state box_meaning) (values_of found) → AreShown box_meaning Box (shown_state box_meaning) (values_of found)
+      → states ≡ map (shown_state box_abstraction) (values_of found) → AreShown box_abstraction Box (shown_state box_abstraction) (values_of found)
       → AreListedAlone t k found points
   listed_alone found names ls sites points states named labelled same listed stated shown are_shown = record {
     listed = subst (λ (ss : List Site). AreListed (globals_named t.parts) (labels_of t) 1 ss points) (same ∙ are.sites k graph there)

@@ -8,8 +8,8 @@ use Rattle.std.proofs.lemmas.List.Sums.{sum_by-cons}
 use Rattle.std.proofs.lemmas.Option.{get_or_from_slice_get, same_Some, slice_get-map, slice_get_within}
 use Rattle.lra_linear_spec.proofs.Membership.{contains_cases, contains_head, contains_none, contains_tail, map_from}
 use Rattle.lra_base.specs.declared.refusals.Place.{Place}
-use Rattle.lra_box.specs.Content.{Content}
-use Rattle.lra_box.specs.Meaning.{box_meaning}
+use Rattle.lra_box.specs.Content.{BoxContent}
+use Rattle.lra_box.specs.Abstraction.{box_abstraction}
 use Rattle.lra_box.specs.declared.interval.Interval.{Interval}
 use Rattle.lra_tree.specs.Labels.{Labelled, labels_of}
 use Rattle.lra_tree.specs.Trees.{FileTree}
@@ -97,13 +97,13 @@ module _ (t : FileTree) (end : Settled ThreadFound) (holds : HoldsBeside (shared
       ∙ ap (λ (p : ℕ). Some (function_or (slice_get (resolved_functions t) p))) (sym (get_or_from_slice_get (thread_places t) k place 0 there))
 
   -- the state that is shown of a thread alone
-  alone_holds : (k q : ℕ) (s : Site) (found : ThreadFound) (v : Content) (ps : List PointReport) (p : PointReport) (store : List ℤ)
-      → AreListedAlone t k found ps → slice_get (values_of found) q ≡ Some v → slice_get ps q ≡ Some p → box_meaning.has v store → Holds p.state store
+  alone_holds : (k q : ℕ) (s : Site) (found : ThreadFound) (v : BoxContent) (ps : List PointReport) (p : PointReport) (store : List ℤ)
+      → AreListedAlone t k found ps → slice_get (values_of found) q ≡ Some v → slice_get ps q ≡ Some p → box_abstraction.gamma v store → Holds p.state store
   alone_holds k q s found v ps p store alone value there has =
-      let state : Some p.state ≡ Some (shown_state box_meaning v) =
+      let state : Some p.state ≡ Some (shown_state box_abstraction v) =
       sym (slice_get-map state_of ps q ∙ ap (option_map state_of) there) ∙ ap (λ (l : List Invariant). slice_get l q) alone.states
-      ∙ slice_get-map (shown_state box_meaning) (values_of found) q ∙ ap (option_map (shown_state box_meaning)) value in
-      subst (λ (x : Invariant). Holds x store) (sym (same_Some p.state (shown_state box_meaning v) state))
+      ∙ slice_get-map (shown_state box_abstraction) (values_of found) q ∙ ap (option_map (shown_state box_abstraction)) value in
+      subst (λ (x : Invariant). Holds x store) (sym (same_Some p.state (shown_state box_abstraction v) state))
       ((alone.are_shown v (contained (values_of found) q v value)).holds store has)
 
   pub points_hold : (points : List PointReport) → length end.found ≡ length (thread_places t) → ShowsPoints t end.found points → (k q : ℕ) (s : Site) (x : PointReport)

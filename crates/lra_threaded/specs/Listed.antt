@@ -5,7 +5,7 @@ use Rattle.std.specs.Prelude.{None, Some, option_map, slice_get, get_or}
 use Rattle.std.specs.List.{flat_map, sum_by}
 use Rattle.std.specs.Fmt.{decimal}
 use Rattle.lra_box.specs.declared.interval.Interval.{Interval}
-use Rattle.lra_box.specs.Meaning.{box_meaning}
+use Rattle.lra_box.specs.Abstraction.{box_abstraction}
 use Rattle.lra_tree.specs.Labels.{labels_of}
 use Rattle.lra_tree.specs.Trees.{FileTree}
 use Rattle.lra_meaning.specs.LiveNames.{globals_named}
@@ -51,8 +51,8 @@ number_in t k q = points_before t k + suc q
 -- value there
 pub record AreListedAlone (t : FileTree) (k : ℕ) (found : ThreadFound) (points : List PointReport) : Type 0 where
   pub listed : AreListed (globals_named t.parts) (labels_of t) 1 (thread_sites t k) points
-  pub states : map state_of points ≡ map (shown_state box_meaning) (values_of found)
-  pub are_shown : AreShown box_meaning Box (shown_state box_meaning) (values_of found)
+  pub states : map state_of points ≡ map (shown_state box_abstraction) (values_of found)
+  pub are_shown : AreShown box_abstraction Box (shown_state box_abstraction) (values_of found)
 
 abbrev pub assertions_alone : FileTree → ℕ → ThreadFound → List Verdict
 assertions_alone t k found = map (verdict_at (labels_of t) (thread_sites t k) Assertion) (verdicts_of found)

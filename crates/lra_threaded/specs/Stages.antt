@@ -1,7 +1,7 @@
 -- What is known of the threads of a source before and behind the rounds, as the report asks it.
 use Rattle.std.specs.Prelude.{◌≡◌, ◌≤◌, ◌<◌, ◌+◌, ◌++◌, ◌^◌, ℕ, List, length, map, codes, All, Some, slice_get}
 use Rattle.std.specs.List.{AllZip, flat_map, sum_by}
-use Rattle.lra_box.specs.Meaning.{box_meaning}
+use Rattle.lra_box.specs.Abstraction.{box_abstraction}
 use Rattle.lra_tree.specs.Grammar.{Spells}
 use Rattle.lra_tree.specs.Labels.{labels_of}
 use Rattle.lra_tree.specs.Trees.{FileTree}
@@ -56,7 +56,7 @@ pub record AreGraphsOf (t : FileTree) (graphs : List Graph) : Type 0 where
 
 -- a value for each point, as wide as what lives there, and what is judged stands at points
 pub record IsOfGraph (graph : Graph) (found : ThreadFound) : Type 0 where
-  pub wide : AreWide box_meaning (sites_in graph) (values_of found)
+  pub wide : AreWide box_abstraction (sites_in graph) (values_of found)
   pub points : length (values_of found) ≡ length (sites_in graph)
   pub assertions : All (λ v. v.0 < points_in graph) (verdicts_of found)
   pub inside : All (λ v. v.0 < points_in graph) found.inside.verdicts.items

@@ -3,8 +3,8 @@ use Rattle.std.proofs.Common.{◌≡◌, ◌∙◌, ◌<◌, ℕ, zero, suc, Lis
 use Rattle.std.specs.Prelude.{All, slice_get}
 use Rattle.std.proofs.lemmas.List.{length-map}
 use Rattle.std.proofs.lemmas.Option.{slice_get-get_or, slice_get_within, get_or_from_slice_get}
-use Rattle.lra_box.specs.Content.{Content}
-use Rattle.lra_box.specs.Meaning.{box_meaning}
+use Rattle.lra_box.specs.Content.{BoxContent}
+use Rattle.lra_box.specs.Abstraction.{box_abstraction}
 use Rattle.lra_program.specs.Sites.{Site}
 use Rattle.lra_operations.specs.Asked.{Asked}
 use Rattle.lra_operations.specs.GraphViews.{site_view}
@@ -22,12 +22,12 @@ same_place (z ∷ xs) [] k x long e = let wrong : ⊥ = cc in absurd wrong
 same_place (z ∷ xs) (y ∷ ys) zero x long e = (y, refl)
 same_place (z ∷ xs) (y ∷ ys) (suc k) x long e = same_place xs ys k x (omega (arith, long)) e
 
-module _ (graph : Graph) (values : List Content) (points : length values ≡ length graph.sites.items) where
+module _ (graph : Graph) (values : List BoxContent) (points : length values ≡ length graph.sites.items) where
   pub as_many_sites : length values ≡ length (sites_in graph)
   as_many_sites = points ∙ sym (length-map graph.sites.items site_view)
 
-  pub few_dims : AreWide box_meaning (sites_in graph) values → All (λ (s : Site). s.live < most_live) (sites_in graph)
-      → All (λ (v : Content). box_meaning.dims v < most_live) values
+  pub few_dims : AreWide box_abstraction (sites_in graph) values → All (λ (s : Site). s.live < most_live) (sites_in graph)
+      → All (λ (v : BoxContent). box_abstraction.dims v < most_live) values
   few_dims wide few k d h =
       let v = get_or values k d in
       let there : slice_get values k ≡ Some v = slice_get-get_or values k d h in

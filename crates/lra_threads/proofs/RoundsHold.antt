@@ -3,9 +3,9 @@ use Rattle.std.proofs.Common.{◌≡◌, ◌∙◌, ℕ, List, length, Option, N
 use Rattle.std.specs.Prelude.{slice_get, option_map}
 use Rattle.std.proofs.lemmas.List.{length-map}
 use Rattle.std.proofs.lemmas.Option.{none-some, same_Some, slice_get-map}
-use Rattle.lra_others.specs.Others.{Others}
-use Rattle.lra_box.specs.Content.{Content}
-use Rattle.lra_box.specs.Meaning.{box_meaning}
+use Rattle.lra_interference.specs.Interference.{Interference}
+use Rattle.lra_box.specs.Content.{BoxContent}
+use Rattle.lra_box.specs.Abstraction.{box_abstraction}
 use Rattle.lra_program.specs.Program.{Program}
 use Rattle.lra_program.specs.declared.program.GlobalVariable.{GlobalVariable}
 use Rattle.lra_operations.specs.Graph.{Node}
@@ -52,7 +52,7 @@ module _ (plan : Plan) (globals : List GlobalVariable) (graphs : List Graph) whe
         is_found = there;
         solved = (
           plan,
-          subst (λ (zs : List GlobalVariable). IsSolvedAmong (others_of (length zs) k end.table) box_meaning plan P
+          subst (λ (zs : List GlobalVariable). IsSolvedAmong (others_of (length zs) k end.table) box_abstraction plan P
               (node_view graph.tree) (values_of f) (notes_of f) (verdicts_of f) f.noted.solution.flagged) (sym same) (one.solved P same),
         );
         holds = subst (λ (zs : List GlobalVariable). HoldsOf (others_of (length zs) k end.table) P g f) (sym same) (one.sound P g same opens);
@@ -90,13 +90,13 @@ module _ (plan : Plan) (globals : List GlobalVariable) (graphs : List Graph) whe
         (sym (slice_get-map (opened (length P.globals)) trees k) ∙ ap (λ (gs : List Node). slice_get gs k) (sym opens)
         ∙ slice_get-map (λ (x : Graph). node_view x.tree) graphs k ∙ ap (option_map (λ (x : Graph). node_view x.tree)) is)
 
-    found_of : (k : ℕ) (o : Others Content) (f : ThreadFound) → IsAnalysedOf plan globals graphs k o f → IsFoundOf plan P trees k o f
+    found_of : (k : ℕ) (o : Interference BoxContent) (f : ThreadFound) → IsAnalysedOf plan globals graphs k o f → IsFoundOf plan P trees k o f
     found_of k o f (graph, is, one) =
         let (g, at, tree) = own_tree k graph is in (
           g,
           at,
           record {
-            solved = subst (λ (h : Node). IsSolvedAmong o box_meaning plan P h (values_of f) (notes_of f) (verdicts_of f) f.noted.solution.flagged)
+            solved = subst (λ (h : Node). IsSolvedAmong o box_abstraction plan P h (values_of f) (notes_of f) (verdicts_of f) f.noted.solution.flagged)
                 tree (one.solved P same);
             accessed = judged_own (length P.globals) g (node_view graph.tree) (values_of f) f.noted.solution.flagged (flag_of_thread f)
                 (told_in f) tree one.accessed;
@@ -112,7 +112,7 @@ module _ (plan : Plan) (globals : List GlobalVariable) (graphs : List Graph) whe
         (subst (λ (zs : List GlobalVariable). AllRounds thread_finding (length zs) (IsFoundOf plan P trees) (length graphs) end) (sym same) told)
 
 module _ (plan : Plan) (P : Program) (trees : List Node) where
-  written_of : (k : ℕ) (o : Others Content) (f : ThreadFound) → IsFoundOf plan P trees k o f → flag_of_thread f ≡ None
+  written_of : (k : ℕ) (o : Interference BoxContent) (f : ThreadFound) → IsFoundOf plan P trees k o f → flag_of_thread f ≡ None
       → IsWrittenOf plan P trees k o f
   written_of k o f (g, is, one) none =
       let first : f.noted.solution.flagged ≡ None =
@@ -122,13 +122,13 @@ module _ (plan : Plan) (P : Program) (trees : List Node) where
         record {
           result = one.solved.result;
           written = one.solved.written first;
-          solves = subst (λ (q : Option ℕ). Solves box_meaning one.solved.result (values_of f) (verdicts_of f) q) first one.solved.solves;
+          solves = subst (λ (q : Option ℕ). Solves box_abstraction one.solved.result (values_of f) (verdicts_of f) q) first one.solved.solves;
           noted = one.solved.noted;
           accessed = accessed_written g (values_of f) f.noted.solution.flagged (flag_of_thread f) (told_in f) one.accessed none;
         },
       )
 
-  strains_at : (k q : ℕ) (o : Others Content) (f : ThreadFound) → IsFoundOf plan P trees k o f → flag_of_thread f ≡ Some q
+  strains_at : (k q : ℕ) (o : Interference BoxContent) (f : ThreadFound) → IsFoundOf plan P trees k o f → flag_of_thread f ≡ Some q
       → StrainsAt plan P trees k o q
   strains_at k q o f (g, is, one) some = (
     g,
@@ -140,7 +140,7 @@ module _ (plan : Plan) (P : Program) (trees : List Node) where
         written = one.solved.written behind.0;
         values = values_of f;
         verdicts = verdicts_of f;
-        solves = subst (λ (p : Option ℕ). Solves box_meaning one.solved.result (values_of f) (verdicts_of f) p) behind.0 one.solved.solves;
+        solves = subst (λ (p : Option ℕ). Solves box_abstraction one.solved.result (values_of f) (verdicts_of f) p) behind.0 one.solved.solves;
         inside = told_in f;
         judged = behind.1;
       })

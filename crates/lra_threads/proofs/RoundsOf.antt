@@ -1,14 +1,14 @@
 -- What rounds end with, whatever is found of each thread.
 use Rattle.std.proofs.Common.{◌≡◌, ◌-◌, ℕ, length, Option, None, List, refl}
-use Rattle.lra_others.specs.Others.{Others}
-use Rattle.lra_box.specs.Content.{Content}
+use Rattle.lra_interference.specs.Interference.{Interference}
+use Rattle.lra_box.specs.Content.{BoxContent}
 use Rattle.lra_rounds.specs.Intervals.{Table, AreWide, empty_table, next_table}
 use Rattle.lra_rounds.specs.Rounds.{Finding, IsRound, Rounds, settled, unsettled, AllRounds, Settled, joining_rounds}
 use Rattle.lra_rounds.proofs.FallLemmas.{first_table, next_fits}
 
-module _ {R : Type 0} (finding : Finding R) (globals : ℕ) (A : ℕ → Others Content → R → Type 0) where
+module _ {R : Type 0} (finding : Finding R) (globals : ℕ) (A : ℕ → Interference BoxContent → R → Type 0) where
   -- what is found may be told in another way
-  module _ (B : ℕ → Others Content → R → Type 0) (so : (k : ℕ) (o : Others Content) (r : R) → A k o r → B k o r) where
+  module _ (B : ℕ → Interference BoxContent → R → Type 0) (so : (k : ℕ) (o : Interference BoxContent) (r : R) → A k o r → B k o r) where
     round_told : (count : ℕ) (flag : Option (ℕ × ℕ)) (table : Table) (found : List R) (written : Table) (first : Option (ℕ × ℕ))
         → IsRound finding globals A count flag table found written first → IsRound finding globals B count flag table found written first
     round_told count flag table found written first round = record {

@@ -1,8 +1,8 @@
 -- What the code finds of a thread by its graph, whose tree is opened already.
 use Rattle.std.specs.Prelude.{◌≡◌, ℕ, List, length, map, Some, slice_get}
-use Rattle.lra_others.specs.Others.{Others}
-use Rattle.lra_box.specs.Content.{Content}
-use Rattle.lra_box.specs.Meaning.{box_meaning}
+use Rattle.lra_interference.specs.Interference.{Interference}
+use Rattle.lra_box.specs.Content.{BoxContent}
+use Rattle.lra_box.specs.Abstraction.{box_abstraction}
 use Rattle.lra_program.specs.Assertions.{assertions_from}
 use Rattle.lra_program.specs.Program.{Program}
 use Rattle.lra_program.specs.declared.program.GlobalVariable.{GlobalVariable}
@@ -21,20 +21,20 @@ use Rattle.lra_threads.specs.Found.{sites_in, values_of, verdicts_of, notes_of, 
 -- the iteration over the graph among these others; what holds of the runs of the thread's own tree; as many values as
 -- points, and verdicts of all assertions; each value has a dimension for each variable that lives at its point, and
 -- that of a note one for its variable; what is judged of accesses behind that
-pub record IsAnalysed (plan : Plan) (globals : List GlobalVariable) (graph : Graph) (o : Others Content)
+pub record IsAnalysed (plan : Plan) (globals : List GlobalVariable) (graph : Graph) (o : Interference BoxContent)
     (f : ThreadFound) : Type 0 where
-  pub solved : (P : Program) → P.globals ≡ globals → IsSolvedAmong o box_meaning plan P (node_view graph.tree)
+  pub solved : (P : Program) → P.globals ≡ globals → IsSolvedAmong o box_abstraction plan P (node_view graph.tree)
       (values_of f) (notes_of f) (verdicts_of f) f.noted.solution.flagged
   pub sound : (P : Program) (g : Node) → P.globals ≡ globals → node_view graph.tree ≡ opened (length P.globals) g →
       HoldsOf o P g f
-  pub wide : AreWide box_meaning (sites_in graph) (values_of f)
-  pub notes : NotesHave box_meaning (notes_of f)
+  pub wide : AreWide box_abstraction (sites_in graph) (values_of f)
+  pub notes : NotesHave box_abstraction (notes_of f)
   pub points : length (values_of f) ≡ length graph.sites.items
   pub assertions : map (λ v. v.0) (verdicts_of f) ≡ map (λ a. a.0) (assertions_from 0 (sites_in graph))
-  pub accessed : JudgesAccesses box_meaning (dropping box_meaning) (node_view graph.tree) (values_of f)
+  pub accessed : JudgesAccesses box_abstraction (dropping box_abstraction) (node_view graph.tree) (values_of f)
       f.noted.solution.flagged (told_in f) (flag_of_thread f)
 
 -- of the k-th thread
-abbrev pub IsAnalysedOf : Plan → List GlobalVariable → List Graph → ℕ → Others Content → ThreadFound → Type 0
+abbrev pub IsAnalysedOf : Plan → List GlobalVariable → List Graph → ℕ → Interference BoxContent → ThreadFound → Type 0
 IsAnalysedOf plan globals graphs k o f =
     (graph : Graph) × (slice_get graphs k ≡ Some graph) × IsAnalysed plan globals graph o f

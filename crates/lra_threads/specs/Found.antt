@@ -1,9 +1,9 @@
 -- What is found of threads, each by its tree, among what the others give.
 use Rattle.std.specs.Prelude.{◌≡◌, ◌↔◌, ◌≤◌, ◌<◌, ◌⊎◌, ℕ, List, length, map, Bool, Option, None, Some, All, slice_get}
 use Rattle.std.specs.List.{Contains}
-use Rattle.lra_others.specs.Others.{Others}
-use Rattle.lra_box.specs.Content.{Content}
-use Rattle.lra_box.specs.Meaning.{box_meaning}
+use Rattle.lra_interference.specs.Interference.{Interference}
+use Rattle.lra_box.specs.Content.{BoxContent}
+use Rattle.lra_box.specs.Abstraction.{box_abstraction}
 use Rattle.lra_base.specs.declared.refusals.Place.{Place}
 use Rattle.lra_program.specs.Program.{Program}
 use Rattle.lra_program.specs.Sites.{Site}
@@ -56,14 +56,14 @@ AreOpened globals trees graphs = map (λ (x : Graph). node_view x.tree) graphs �
 
 -- what is found of a thread -----------------------------------------------------------------------------------------
 
-abbrev pub values_of : ThreadFound → List Content
+abbrev pub values_of : ThreadFound → List BoxContent
 values_of f = f.noted.solution.values.items
 
 abbrev pub verdicts_of : ThreadFound → List (ℕ × Bool)
 verdicts_of f = f.noted.solution.verdicts.items
 
 -- what variables got
-abbrev pub notes_of : ThreadFound → List (ℕ × ℕ × Content)
+abbrev pub notes_of : ThreadFound → List (ℕ × ℕ × BoxContent)
 notes_of f = map note_view f.noted.notes.items
 
 -- what is told of accesses, point by point
@@ -75,55 +75,56 @@ abbrev pub flag_of_thread : ThreadFound → Option ℕ
 flag_of_thread f = f.inside.flagged
 
 -- the variables that got a value, each with the value behind that
-abbrev pub gift_in : Note Content → ℕ × Content
+abbrev pub gift_in : Note BoxContent → ℕ × BoxContent
 gift_in n = (n.variable, n.value)
 
-abbrev pub gifts_in : ThreadFound → List (ℕ × Content)
+abbrev pub gifts_in : ThreadFound → List (ℕ × BoxContent)
 gifts_in f = map gift_in f.noted.notes.items
 
 abbrev pub thread_finding : Finding ThreadFound
 thread_finding = record { notes = gifts_in; flag = flag_of_thread }
 
 -- it holds in all runs of this tree among these others
-abbrev pub HoldsOf : Others Content → Program → Node → ThreadFound → Type 0
-HoldsOf o P g f = HoldsAmong o box_meaning P g (values_of f) (notes_of f) (verdicts_of f)
+abbrev pub HoldsOf : Interference BoxContent → Program → Node → ThreadFound → Type 0
+HoldsOf o P g f = HoldsAmong o box_abstraction P g (values_of f) (notes_of f) (verdicts_of f)
 
 -- The iteration over the opened tree, and what is judged of the accesses of this tree by the values that it leaves.
-pub record IsFound (o : Others Content) (plan : Plan) (P : Program) (g : Node) (f : ThreadFound) : Type 0 where
-  pub solved : IsSolvedAmong o box_meaning plan P (opened (length P.globals) g) (values_of f) (notes_of f)
+pub record IsFound (o : Interference BoxContent) (plan : Plan) (P : Program) (g : Node) (f : ThreadFound) : Type 0 where
+  pub solved : IsSolvedAmong o box_abstraction plan P (opened (length P.globals) g) (values_of f) (notes_of f)
       (verdicts_of f) f.noted.solution.flagged
-  pub accessed : JudgesAccesses box_meaning (dropping box_meaning) g (values_of f) f.noted.solution.flagged
+  pub accessed : JudgesAccesses box_abstraction (dropping box_abstraction) g (values_of f) f.noted.solution.flagged
       (told_in f) (flag_of_thread f)
 
 -- of the k-th thread, of which this is its own tree
-abbrev pub IsFoundOf : Plan → Program → List Node → ℕ → Others Content → ThreadFound → Type 0
+abbrev pub IsFoundOf : Plan → Program → List Node → ℕ → Interference BoxContent → ThreadFound → Type 0
 IsFoundOf plan P trees k o f = (g : Node) × (slice_get trees k ≡ Some g) × IsFound o plan P g f
 
 -- without flags -----------------------------------------------------------------------------------------------------
 
 -- what is found is that of the written iteration, and of accesses judged by what it leaves
-pub record IsWritten (o : Others Content) (plan : Plan) (P : Program) (g : Node) (f : ThreadFound) : Type 0 where
-  pub result : Result Content
-  pub written : WrittenAmong o box_meaning plan P (opened (length P.globals) g) result
-  pub solves : Solves box_meaning result (values_of f) (verdicts_of f) None
-  pub noted : (q place : ℕ) (v : Content) →
-      Contains (notes_of f) (q, place, v) ↔ Contains result.entries (given q place v)
-  pub accessed : JudgesAccesses box_meaning (defined box_meaning) g (values_of f) None (told_in f) None
+pub record IsWritten (o : Interference BoxContent) (plan : Plan) (P : Program) (g : Node) (f : ThreadFound) : Type 0
+  where
+    pub result : Result BoxContent
+    pub written : WrittenAmong o box_abstraction plan P (opened (length P.globals) g) result
+    pub solves : Solves box_abstraction result (values_of f) (verdicts_of f) None
+    pub noted : (q place : ℕ) (v : BoxContent) →
+        Contains (notes_of f) (q, place, v) ↔ Contains result.entries (given q place v)
+    pub accessed : JudgesAccesses box_abstraction (defined box_abstraction) g (values_of f) None (told_in f) None
 
-abbrev pub IsWrittenOf : Plan → Program → List Node → ℕ → Others Content → ThreadFound → Type 0
+abbrev pub IsWrittenOf : Plan → Program → List Node → ℕ → Interference BoxContent → ThreadFound → Type 0
 IsWrittenOf plan P trees k o f = (g : Node) × (slice_get trees k ≡ Some g) × IsWritten o plan P g f
 
 -- an access that is judged by what the written iteration leaves strains at the point q
-pub record StrainsInAccess (o : Others Content) (plan : Plan) (P : Program) (g : Node) (q : ℕ) : Type 0 where
-  pub result : Result Content
-  pub written : WrittenAmong o box_meaning plan P (opened (length P.globals) g) result
-  pub values : List Content
+pub record StrainsInAccess (o : Interference BoxContent) (plan : Plan) (P : Program) (g : Node) (q : ℕ) : Type 0 where
+  pub result : Result BoxContent
+  pub written : WrittenAmong o box_abstraction plan P (opened (length P.globals) g) result
+  pub values : List BoxContent
   pub verdicts : List (ℕ × Bool)
-  pub solves : Solves box_meaning result values verdicts None
+  pub solves : Solves box_abstraction result values verdicts None
   pub inside : List (ℕ × List (Place × Bool))
-  pub judged : JudgesAccesses box_meaning (straining box_meaning) g values None inside (Some q)
+  pub judged : JudgesAccesses box_abstraction (straining box_abstraction) g values None inside (Some q)
 
 -- the written iteration over the k-th thread strains there, or judging its accesses behind it
-abbrev pub StrainsAt : Plan → Program → List Node → ℕ → Others Content → ℕ → Type 0
+abbrev pub StrainsAt : Plan → Program → List Node → ℕ → Interference BoxContent → ℕ → Type 0
 StrainsAt plan P trees k o q = (g : Node) × (slice_get trees k ≡ Some g) ×
-    (StrainsAmong o box_meaning plan P (opened (length P.globals) g) q ⊎ StrainsInAccess o plan P g q)
+    (StrainsAmong o box_abstraction plan P (opened (length P.globals) g) q ⊎ StrainsInAccess o plan P g q)

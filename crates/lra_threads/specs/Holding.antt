@@ -10,7 +10,7 @@ use Rattle.lra_flow.specs.Accesses.{JudgesAccesses}
 use Rattle.lra_flow.specs.Opened.{opened}
 use Rattle.lra_flow.specs.Operations.{dropping}
 use Rattle.lra_flow.specs.Plan.{Plan}
-use Rattle.lra_box.specs.Meaning.{box_meaning}
+use Rattle.lra_box.specs.Abstraction.{box_abstraction}
 use Rattle.lra_iter.specs.Lives.{AreWide, NotesHave}
 use Rattle.lra_iter.specs.Solved.{IsSolvedAmong}
 use Rattle.lra_rounds.specs.Intervals as intervals
@@ -29,14 +29,15 @@ use Rattle.lra_threads.specs.Found.{HoldsOf, IsWrittenOf, StrainsAt, thread_find
 pub record HoldsInRound (P : Program) (k : ℕ) (graph : Graph) (g : Node) (end : Settled ThreadFound) : Type 0 where
   pub found : ThreadFound
   pub is_found : slice_get end.found k ≡ Some found
-  pub solved : (plan : Plan) × IsSolvedAmong (others_of (length P.globals) k end.table) box_meaning plan P
+  pub solved : (plan : Plan) × IsSolvedAmong (others_of (length P.globals) k end.table) box_abstraction plan P
       (node_view graph.tree) (values_of found) (notes_of found) (verdicts_of found) found.noted.solution.flagged
   pub holds : HoldsOf (others_of (length P.globals) k end.table) P g found
-  pub wide : AreWide box_meaning (sites_in graph) (values_of found)
-  pub notes : NotesHave box_meaning (notes_of found)
+  pub wide : AreWide box_abstraction (sites_in graph) (values_of found)
+  pub notes : NotesHave box_abstraction (notes_of found)
   pub points : length (values_of found) ≡ length (sites_in graph)
   pub assertions : map (λ v. v.0) (verdicts_of found) ≡ map (λ a. a.0) (assertions_from 0 (sites_in graph))
-  pub inside : (before : Option ℕ) × JudgesAccesses box_meaning (dropping box_meaning) g (values_of found) before
+  pub inside : (before : Option ℕ)
+      × JudgesAccesses box_abstraction (dropping box_abstraction) g (values_of found) before
       (told_in found) (flag_of_thread found)
 
 -- the round that settles: nothing is written that isn't in the table, which has an interval for each thread and global;

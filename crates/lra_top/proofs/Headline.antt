@@ -7,7 +7,7 @@ use Rattle.lra_base.specs.declared.refusals.Place.{Place}
 use Rattle.lra_options.specs.declared.options.Domain.{Domain}
 use Rattle.lra_options.specs.declared.options.Domain.TheVariants.{Poly}
 use Rattle.lra_options.specs.declared.options.Options.{Options}
-use Rattle.lra_domain.specs.Meaning.{Meaning}
+use Rattle.lra_domain.specs.Abstraction.{Abstraction}
 use Rattle.lra_program.specs.Program.{Program}
 use Rattle.lra_flow.specs.Analysis.{Solves}
 use Rattle.lra_flow.specs.Operations.{dropping}
@@ -58,7 +58,7 @@ holds o bytes r a = record {
 
 -- the written iteration -----------------------------------------------------------
 
-tells_written : {V H : Type 0} (m : Meaning V H) (shown : V → Invariant) (o : Options) (constants : List ℤ) (P : Program) (r : Report) → r.flagged ≡ None
+tells_written : {V H : Type 0} (m : Abstraction V H) (shown : V → Invariant) (o : Options) (constants : List ℤ) (P : Program) (r : Report) → r.flagged ≡ None
     → IsAnalysed m shown o constants P r → TellsWritten m shown o constants P r
 tells_written m shown o constants P r free x =
     let none_last = unflagged x.last (sym x.flag ∙ free) in
@@ -95,7 +95,7 @@ is_written o bytes r a = record {
 
 -- accesses ------------------------------------------------------------------------
 
-abbrev tells_accessing : {V H : Type 0} (m : Meaning V H) (shown : V → Invariant) (o : Options) (constants : List ℤ) (P : Program) (r : Report)
+abbrev tells_accessing : {V H : Type 0} (m : Abstraction V H) (shown : V → Invariant) (o : Options) (constants : List ℤ) (P : Program) (r : Report)
     → IsAnalysed m shown o constants P r → TellsAccessing m shown o P r
 tells_accessing m shown o constants P r x = record {
   tree = x.tree;
@@ -126,19 +126,21 @@ tells_accesses o bytes r a = record {
 
 -- what fits -----------------------------------------------------------------------
 
-judges_so : {V H : Type 0} (m : Meaning V H) (b : Bool) (g : Node) (values : List V) (flagged : Option ℕ) (fitting : List (ℕ × Bool)) (behind : Option ℕ) → b ≡
+judges_so : {V H : Type 0} (m : Abstraction V H) (b : Bool) (g : Node) (values : List V) (flagged : Option ℕ) (fitting : List (ℕ × Bool)) (behind : Option ℕ) →
+    b ≡
     true
     → JudgesIf m (dropping m) b g values flagged fitting behind → Judges m (dropping m) g values flagged fitting behind
 judges_so m true g values flagged fitting behind is j = j
 judges_so m false g values flagged fitting behind is j = absurd (let wrong : ⊥ = cc in wrong)
 
-judges_none : {V H : Type 0} (m : Meaning V H) (b : Bool) (g : Node) (values : List V) (flagged : Option ℕ) (fitting : List (ℕ × Bool)) (behind : Option ℕ) → b
+judges_none : {V H : Type 0} (m : Abstraction V H) (b : Bool) (g : Node) (values : List V) (flagged : Option ℕ) (fitting : List (ℕ × Bool)) (behind : Option ℕ)
+    → b
     ≡ false
     → JudgesIf m (dropping m) b g values flagged fitting behind → fitting ≡ []
 judges_none m true g values flagged fitting behind is j = absurd (let wrong : ⊥ = cc in wrong)
 judges_none m false g values flagged fitting behind is j = j.0
 
-tells_fitting : {V H : Type 0} (m : Meaning V H) (shown : V → Invariant) (o : Options) (constants : List ℤ) (P : Program) (r : Report) → IsTrue o.fits
+tells_fitting : {V H : Type 0} (m : Abstraction V H) (shown : V → Invariant) (o : Options) (constants : List ℤ) (P : Program) (r : Report) → IsTrue o.fits
     → IsAnalysed m shown o constants P r → TellsFitting m shown o P r
 tells_fitting m shown o constants P r asked x = record {
   beside = tells_accessing m shown o constants P r x;
@@ -149,7 +151,7 @@ tells_fitting m shown o constants P r asked x = record {
 abbrev Silent : Report → Type 0
 Silent r = (verdicts : List (ℕ × Bool)) × (inside : List (ℕ × List (Place × Bool))) × (map told_of r.verdicts ≡ told_all verdicts [] inside)
 
-silent_so : {V H : Type 0} (m : Meaning V H) (shown : V → Invariant) (o : Options) (constants : List ℤ) (P : Program) (r : Report) → o.fits ≡ false
+silent_so : {V H : Type 0} (m : Abstraction V H) (shown : V → Invariant) (o : Options) (constants : List ℤ) (P : Program) (r : Report) → o.fits ≡ false
     → IsAnalysed m shown o constants P r → Silent r
 silent_so m shown o constants P r never x =
     let none = judges_none m o.fits x.tree x.values x.flagged x.fitting x.behind never x.judged in

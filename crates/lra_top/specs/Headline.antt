@@ -17,7 +17,7 @@ use Rattle.lra_program.specs.Sites.{Site, sites_of}
 use Rattle.lra_operations.specs.Graph.{Node}
 use Rattle.lra_operations.specs.Agree.{IsGraph, point_of}
 use Rattle.lra_linear_spec.specs.Descriptions.{LinearRow, Con}
-use Rattle.lra_domain.specs.Meaning.{Meaning}
+use Rattle.lra_domain.specs.Abstraction.{Abstraction}
 use Rattle.lra_front.specs.Stages.{HasConstants}
 use Rattle.lra_flow.specs.Plan.{plan_of}
 use Rattle.lra_flow.specs.Pass.{Result}
@@ -83,7 +83,7 @@ pub record HoldsInAllRuns (bytes : List ℕ) (r : Report) : Type 0 where
 -- ask for such: at each point the state that shows its value there, whose rows
 -- mean the value, on each assertion its verdict, where it is asked for at each point at which something is computed
 -- whether all of it fits, and of each access whether it lies inside its array
-pub record TellsWritten {V H : Type 0} (m : Meaning V H) (shown : V → Invariant) (o : Options) (constants : List ℤ)
+pub record TellsWritten {V H : Type 0} (m : Abstraction V H) (shown : V → Invariant) (o : Options) (constants : List ℤ)
     (P : Program) (r : Report) : Type 0 where
   pub tree : Node
   pub is_graph : IsGraph P tree
@@ -111,7 +111,7 @@ pub record IsWrittenUnlessFlagged (o : Options) (bytes : List ℕ) (r : Report) 
 -- A line for each access of an array, in the order in which they are evaluated at each point, tells whether it is in
 -- bounds by the values whose states are shown: it is unknown exactly where these leave an index outside. Behind what is
 -- flagged of all else stands what is flagged of that.
-pub record TellsAccessing {V H : Type 0} (m : Meaning V H) (shown : V → Invariant) (o : Options) (P : Program)
+pub record TellsAccessing {V H : Type 0} (m : Abstraction V H) (shown : V → Invariant) (o : Options) (P : Program)
     (r : Report) : Type 0 where
   pub tree : Node
   pub is_graph : IsGraph P tree
@@ -136,7 +136,7 @@ pub record TellsAccesses (o : Options) (bytes : List ℕ) (r : Report) : Type 0 
 
 -- Where it is asked for, a line for each point at which something is computed tells whether all of it fits by the
 -- values whose states are shown: it may overflow exactly where something doesn't.
-pub record TellsFitting {V H : Type 0} (m : Meaning V H) (shown : V → Invariant) (o : Options) (P : Program)
+pub record TellsFitting {V H : Type 0} (m : Abstraction V H) (shown : V → Invariant) (o : Options) (P : Program)
     (r : Report) : Type 0 where
   pub beside : TellsAccessing m shown o P r
   pub flagged : Option ℕ

@@ -11,10 +11,10 @@ use Rattle.lra_program.specs.Step.{Op, append, give, give_element}
 use Rattle.lra_program.specs.Step as step
 use Rattle.lra_operations.specs.Graph.{Node, empty, point, act, seq, choose}
 use Rattle.lra_operations.specs.Asked.{accessed_in}
-use Rattle.lra_box.specs.Bounds.{open_interval}
+use Rattle.lra_box.specs.Bounds.{full_interval}
 use Rattle.lra_box.specs.declared.interval.Interval.{Interval}
-use Rattle.lra_box.specs.Content.{Content}
-use Rattle.lra_box.specs.Meaning.{box_meaning}
+use Rattle.lra_box.specs.Content.{BoxContent}
+use Rattle.lra_box.specs.Abstraction.{box_abstraction}
 use Rattle.lra_flow.specs.Accesses.{AccessJudged, AskedInside, JudgesAccesses, OpInside}
 use Rattle.lra_walks.proofs.Judged.{judged}
 use Rattle.lra_walks.proofs.LoopExamples.{boxes, one, none, between, at_least as from}
@@ -23,10 +23,10 @@ abbrev at : ℕ → Place
 at column = record { line = 1; column = column }
 
 -- nothing of a value of one variable
-abbrev nothing : Content
+abbrev nothing : BoxContent
 nothing = record { dims = 1; bounds = None }
 
-some_value : (x : Interval) → box_meaning.parts (one x) ≡ [] → ⊥
+some_value : (x : Interval) → box_abstraction.parts (one x) ≡ [] → ⊥
 some_value x e = cc
 
 -- the one variable, in an array of so many
@@ -60,13 +60,13 @@ abbrev comparing_tree : Node
 comparing_tree = seq (seq (seq (point 0) (seq (act 0 (append Int)) (act 0 (give 0 (variable_at 0 Int) input))))
     (seq (seq (point 1) (choose 1 0 compared (point 2) empty)) empty)) (point 3)
 
-abbrev ints : Content
+abbrev ints : BoxContent
 ints = one (record { low = Some (negsuc 2147483647); high = Some (pos 2147483647) })
 
-abbrev comparing_values : List Content
+abbrev comparing_values : List BoxContent
 comparing_values = none ∷ ints ∷ one (between 0 2) ∷ ints ∷ []
 
-left_inside : AccessJudged box_meaning boxes (one (between 0 2)) 0 left true Exact
+left_inside : AccessJudged box_abstraction boxes (one (between 0 2)) 0 left true Exact
 left_inside = (
   nothing,
   nothing,
@@ -78,7 +78,7 @@ left_inside = (
   refl,
 )
 
-inner_inside : AccessJudged box_meaning boxes (one (between 0 2)) 0 inner true Exact
+inner_inside : AccessJudged box_abstraction boxes (one (between 0 2)) 0 inner true Exact
 inner_inside = (
   nothing,
   nothing,
@@ -91,14 +91,14 @@ inner_inside = (
 )
 
 -- what an element holds isn't followed
-outer_unknown : AccessJudged box_meaning boxes (one (between 0 2)) 0 outer false Exact
+outer_unknown : AccessJudged box_abstraction boxes (one (between 0 2)) 0 outer false Exact
 outer_unknown = ((λ h. cc, λ k. elim k [ inl nowhere ↦ absurd (some_value (between 0 2) nowhere) | inr never ↦ absurd never ]), refl)
 
 abbrev compared_told : List (Place × Bool)
 compared_told = (at 60, true) ∷ (at 67, true) ∷ (at 65, false) ∷ []
 
 -- left of right, inner before outer, by what stands left of `&&`
-compared_inside : AskedInside box_meaning boxes comparing_values (record { point = 1; fresh = None; op = step.test 0 compared true }) compared_told Exact
+compared_inside : AskedInside box_abstraction boxes comparing_values (record { point = 1; fresh = None; op = step.test 0 compared true }) compared_told Exact
 compared_inside = (
   ints,
   ints,
@@ -143,8 +143,8 @@ compared_inside = (
   refl,
 )
 
-comparing_inside : JudgesAccesses box_meaning boxes comparing_tree comparing_values None ((1, compared_told) ∷ []) None
-comparing_inside = judged (OpInside box_meaning boxes) (accessed_in None comparing_tree) comparing_values
+comparing_inside : JudgesAccesses box_abstraction boxes comparing_tree comparing_values None ((1, compared_told) ∷ []) None
+comparing_inside = judged (OpInside box_abstraction boxes) (accessed_in None comparing_tree) comparing_values
     ((record { point = 1; fresh = None; op = step.test 0 compared true }, compared_told) ∷ []) refl (compared_inside, tt) (tt, tt)
 
 -- int main(void){ long a[4], i=input(); if(i<0 || i>=4 || a[i]>0) ; a[i]=a[3]; } ----------------------------------------------
@@ -171,13 +171,13 @@ abbrev trying_tree : Node
 trying_tree = seq (seq (seq (point 0) (seq (act 0 (append Long)) (act 0 (give 0 (variable_at 0 Long) input))))
     (seq (seq (point 1) (choose 1 0 outside_or (point 2) empty)) (seq (seq (point 3) (act 3 writes)) empty))) (point 4)
 
-abbrev any : Content
-any = one open_interval
+abbrev any : BoxContent
+any = one full_interval
 
-abbrev trying_values : List Content
+abbrev trying_values : List BoxContent
 trying_values = none ∷ any ∷ any ∷ any ∷ any ∷ []
 
-tried_inside : AccessJudged box_meaning boxes (one (between 0 3)) 0 tried true Exact
+tried_inside : AccessJudged box_abstraction boxes (one (between 0 3)) 0 tried true Exact
 tried_inside = (
   nothing,
   nothing,
@@ -190,7 +190,7 @@ tried_inside = (
 )
 
 -- right of `||` by what the left sides leave where they are false: catches one that is judged by the point's value
-tried_told : AskedInside box_meaning boxes trying_values (record { point = 1; fresh = None; op = step.test 0 outside_or true }) ((at 57, true) ∷ []) Exact
+tried_told : AskedInside box_abstraction boxes trying_values (record { point = 1; fresh = None; op = step.test 0 outside_or true }) ((at 57, true) ∷ []) Exact
 tried_told = (
   any,
   any,
@@ -227,7 +227,7 @@ tried_told = (
 )
 
 -- each test leaves a part of it
-target_unknown : AccessJudged box_meaning boxes any 0 target false Exact
+target_unknown : AccessJudged box_abstraction boxes any 0 target false Exact
 target_unknown = (
   one (record { low = None; high = Some (negsuc 0) }),
   one (from 4),
@@ -235,11 +235,11 @@ target_unknown = (
   Exact,
   (refl, record { table = refl; extremes = tt }),
   (refl, record { table = refl; extremes = tt }),
-  (λ h. cc, λ k. elim k [ inl nowhere ↦ absurd (some_value open_interval nowhere) | inr both ↦ absurd (some_value (from 4) both.1) ]),
+  (λ h. cc, λ k. elim k [ inl nowhere ↦ absurd (some_value full_interval nowhere) | inr both ↦ absurd (some_value (from 4) both.1) ]),
   refl,
 )
 
-last_inside : AccessJudged box_meaning boxes any 0 last true Exact
+last_inside : AccessJudged box_abstraction boxes any 0 last true Exact
 last_inside = (
   nothing,
   nothing,
@@ -252,7 +252,7 @@ last_inside = (
 )
 
 -- the element that gets a value comes before what it gets
-written_told : AskedInside box_meaning boxes trying_values (record { point = 3; fresh = None; op = writes }) ((at 67, false) ∷ (at 72, true) ∷ []) Exact
+written_told : AskedInside box_abstraction boxes trying_values (record { point = 3; fresh = None; op = writes }) ((at 67, false) ∷ (at 72, true) ∷ []) Exact
 written_told = (
   any,
   any,
@@ -264,9 +264,9 @@ written_told = (
   refl,
 )
 
-trying_inside : JudgesAccesses box_meaning boxes trying_tree trying_values None
+trying_inside : JudgesAccesses box_abstraction boxes trying_tree trying_values None
     ((1, (at 57, true) ∷ []) ∷ (3, (at 67, false) ∷ (at 72, true) ∷ []) ∷ []) None
-trying_inside = judged (OpInside box_meaning boxes) (accessed_in None trying_tree) trying_values
+trying_inside = judged (OpInside box_abstraction boxes) (accessed_in None trying_tree) trying_values
     ((record { point = 1; fresh = None; op = step.test 0 outside_or true }, (at 57, true) ∷ [])
     ∷ (record { point = 3; fresh = None; op = writes }, (at 67, false) ∷ (at 72, true) ∷ []) ∷ [])
     refl (tried_told, (written_told, tt)) ((lit< tt, tt), (tt, tt))

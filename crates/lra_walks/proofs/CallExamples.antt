@@ -16,10 +16,10 @@ use Rattle.lra_operations.specs.Inlined.{as_declaration, as_given, as_result, is
 use Rattle.lra_operations.specs.Agree.{IsGraph}
 use Rattle.lra_box.specs.declared.interval.Interval.{Interval}
 use Rattle.lra_box.specs.declared.interval.Side.TheVariants.{Low, High}
-use Rattle.lra_box.specs.Bounds.{open_interval, form, IsSound}
-use Rattle.lra_box.specs.Content.{Content}
+use Rattle.lra_box.specs.Bounds.{full_interval, form, IsValidInterval}
+use Rattle.lra_box.specs.Content.{BoxContent}
 use Rattle.lra_box.specs.Tables.{stepped}
-use Rattle.lra_box.specs.Meaning.{StepsTo, box_meaning}
+use Rattle.lra_box.specs.Abstraction.{BoxTransfersTo, box_abstraction}
 use Rattle.lra_box.proofs.ExtremeLemmas.{end_is_extreme}
 use Rattle.lra_flow.specs.Pass.{Entry, value, Result, goes_on, jumps, Pass}
 use Rattle.lra_flow.specs.Analysis.{Written}
@@ -96,37 +96,39 @@ calling_graph = record {
 }
 
 -- a form over r and x; what r gets by it, what x gets
-gets_r : (r x : Interval) (e : Form) → IsSound r → IsSound x → length e.coefficients ≡ 2 → StepsTo (assign 0 e) (two r x) (stepped (assign 0 e) (two r x))
+gets_r : (r x : Interval) (e : Form) → IsValidInterval r → IsValidInterval x → length e.coefficients ≡ 2 →
+    BoxTransfersTo (assign 0 e) (two r x) (stepped (assign 0 e) (two r x))
 gets_r r x e first second is = record { table = refl; extremes = (end_is_extreme Low e (r ∷ x ∷ []) (first, (second, tt)) is, end_is_extreme High e (r ∷ x ∷ []) (first, (second, tt)) is) }
 
-gets_x : (r x : Interval) (e : Form) → IsSound r → IsSound x → length e.coefficients ≡ 2 → StepsTo (assign 1 e) (two r x) (stepped (assign 1 e) (two r x))
+gets_x : (r x : Interval) (e : Form) → IsValidInterval r → IsValidInterval x → length e.coefficients ≡ 2 →
+    BoxTransfersTo (assign 1 e) (two r x) (stepped (assign 1 e) (two r x))
 gets_x r x e first second is = record { table = refl; extremes = (end_is_extreme Low e (r ∷ x ∷ []) (first, (second, tt)) is, end_is_extreme High e (r ∷ x ∷ []) (first, (second, tt)) is) }
 
-open_sound : IsSound open_interval
+open_sound : IsValidInterval full_interval
 open_sound = ((tt, tt), refl)
 
-zero_sound : IsSound (between 0 0)
+zero_sound : IsValidInterval (between 0 0)
 zero_sound = between_sound 0 0 (lit< tt) (lit< tt) refl
 
-two_sound : IsSound (between 2 2)
+two_sound : IsValidInterval (between 2 2)
 two_sound = between_sound 2 2 (lit< tt) (lit< tt) refl
 
 abbrev constant : ℕ → Form
 constant k = form (pos k) (pos 0 ∷ pos 0 ∷ [])
 
 -- r may be anything, and x is 0, or 2
-abbrev at_first : Content
-at_first = two open_interval (between 0 0)
+abbrev at_first : BoxContent
+at_first = two full_interval (between 0 0)
 
-abbrev at_last : Content
-at_last = two open_interval (between 2 2)
+abbrev at_last : BoxContent
+at_last = two full_interval (between 2 2)
 
 -- a return where r and x live: x is cut from the value that returns, and the value behind has both and no store
-abbrev returned_with : ℕ → Content → Interval → Result Content
+abbrev returned_with : ℕ → BoxContent → Interval → Result BoxContent
 returned_with q v r = record { entries = value q v ∷ []; normal = nowhere; breaks = []; continues = []; returns = one r ∷ []; flag = None }
 
-returning : (q : ℕ) (op : Op) (r x s : Interval) → Pass Content Content boxes (narrowed 1) (act q op) None (two r x) (goes_on [] (two s x) None)
-    → Pass Content Content boxes (narrowed 1) (seq (point q) (return_node q op 1 2)) None (two r x) (returned_with q (two r x) s)
+returning : (q : ℕ) (op : Op) (r x s : Interval) → Pass BoxContent BoxContent boxes (narrowed 1) (act q op) None (two r x) (goes_on [] (two s x) None)
+    → Pass BoxContent BoxContent boxes (narrowed 1) (seq (point q) (return_node q op 1 2)) None (two r x) (returned_with q (two r x) s)
 returning q op r x s given = (
   goes_on (value q (two r x) ∷ []) (two r x) None,
   jumps returned (one s) nowhere None,
@@ -147,26 +149,26 @@ returning q op r x s given = (
   refl,
 )
 
-gives_one : Pass Content Content boxes (narrowed 1) (act 2 (give 1 (variable_at 0 Long) (literal Int 1))) None at_first
+gives_one : Pass BoxContent BoxContent boxes (narrowed 1) (act 2 (give 1 (variable_at 0 Long) (literal Int 1))) None at_first
     (goes_on [] (two (between 1 1) (between 0 0)) None)
 gives_one = (
   two (between 1 1) (between 0 0),
   Exact,
-  (refl, gets_r open_interval (between 0 0) (constant 1) open_sound zero_sound refl),
+  (refl, gets_r full_interval (between 0 0) (constant 1) open_sound zero_sound refl),
   refl,
 )
 
-gives_x : Pass Content Content boxes (narrowed 1) (act 4 (give 1 (variable_at 0 Long) (read (long_variable (local 0))))) None at_last
+gives_x : Pass BoxContent BoxContent boxes (narrowed 1) (act 4 (give 1 (variable_at 0 Long) (read (long_variable (local 0))))) None at_last
     (goes_on [] (two (between 2 2) (between 2 2)) None)
 gives_x = (
   two (between 2 2) (between 2 2),
   Exact,
-  (refl, gets_r open_interval (between 2 2) (form (pos 0) (pos 0 ∷ pos 1 ∷ [])) open_sound two_sound refl),
+  (refl, gets_r full_interval (between 2 2) (form (pos 0) (pos 0 ∷ pos 1 ∷ [])) open_sound two_sound refl),
   refl,
 )
 
 -- behind the `if` both variables live, as before it
-may_return_pass : Pass Content Content boxes (narrowed 1) may_return None at_first
+may_return_pass : Pass BoxContent BoxContent boxes (narrowed 1) may_return None at_first
     (record { entries = value 1 at_first ∷ value 2 at_first ∷ []; normal = at_first; breaks = []; continues = []; returns = one (between 1 1) ∷ []; flag = None })
 may_return_pass = (
   goes_on (value 1 at_first ∷ []) at_first None,
@@ -182,7 +184,7 @@ may_return_pass = (
     returned_with 2 at_first (between 1 1),
     goes_on [] at_first None,
     (refl, refl),
-    returning 2 (give 1 (variable_at 0 Long) (literal Int 1)) open_interval (between 0 0) (between 1 1) gives_one,
+    returning 2 (give 1 (variable_at 0 Long) (literal Int 1)) full_interval (between 0 0) (between 1 1) gives_one,
     (refl, refl),
     refl,
     (refl, refl),
@@ -191,17 +193,17 @@ may_return_pass = (
   refl,
 )
 
-sets_two_pass : Pass Content Content boxes (narrowed 1) sets_two None at_first (goes_on (value 3 at_first ∷ []) at_last None)
+sets_two_pass : Pass BoxContent BoxContent boxes (narrowed 1) sets_two None at_first (goes_on (value 3 at_first ∷ []) at_last None)
 sets_two_pass = (
   goes_on (value 3 at_first ∷ []) at_first None,
   goes_on [] at_last None,
   refl,
-  (at_last, Exact, (refl, gets_x open_interval (between 0 0) (constant 2) open_sound zero_sound refl), refl),
+  (at_last, Exact, (refl, gets_x full_interval (between 0 0) (constant 2) open_sound zero_sound refl), refl),
   refl,
 )
 
 -- f returns with 1 or with 2, and doesn't come to its end
-inside_pass : Pass Content Content boxes (narrowed 1) inside None at_first (record {
+inside_pass : Pass BoxContent BoxContent boxes (narrowed 1) inside None at_first (record {
   entries = value 1 at_first ∷ value 2 at_first ∷ value 3 at_first ∷ value 4 at_last ∷ [];
   normal = nowhere;
   breaks = [];
@@ -220,7 +222,7 @@ inside_pass = (
     (
       returned_with 4 at_last (between 2 2),
       goes_on [] nowhere None,
-      returning 4 (give 1 (variable_at 0 Long) (read (long_variable (local 0)))) open_interval (between 2 2) (between 2 2) gives_x,
+      returning 4 (give 1 (variable_at 0 Long) (read (long_variable (local 0)))) full_interval (between 2 2) (between 2 2) gives_x,
       refl,
       refl,
     ),
@@ -229,11 +231,11 @@ inside_pass = (
   refl,
 )
 
-abbrev nowhere_alone : Content
+abbrev nowhere_alone : BoxContent
 nowhere_alone = record { dims = 1; bounds = None }
 
 -- at the end of f both variables live, though no run comes there
-f_ends : Pass Content Content boxes (narrowed 1) (seq (point 5) (seq (act 5 (keep 2)) (seq (act 5 (give_any (variable_at 0 Long))) (act 5 (keep 1))))) None nowhere
+f_ends : Pass BoxContent BoxContent boxes (narrowed 1) (seq (point 5) (seq (act 5 (keep 2)) (seq (act 5 (give_any (variable_at 0 Long))) (act 5 (keep 1))))) None nowhere
     (goes_on (value 5 nowhere ∷ []) nowhere_alone None)
 f_ends = (
   goes_on (value 5 nowhere ∷ []) nowhere None,
@@ -255,18 +257,18 @@ f_ends = (
   refl,
 )
 
-abbrev call_entries : List (Entry Content)
+abbrev call_entries : List (Entry BoxContent)
 call_entries = value 1 at_first ∷ value 2 at_first ∷ value 3 at_first ∷ value 4 at_last ∷ value 5 nowhere ∷ []
 
 -- the call gives r what its returns and its end leave, joined in this order
-call_pass : Pass Content Content boxes (narrowed 1) whole_call None (one open_interval) (goes_on call_entries (one (between 1 2)) None)
+call_pass : Pass BoxContent BoxContent boxes (narrowed 1) whole_call None (one full_interval) (goes_on call_entries (one (between 1 2)) None)
 call_pass = (
   goes_on [] at_first None,
   goes_on call_entries (one (between 1 2)) None,
   (
     at_first,
     Exact,
-    (at_first, Exact, Exact, (two open_interval open_interval, Exact, Exact, (refl, record { table = refl; extremes = tt }), (refl, gets_x open_interval open_interval (constant 0) open_sound open_sound refl), refl), (refl, refl), refl),
+    (at_first, Exact, Exact, (two full_interval full_interval, Exact, Exact, (refl, record { table = refl; extremes = tt }), (refl, gets_x full_interval full_interval (constant 0) open_sound open_sound refl), refl), (refl, refl), refl),
     refl,
   ),
   (
@@ -294,7 +296,7 @@ call_pass = (
 )
 
 -- r is 1..2 at main's end: the value that x had behind the first return isn't lost
-pub calling_written : Written box_meaning (narrowed 1) calling calling_tree (goes_on (value 0 none ∷ (call_entries ++ value 6 (one (between 1 2)) ∷ [])) (one (between 1 2)) None)
+pub calling_written : Written box_abstraction (narrowed 1) calling calling_tree (goes_on (value 0 none ∷ (call_entries ++ value 6 (one (between 1 2)) ∷ [])) (one (between 1 2)) None)
 calling_written = (
   none,
   none,
@@ -312,9 +314,9 @@ calling_written = (
         goes_on call_entries (one (between 1 2)) None,
         refl,
         (
-          goes_on [] (one open_interval) None,
+          goes_on [] (one full_interval) None,
           goes_on call_entries (one (between 1 2)) None,
-          (one open_interval, Exact, (refl, record { table = refl; extremes = tt }), refl),
+          (one full_interval, Exact, (refl, record { table = refl; extremes = tt }), refl),
           call_pass,
           refl,
         ),

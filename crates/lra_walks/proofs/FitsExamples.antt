@@ -25,10 +25,10 @@ use Rattle.lra_operations.specs.Inlined.{as_declaration, as_fresh, as_given, as_
 use Rattle.lra_operations.specs.Inlined.{as_nothing, as_absent, loop_node}
 use Rattle.lra_operations.specs.Agree.{IsGraph}
 use Rattle.lra_operations.specs.Asked.{Asked, asked_in}
-use Rattle.lra_box.specs.Bounds.{open_interval, form}
-use Rattle.lra_box.specs.Content.{Content}
+use Rattle.lra_box.specs.Bounds.{full_interval, form}
+use Rattle.lra_box.specs.Content.{BoxContent}
 use Rattle.lra_box.specs.Laws.{box_laws}
-use Rattle.lra_box.specs.Meaning.{box_meaning}
+use Rattle.lra_box.specs.Abstraction.{box_abstraction}
 use Rattle.lra_flow.specs.Moves.{AreMade}
 use Rattle.lra_flow.specs.MovesOf.{above_least, below_greatest}
 use Rattle.lra_flow.specs.Pass.{value, goes_on, Changes, Pass}
@@ -40,10 +40,10 @@ use Rattle.lra_walks.proofs.LoopExamples.{boxes, one, none, narrowed, next, incr
 
 -- one variable x -----------------------------------------------------------------------------------------------------
 
-abbrev x_in : ℤ → ℤ → Content
+abbrev x_in : ℤ → ℤ → BoxContent
 x_in l h = one (record { low = Some l; high = Some h })
 
-abbrev ints : Content
+abbrev ints : BoxContent
 ints = x_in (negsuc 2147483647) (pos 2147483647)
 
 abbrev variable : Variable
@@ -58,18 +58,18 @@ x_plus_one = binary plus x (literal Int 1)
 abbrev gets_one_more : Op
 gets_one_more = give 0 (variable_at 0 Int) x_plus_one
 
-some_value : (l h : ℤ) → IsUnreachable box_meaning (x_in l h) → ⊥
+some_value : (l h : ℤ) → IsUnreachable box_abstraction (x_in l h) → ⊥
 some_value l h e = cc
 
 -- an answer, where a run comes
-fits_so : (v : Content) (so : Type 0) → so → Answers box_meaning v true so
+fits_so : (v : BoxContent) (so : Type 0) → so → Answers box_abstraction v true so
 fits_so v so is = (λ h. inr is, λ h. refl)
 
-fits_not : (l h : ℤ) (so : Type 0) → (so → ⊥) → Answers box_meaning (x_in l h) false so
+fits_not : (l h : ℤ) (so : Type 0) → (so → ⊥) → Answers box_abstraction (x_in l h) false so
 fits_not l h so never = (λ k. cc, λ k. elim k [ inl nothing ↦ absurd (some_value l h nothing) | inr is ↦ absurd (never is) ])
 
 -- where none comes everything fits, also what has no form
-fits_nowhere : Answers box_meaning (record { dims = 1; bounds = None }) true (LiesIn box_meaning (record { dims = 1; bounds = None }) Int None)
+fits_nowhere : Answers box_abstraction (record { dims = 1; bounds = None }) true (LiesIn box_abstraction (record { dims = 1; bounds = None }) Int None)
 fits_nowhere = (λ h. inl refl, λ h. refl)
 
 passes_not : {P Q : Type 0} → P → Q → ((¬ P) ⊎ ((¬ Q) ⊎ ⊥)) → ⊥
@@ -77,11 +77,11 @@ passes_not product sum h = elim h [ inl a ↦ a product | inr b ↦ elim b [ inl
 
 -- what is told of x + 1
 one_more : (l h : ℤ) → InRange (pos 1 *ℤ l) → InRange (pos 1 +ℤ (pos 1 *ℤ l)) → InRange (pos 1 *ℤ h) → InRange (pos 1 +ℤ (pos 1 *ℤ h))
-    → box_meaning.bounded (x_in l h) next (Some (pos 1 +ℤ (pos 1 *ℤ l))) (Some (pos 1 +ℤ (pos 1 *ℤ h)))
+    → box_abstraction.bounded (x_in l h) next (Some (pos 1 +ℤ (pos 1 *ℤ l))) (Some (pos 1 +ℤ (pos 1 *ℤ h)))
 one_more l h low low_sum high high_sum = (inl (passes_not low low_sum, refl), inl (passes_not high high_sum, refl))
 
-lies_not : (v : Content) (f : Form) (l h : ℤ) → box_meaning.formed v → box_meaning.bounded v f (Some l) (Some h) → fits Int h ≡ false
-    → LiesIn box_meaning v Int (Some f) → ⊥
+lies_not : (v : BoxContent) (f : Form) (l h : ℤ) → box_abstraction.well_formed v → box_abstraction.bounded v f (Some l) (Some h) → fits Int h ≡ false
+    → LiesIn box_abstraction v Int (Some f) → ⊥
 lies_not v f l h formed bounded never (low, high, also, low_fits, high_fits) =
     let same = box_laws.one_bounded v f (Some low) (Some high) (Some l) (Some h) formed also bounded in
     let wrong : true ≡ false = sym high_fits ∙ ap (fits Int) (same_Some high h same.1) ∙ never in
@@ -89,37 +89,37 @@ lies_not v f l h formed bounded never (low, high, also, low_fits, high_fits) =
 
 sum_fits : (l h : ℤ) → InRange (pos 1 *ℤ l) → InRange (pos 1 +ℤ (pos 1 *ℤ l)) → InRange (pos 1 *ℤ h) → InRange (pos 1 +ℤ (pos 1 *ℤ h))
     → fits Int (pos 1 +ℤ (pos 1 *ℤ l)) ≡ true → fits Int (pos 1 +ℤ (pos 1 *ℤ h)) ≡ true
-    → Answers box_meaning (x_in l h) true (LiesIn box_meaning (x_in l h) Int (Some next))
+    → Answers box_abstraction (x_in l h) true (LiesIn box_abstraction (x_in l h) Int (Some next))
 sum_fits l h low low_sum high high_sum is also =
-    fits_so (x_in l h) (LiesIn box_meaning (x_in l h) Int (Some next))
+    fits_so (x_in l h) (LiesIn box_abstraction (x_in l h) Int (Some next))
     (pos 1 +ℤ (pos 1 *ℤ l), pos 1 +ℤ (pos 1 *ℤ h), one_more l h low low_sum high high_sum, is, also)
 
 -- the one answer on x + 1, and on `x = x + 1`, which converts nothing
-x_sum : (l h : ℤ) (b : Bool) → Answers box_meaning (x_in l h) b (LiesIn box_meaning (x_in l h) Int (Some next))
-    → ExprJudged box_meaning (x_in l h) 0 x_plus_one (b ∷ [])
+x_sum : (l h : ℤ) (b : Bool) → Answers box_abstraction (x_in l h) b (LiesIn box_abstraction (x_in l h) Int (Some next))
+    → ExprJudged box_abstraction (x_in l h) 0 x_plus_one (b ∷ [])
 x_sum l h b answer = ([], [], b, refl, refl, answer, refl)
 
-x_given : (l h : ℤ) (b : Bool) → Answers box_meaning (x_in l h) b (LiesIn box_meaning (x_in l h) Int (Some next))
-    → GivenJudged box_meaning (x_in l h) 0 (variable_at 0 Int) x_plus_one (b ∷ [])
+x_given : (l h : ℤ) (b : Bool) → Answers box_abstraction (x_in l h) b (LiesIn box_abstraction (x_in l h) Int (Some next))
+    → GivenJudged box_abstraction (x_in l h) 0 (variable_at 0 Int) x_plus_one (b ∷ [])
 x_given l h b answer = (b ∷ [], [], x_sum l h b answer, refl, refl)
 
 -- of any `int` it doesn't fit
-greatest_overflows : Answers box_meaning ints false (LiesIn box_meaning ints Int (Some next))
-greatest_overflows = fits_not (negsuc 2147483647) (pos 2147483647) (LiesIn box_meaning ints Int (Some next))
+greatest_overflows : Answers box_abstraction ints false (LiesIn box_abstraction ints Int (Some next))
+greatest_overflows = fits_not (negsuc 2147483647) (pos 2147483647) (LiesIn box_abstraction ints Int (Some next))
     (lies_not ints next (negsuc 2147483646) (pos 2147483648) (refl, (((lit< tt, lit< tt), refl), tt))
     (one_more (negsuc 2147483647) (pos 2147483647) (lit< tt) (lit< tt) (lit< tt) (lit< tt)) refl)
 
 abbrev asked_sum : ℕ → Asked
 asked_sum q = record { point = q; fresh = None; op = gets_one_more }
 
-sum_judged : (values : List Content) (q : ℕ) (l h : ℤ) (b : Bool) → slice_get values q ≡ Some (x_in l h)
-    → Answers box_meaning (x_in l h) b (LiesIn box_meaning (x_in l h) Int (Some next)) → (b ≡ list_all (λ a. a) (b ∷ []))
-    → AskedJudged box_meaning boxes values (asked_sum q) b Exact
+sum_judged : (values : List BoxContent) (q : ℕ) (l h : ℤ) (b : Bool) → slice_get values q ≡ Some (x_in l h)
+    → Answers box_abstraction (x_in l h) b (LiesIn box_abstraction (x_in l h) Int (Some next)) → (b ≡ list_all (λ a. a) (b ∷ []))
+    → AskedJudged box_abstraction boxes values (asked_sum q) b Exact
 sum_judged values q l h b there answer alone =
     (x_in l h, x_in l h, Exact, Exact, there, (refl, refl), (b ∷ [], (x_given l h b answer, refl), alone), refl)
 
 -- a new variable, and one that gets any number, is an `int` behind the tests of its type
-is_int : AreMade boxes (first_then (make (test Ge (above_least Int 1 0))) (make (test Ge (below_greatest Int 1 0)))) (one open_interval) Exact ints
+is_int : AreMade boxes (first_then (make (test Ge (above_least Int 1 0))) (make (test Ge (below_greatest Int 1 0)))) (one full_interval) Exact ints
 is_int = (
   one (record { low = Some (negsuc 2147483647); high = None }),
   Exact,
@@ -130,7 +130,7 @@ is_int = (
 )
 
 declared : Changes boxes (append Int) none Exact ints
-declared = (one open_interval, Exact, Exact, (refl, record { table = refl; extremes = tt }), is_int, refl)
+declared = (one full_interval, Exact, Exact, (refl, record { table = refl; extremes = tt }), is_int, refl)
 
 -- int main(void){ int x=input(); x=x+1; } ------------------------------------------------------------------------------
 
@@ -163,11 +163,11 @@ reading_graph = record {
 }
 
 -- behind x = x + 1
-abbrev more : Content
+abbrev more : BoxContent
 more = x_in (negsuc 2147483646) (pos 2147483647)
 
 -- the values at its points: what x + 1 has beyond an `int` is cut off by the test behind it
-reads_pass : Pass Content Content boxes (narrowed 1) reads None none (goes_on (value 0 none ∷ []) ints None)
+reads_pass : Pass BoxContent BoxContent boxes (narrowed 1) reads None none (goes_on (value 0 none ∷ []) ints None)
 reads_pass = (
   goes_on (value 0 none ∷ []) none None,
   goes_on [] ints None,
@@ -176,13 +176,13 @@ reads_pass = (
     goes_on [] ints None,
     goes_on [] ints None,
     (ints, Exact, declared, refl),
-    (ints, Exact, (one open_interval, Exact, Exact, (refl, record { table = refl; extremes = tt }), is_int, refl), refl),
+    (ints, Exact, (one full_interval, Exact, Exact, (refl, record { table = refl; extremes = tt }), is_int, refl), refl),
     refl,
   ),
   refl,
 )
 
-increases_pass : Pass Content Content boxes (narrowed 1) increases None ints (goes_on (value 1 ints ∷ []) more None)
+increases_pass : Pass BoxContent BoxContent boxes (narrowed 1) increases None ints (goes_on (value 1 ints ∷ []) more None)
 increases_pass = (
   goes_on (value 1 ints ∷ []) ints None,
   goes_on [] more None,
@@ -210,7 +210,7 @@ increases_pass = (
   refl,
 )
 
-reading_written : Written box_meaning (narrowed 1) reading reading_tree (goes_on (value 0 none ∷ value 1 ints ∷ value 2 more ∷ []) more None)
+reading_written : Written box_abstraction (narrowed 1) reading reading_tree (goes_on (value 0 none ∷ value 1 ints ∷ value 2 more ∷ []) more None)
 reading_written = (
   none,
   none,
@@ -232,14 +232,14 @@ reading_written = (
   ),
 )
 
-abbrev reading_values : List Content
+abbrev reading_values : List BoxContent
 reading_values = none ∷ ints ∷ more ∷ []
 
 abbrev asked_input : Asked
 asked_input = record { point = 0; fresh = Some Int; op = gets_input }
 
 -- a number of 64 bits, which has no form, is converted behind the new variable
-input_judged : AskedJudged box_meaning boxes reading_values asked_input false Exact
+input_judged : AskedJudged box_abstraction boxes reading_values asked_input false Exact
 input_judged = (
   none,
   ints,
@@ -256,8 +256,8 @@ input_judged = (
 )
 
 -- neither fits: catches a conversion that isn't asked, and a sum whose values are those that the test behind it leaves
-reading_fits : Judges box_meaning boxes reading_tree reading_values None ((0, false) ∷ (1, false) ∷ []) None
-reading_fits = judged (OpFits box_meaning boxes) (asked_in None reading_tree) reading_values ((asked_input, false) ∷ (asked_sum 1, false) ∷ []) refl
+reading_fits : Judges box_abstraction boxes reading_tree reading_values None ((0, false) ∷ (1, false) ∷ []) None
+reading_fits = judged (OpFits box_abstraction boxes) (asked_in None reading_tree) reading_values ((asked_input, false) ∷ (asked_sum 1, false) ∷ []) refl
     (input_judged, (sum_judged reading_values 1 (negsuc 2147483647) (pos 2147483647) false refl greatest_overflows refl, tt))
     ((lit< tt, tt), (tt, tt))
 
@@ -292,11 +292,11 @@ testing_graph = record {
 }
 
 -- at its points x is 0..2147483646 behind both sides of the first condition, and any `int` at the others
-abbrev testing_values : List Content
+abbrev testing_values : List BoxContent
 testing_values = none ∷ ints ∷ x_in (pos 0) (pos 2147483646) ∷ ints ∷ ints ∷ ints ∷ []
 
 -- x + 1 is asked of what x < 2147483647 leaves: catches a right side that is asked of the point's value
-less_judged : AskedJudged box_meaning boxes testing_values (record { point = 1; fresh = None; op = step.test 0 is_less true }) true Exact
+less_judged : AskedJudged box_abstraction boxes testing_values (record { point = 1; fresh = None; op = step.test 0 is_less true }) true Exact
 less_judged = (
   ints,
   ints,
@@ -333,7 +333,7 @@ less_judged = (
 )
 
 -- x != 0 leaves no constant to divide by: a box doesn't tell that 0 isn't in it
-divides_judged : AskedJudged box_meaning boxes testing_values (record { point = 3; fresh = None; op = step.test 0 divides true }) false Exact
+divides_judged : AskedJudged box_abstraction boxes testing_values (record { point = 3; fresh = None; op = step.test 0 divides true }) false Exact
 divides_judged = (
   ints,
   ints,
@@ -387,8 +387,8 @@ divides_judged = (
   refl,
 )
 
-testing_fits : Judges box_meaning boxes testing_tree testing_values None ((1, true) ∷ (2, true) ∷ (3, false) ∷ []) None
-testing_fits = judged (OpFits box_meaning boxes) (asked_in None testing_tree) testing_values
+testing_fits : Judges box_abstraction boxes testing_tree testing_values None ((1, true) ∷ (2, true) ∷ (3, false) ∷ []) None
+testing_fits = judged (OpFits box_abstraction boxes) (asked_in None testing_tree) testing_values
     ((record { point = 1; fresh = None; op = step.test 0 is_less true }, true) ∷ (asked_sum 2, true)
     ∷ (record { point = 3; fresh = None; op = step.test 0 divides true }, false) ∷ [])
     refl (
@@ -426,11 +426,11 @@ counting_graph = record {
   parts = refl;
 }
 
-abbrev counting_values : List Content
+abbrev counting_values : List BoxContent
 counting_values = none ∷ x_in (pos 0) (pos 10) ∷ x_in (pos 0) (pos 9) ∷ x_in (pos 10) (pos 10) ∷ []
 
 -- one answer alone: nothing is computed by the condition, nor by what an `int` gets of an `int`
-counting_fits : Judges box_meaning boxes counting_tree counting_values None ((2, true) ∷ []) None
-counting_fits = judged (OpFits box_meaning boxes) (asked_in None counting_tree) counting_values ((asked_sum 2, true) ∷ []) refl
+counting_fits : Judges box_abstraction boxes counting_tree counting_values None ((2, true) ∷ []) None
+counting_fits = judged (OpFits box_abstraction boxes) (asked_in None counting_tree) counting_values ((asked_sum 2, true) ∷ []) refl
     (sum_judged counting_values 2 (pos 0) (pos 9) true refl (sum_fits (pos 0) (pos 9) (lit< tt) (lit< tt) (lit< tt) (lit< tt) refl refl) refl, tt)
     (tt, tt)

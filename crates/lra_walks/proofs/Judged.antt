@@ -7,11 +7,11 @@ use Rattle.lra_domain.specs.declared.Exactness.{Exactness}
 use Rattle.lra_domain.specs.declared.Exactness.TheVariants.{Exact}
 use Rattle.lra_program.specs.Step.{Op}
 use Rattle.lra_operations.specs.Asked.{Asked}
-use Rattle.lra_box.specs.Content.{Content}
+use Rattle.lra_box.specs.Content.{BoxContent}
 use Rattle.lra_flow.specs.Judging.{Finding, Finds, answer_of, first_flagged, AskedTold, IsFoundOn}
 use Rattle.lra_walks.proofs.LoopExamples.{boxes}
 
-module _ {A : Type 0} (Told : Op → Content → A → Exactness → Type 0) where
+module _ {A : Type 0} (Told : Op → BoxContent → A → Exactness → Type 0) where
   abbrev pub Found : Type 0
   Found = List (Asked × A)
 
@@ -22,7 +22,7 @@ module _ {A : Type 0} (Told : Op → Content → A → Exactness → Type 0) whe
   finding_of x = record { point = x.0.point; answer = x.1; exactness = Exact }
 
   -- each is judged so, without a flag
-  abbrev pub AreFound : List Content → Found → Type 0
+  abbrev pub AreFound : List BoxContent → Found → Type 0
   AreFound values [] = Unit {0}
   AreFound values (x ∷ xs) = AskedTold boxes Told values x.0 x.1 Exact × AreFound values xs
 
@@ -35,7 +35,7 @@ module _ {A : Type 0} (Told : Op → Content → A → Exactness → Type 0) whe
   Ascend [] = Unit {0}
   Ascend (x ∷ xs) = AreAbove x.0.point xs × Ascend xs
 
-  found_on : (values : List Content) (xs : Found) (j : Finding A) → AreFound values xs → Contains (map finding_of xs) j
+  found_on : (values : List BoxContent) (xs : Found) (j : Finding A) → AreFound values xs → Contains (map finding_of xs) j
       → IsFoundOn boxes Told (map operation xs) values j
   found_on values [] j are h = absurd (contains_none j h)
   found_on values (x ∷ xs) j are h = elim (contains_cases (finding_of x) j (map finding_of xs) h) [
@@ -69,7 +69,7 @@ module _ {A : Type 0} (Told : Op → Content → A → Exactness → Type 0) whe
   never_flagged [] = refl
   never_flagged (x ∷ xs) = never_flagged xs
 
-  pub judged : (asked : List Asked) (values : List Content) (xs : Found) → asked ≡ map operation xs → AreFound values xs → Ascend xs
+  pub judged : (asked : List Asked) (values : List BoxContent) (xs : Found) → asked ≡ map operation xs → AreFound values xs → Ascend xs
       → Finds boxes Told asked values None (map answer_of (map finding_of xs)) None
   judged asked values xs is are up = record {
     found = map finding_of xs;

@@ -17,10 +17,10 @@ use Rattle.lra_operations.specs.Inlined.{as_declaration, as_given, as_value, as_
 use Rattle.lra_operations.specs.Agree.{IsGraph}
 use Rattle.lra_box.specs.declared.interval.Interval.{Interval}
 use Rattle.lra_box.specs.declared.interval.Side.TheVariants.{Low, High}
-use Rattle.lra_box.specs.Bounds.{open_interval, crossed, form, IsSound}
-use Rattle.lra_box.specs.Content.{Content}
+use Rattle.lra_box.specs.Bounds.{full_interval, crossed, form, IsValidInterval}
+use Rattle.lra_box.specs.Content.{BoxContent}
 use Rattle.lra_box.specs.Tables.{stepped}
-use Rattle.lra_box.specs.Meaning.{StepsTo, box_meaning}
+use Rattle.lra_box.specs.Abstraction.{BoxTransfersTo, box_abstraction}
 use Rattle.lra_box.proofs.ExtremeLemmas.{end_is_extreme}
 use Rattle.lra_flow.specs.Plan.{Plan, plan_of, standard}
 use Rattle.lra_options.specs.OptionRows.{default_options}
@@ -29,8 +29,8 @@ use Rattle.lra_flow.specs.Given.{given_rows}
 use Rattle.lra_flow.specs.Pass.{Entry, value, Result, goes_on, GoesRound, GoesFrom, Grows, Narrows, Pass}
 use Rattle.lra_flow.specs.Analysis.{Written}
 
-abbrev pub boxes : Operations Content Content
-boxes = defined box_meaning
+abbrev pub boxes : Operations BoxContent BoxContent
+boxes = defined box_abstraction
 
 abbrev pub between : ℕ → ℕ → Interval
 between l h = record { low = Some (pos l); high = Some (pos h) }
@@ -39,7 +39,7 @@ abbrev pub at_least : ℕ → Interval
 at_least l = record { low = Some (pos l); high = None }
 
 -- the box of one variable
-abbrev pub one : Interval → Content
+abbrev pub one : Interval → BoxContent
 one x = record { dims = 1; bounds = Some (x ∷ []) }
 
 abbrev pub narrowed : ℕ → Plan
@@ -96,11 +96,11 @@ abbrev pub next : Form
 next = form (pos 1) (pos 1 ∷ [])
 
 -- the table's result of i = i + 1, its bounds the least and the greatest value
-pub increased : (x : Interval) → IsSound x → StepsTo (assign 0 next) (one x) (stepped (assign 0 next) (one x))
+pub increased : (x : Interval) → IsValidInterval x → BoxTransfersTo (assign 0 next) (one x) (stepped (assign 0 next) (one x))
 increased x sound = record { table = refl; extremes = (end_is_extreme Low next (x ∷ []) (sound, tt) refl, end_is_extreme High next (x ∷ []) (sound, tt) refl) }
 
 -- of 9 - i >= 0
-small : (x : Interval) → StepsTo (test Ge (form (pos 9) (negsuc 0 ∷ []))) (one x) (stepped (test Ge (form (pos 9) (negsuc 0 ∷ []))) (one x))
+small : (x : Interval) → BoxTransfersTo (test Ge (form (pos 9) (negsuc 0 ∷ []))) (one x) (stepped (test Ge (form (pos 9) (negsuc 0 ∷ []))) (one x))
 small x = record { table = refl; extremes = tt }
 
 -- the loop's body with the catch of `continue`
@@ -108,11 +108,12 @@ abbrev body : Node
 body = seq (catch 1 continued increase) empty
 
 -- once round the loop, from x by the y that are below 10 to z
-abbrev turn : Interval → Interval → Interval → Result Content
+abbrev turn : Interval → Interval → Interval → Result BoxContent
 turn x y z = goes_on (value 1 (one x) ∷ value 2 (one y) ∷ []) (one z) None
 
-round : (set : Plan) (x y z : Interval) → StepsTo (test Ge (form (pos 9) (negsuc 0 ∷ []))) (one x) (one y) → StepsTo (assign 0 next) (one y) (one z)
-    → GoesRound Content Content boxes 1 0 is_small (Pass Content Content boxes set body) None (one x) (turn x y z)
+round : (set : Plan) (x y z : Interval) → BoxTransfersTo (test Ge (form (pos 9) (negsuc 0 ∷ []))) (one x) (one y) →
+    BoxTransfersTo (assign 0 next) (one y) (one z)
+    → GoesRound BoxContent BoxContent boxes 1 0 is_small (Pass BoxContent BoxContent boxes set body) None (one x) (turn x y z)
 round set x y z is_tested is_assigned = (
   one y,
   Exact,
@@ -142,15 +143,16 @@ round set x y z is_tested is_assigned = (
 )
 
 -- from a head whose value is x
-from_head : (set : Plan) (x y z : Interval) → StepsTo (test Ge (form (pos 9) (negsuc 0 ∷ []))) (one x) (one y) → StepsTo (assign 0 next) (one y) (one z)
-    → GoesFrom Content Content boxes 1 0 is_small (Pass Content Content boxes set body) (one x) None (one x) (turn x y z)
+from_head : (set : Plan) (x y z : Interval) → BoxTransfersTo (test Ge (form (pos 9) (negsuc 0 ∷ []))) (one x) (one y) →
+    BoxTransfersTo (assign 0 next) (one y) (one z)
+    → GoesFrom BoxContent BoxContent boxes 1 0 is_small (Pass BoxContent BoxContent boxes set body) (one x) None (one x) (turn x y z)
 from_head set x y z is_tested is_assigned = (Exact, (refl, refl), round set x y z is_tested is_assigned)
 
-pub between_sound : (l h : ℕ) → l < 2 ^ 127 → h < 2 ^ 127 → crossed (between l h) ≡ false → IsSound (between l h)
+pub between_sound : (l h : ℕ) → l < 2 ^ 127 → h < 2 ^ 127 → crossed (between l h) ≡ false → IsValidInterval (between l h)
 between_sound l h low high order = ((low, high), order)
 
 -- the heads are 0..0, joined to 0..1, widened to 0.. ; there i is below 10 from 0 to 9, and 1..10 lies in the head
-heads : (set : Plan) → Grows Content Content boxes 1 0 is_small (Pass Content Content boxes set body) standard 1 None (one (between 0 0)) (one (between 0 1) ∷ one (at_least 0) ∷ [])
+heads : (set : Plan) → Grows BoxContent BoxContent boxes 1 0 is_small (Pass BoxContent BoxContent boxes set body) standard 1 None (one (between 0 0)) (one (between 0 1) ∷ one (at_least 0) ∷ [])
     (one (at_least 0)) (turn (at_least 0) (between 0 9) (between 1 10))
 heads set = (
   one (between 0 0),
@@ -172,7 +174,7 @@ heads set = (
 )
 
 -- narrowed once: 0..0 joined with 1..10 is 0..10
-narrowing : (set : Plan) → Narrows Content Content boxes 1 0 is_small (Pass Content Content boxes set body) 1 (one (between 0 0)) (one (at_least 0))
+narrowing : (set : Plan) → Narrows BoxContent BoxContent boxes 1 0 is_small (Pass BoxContent BoxContent boxes set body) 1 (one (between 0 0)) (one (at_least 0))
     (turn (at_least 0) (between 0 9) (between 1 10))
     (one (between 0 10)) (turn (between 0 10) (between 0 9) (between 1 10))
 narrowing set = (
@@ -185,14 +187,14 @@ narrowing set = (
 )
 
 -- what is found: no variable at the first point; the loop's head; its body; main's end
-abbrev entries : Interval → Interval → Interval → List (Entry Content)
+abbrev entries : Interval → Interval → Interval → List (Entry BoxContent)
 entries head inside end = value 0 (record { dims = 0; bounds = Some [] }) ∷ value 1 (one head) ∷ value 2 (one inside) ∷ value 3 (one end) ∷ []
 
-abbrev whole : (head inside end : Interval) → Result Content
+abbrev whole : (head inside end : Interval) → Result BoxContent
 whole head inside end = goes_on (entries head inside end) (one end) None
 
 -- the loop is narrowed to 0..10, and left with 10
-loop_once : Pass Content Content boxes (narrowed 1) (loop_node 1 0 is_small increase empty) None (one (between 0 0))
+loop_once : Pass BoxContent BoxContent boxes (narrowed 1) (loop_node 1 0 is_small increase empty) None (one (between 0 0))
     (goes_on (value 1 (one (between 0 10)) ∷ value 2 (one (between 0 9)) ∷ []) (one (between 10 10)) None)
 loop_once = (
   one (between 10 10),
@@ -218,7 +220,7 @@ loop_once = (
 )
 
 -- without narrowing it stays 0.. , with the pass that ended the growth, and is left with 10..
-loop_never : Pass Content Content boxes (narrowed 0) (loop_node 1 0 is_small increase empty) None (one (between 0 0))
+loop_never : Pass BoxContent BoxContent boxes (narrowed 0) (loop_node 1 0 is_small increase empty) None (one (between 0 0))
     (goes_on (value 1 (one (at_least 0)) ∷ value 2 (one (between 0 9)) ∷ []) (one (at_least 10)) None)
 loop_never = (
   one (at_least 10),
@@ -243,28 +245,28 @@ loop_never = (
   refl,
 )
 
-abbrev pub none : Content
+abbrev pub none : BoxContent
 none = record { dims = 0; bounds = Some [] }
 
 -- i is new and gets 0
-zero_set : StepsTo (assign 0 (form (pos 0) (pos 0 ∷ []))) (one open_interval) (one (between 0 0))
+zero_set : BoxTransfersTo (assign 0 (form (pos 0) (pos 0 ∷ []))) (one full_interval) (one (between 0 0))
 zero_set = record {
   table = refl;
   extremes = (
-    end_is_extreme Low (form (pos 0) (pos 0 ∷ [])) (open_interval ∷ []) (((tt, tt), refl), tt) refl,
-    end_is_extreme High (form (pos 0) (pos 0 ∷ [])) (open_interval ∷ []) (((tt, tt), refl), tt) refl,
+    end_is_extreme Low (form (pos 0) (pos 0 ∷ [])) (full_interval ∷ []) (((tt, tt), refl), tt) refl,
+    end_is_extreme High (form (pos 0) (pos 0 ∷ [])) (full_interval ∷ []) (((tt, tt), refl), tt) refl,
   );
 }
 
-pub declaring : (set : Plan) → Pass Content Content boxes set declared None none (goes_on (value 0 none ∷ []) (one (between 0 0)) None)
+pub declaring : (set : Plan) → Pass BoxContent BoxContent boxes set declared None none (goes_on (value 0 none ∷ []) (one (between 0 0)) None)
 declaring set = (
   goes_on (value 0 none ∷ []) none None,
   goes_on [] (one (between 0 0)) None,
   refl,
   (
-    goes_on [] (one open_interval) None,
+    goes_on [] (one full_interval) None,
     goes_on [] (one (between 0 0)) None,
-    (one open_interval, Exact, (refl, record { table = refl; extremes = tt }), refl),
+    (one full_interval, Exact, (refl, record { table = refl; extremes = tt }), refl),
     (one (between 0 0), Exact, (refl, zero_set), refl),
     refl,
   ),
@@ -273,8 +275,8 @@ declaring set = (
 
 -- a program that is the declaration, the loop and main's end
 around_loop : (set : Plan) (head inside end : Interval)
-    → Pass Content Content boxes set (loop_node 1 0 is_small increase empty) None (one (between 0 0)) (goes_on (value 1 (one head) ∷ value 2 (one inside) ∷ []) (one end) None)
-    → Written box_meaning set counting counting_tree (whole head inside end)
+    → Pass BoxContent BoxContent boxes set (loop_node 1 0 is_small increase empty) None (one (between 0 0)) (goes_on (value 1 (one head) ∷ value 2 (one inside) ∷ []) (one end) None)
+    → Written box_abstraction set counting counting_tree (whole head inside end)
 around_loop set head inside end pass = (
   none,
   none,
@@ -297,9 +299,9 @@ around_loop set head inside end pass = (
 )
 
 -- the head is 0..10, the body's point 0..9, the end 10
-pub counting_narrowed : Written box_meaning (narrowed 1) counting counting_tree (whole (between 0 10) (between 0 9) (between 10 10))
+pub counting_narrowed : Written box_abstraction (narrowed 1) counting counting_tree (whole (between 0 10) (between 0 9) (between 10 10))
 counting_narrowed = around_loop (narrowed 1) (between 0 10) (between 0 9) (between 10 10) loop_once
 
 -- without narrowing the head is 0.. and the end 10..
-pub counting_wide : Written box_meaning (narrowed 0) counting counting_tree (whole (at_least 0) (between 0 9) (at_least 10))
+pub counting_wide : Written box_abstraction (narrowed 0) counting counting_tree (whole (at_least 0) (between 0 9) (at_least 10))
 counting_wide = around_loop (narrowed 0) (at_least 0) (between 0 9) (at_least 10) loop_never

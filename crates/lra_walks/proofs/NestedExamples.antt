@@ -23,10 +23,10 @@ use Rattle.lra_operations.specs.Inlined.{loop_node}
 use Rattle.lra_operations.specs.Agree.{IsGraph}
 use Rattle.lra_box.specs.declared.interval.Interval.{Interval}
 use Rattle.lra_box.specs.declared.interval.Side.TheVariants.{Low, High}
-use Rattle.lra_box.specs.Bounds.{open_interval, crossed, form, IsSound}
-use Rattle.lra_box.specs.Content.{Content}
+use Rattle.lra_box.specs.Bounds.{full_interval, crossed, form, IsValidInterval}
+use Rattle.lra_box.specs.Content.{BoxContent}
 use Rattle.lra_box.specs.Tables.{stepped, widened_low}
-use Rattle.lra_box.specs.Meaning.{StepsTo, box_meaning}
+use Rattle.lra_box.specs.Abstraction.{BoxTransfersTo, box_abstraction}
 use Rattle.lra_box.proofs.ExtremeLemmas.{end_is_extreme}
 use Rattle.lra_box.specs.Covering.{low_within_refl, high_within_refl}
 use Rattle.lra_flow.specs.Plan.{Plan, standard}
@@ -35,10 +35,10 @@ use Rattle.lra_flow.specs.Analysis.{Written, IsUnreachable}
 use Rattle.lra_walks.proofs.LoopExamples.{boxes, between, at_least, one, none, narrowed, between_sound, declared, declaring}
 
 -- the box of both variables
-abbrev pub two : Interval → Interval → Content
+abbrev pub two : Interval → Interval → BoxContent
 two a b = record { dims = 2; bounds = Some (a ∷ b ∷ []) }
 
-abbrev pub nowhere : Content
+abbrev pub nowhere : BoxContent
 nowhere = record { dims = 2; bounds = None }
 
 abbrev a_is : Expr
@@ -78,7 +78,7 @@ abbrev next_b : Form
 next_b = form (pos 1) (pos 0 ∷ pos 1 ∷ [])
 
 -- what a round of the inner loop from v finds: `on` where b is at least 3, `off` where it isn't, z at the body's end
-abbrev inner_found : List (Entry Content) → Content → Content → Content → Result Content
+abbrev inner_found : List (Entry BoxContent) → BoxContent → BoxContent → BoxContent → Result BoxContent
 inner_found before on off z = record {
   entries = before ++ value 6 on ∷ value 7 off ∷ value 8 off ∷ value 9 off ∷ value 10 z ∷ [];
   normal = z;
@@ -88,17 +88,17 @@ inner_found before on off z = record {
   flag = None;
 }
 
-abbrev broken_at : Content → Result Content
+abbrev broken_at : BoxContent → Result BoxContent
 broken_at v = record { entries = value 6 v ∷ []; normal = nowhere; breaks = v ∷ []; continues = []; returns = []; flag = None }
 
-abbrev returned_at : Content → Result Content
+abbrev returned_at : BoxContent → Result BoxContent
 returned_at v = record { entries = value 8 v ∷ []; normal = nowhere; breaks = []; continues = []; returns = v ∷ []; flag = None }
 
 -- keeping both variables changes nothing
-abbrev box_of : Option (List Interval) → Content
+abbrev box_of : Option (List Interval) → BoxContent
 box_of o = record { dims = 2; bounds = o }
 
-breaking : (set : Plan) (o : Option (List Interval)) → Pass Content Content boxes set (seq (point 6) (seq (act 6 (keep 2)) (leave 2 broken))) None (box_of o) (broken_at (box_of o))
+breaking : (set : Plan) (o : Option (List Interval)) → Pass BoxContent BoxContent boxes set (seq (point 6) (seq (act 6 (keep 2)) (leave 2 broken))) None (box_of o) (broken_at (box_of o))
 breaking set o = (
   goes_on (value 6 (box_of o) ∷ []) (box_of o) None,
   jumps broken (box_of o) nowhere None,
@@ -108,8 +108,9 @@ breaking set o = (
 )
 
 module _ (set : Plan) (a x y z : Interval) (o : Option (List Interval))
-    (is_three : StepsTo (test Ge three) (two a x) (box_of o)) (is_under : StepsTo (test Ge under_three) (two a x) (two a y)) (is_next : StepsTo (assign 1 next_b) (two a y) (two a z)) where
-  leaves_first : Pass Content Content boxes set leaving None (two a x)
+    (is_three : BoxTransfersTo (test Ge three) (two a x) (box_of o)) (is_under : BoxTransfersTo (test Ge under_three) (two a x) (two a y))
+    (is_next : BoxTransfersTo (assign 1 next_b) (two a y) (two a z)) where
+  leaves_first : Pass BoxContent BoxContent boxes set leaving None (two a x)
       (record { entries = value 5 (two a x) ∷ value 6 (box_of o) ∷ []; normal = two a y; breaks = box_of o ∷ []; continues = []; returns = []; flag = None })
   leaves_first = (
     goes_on (value 5 (two a x) ∷ []) (two a x) None,
@@ -135,7 +136,7 @@ module _ (set : Plan) (a x y z : Interval) (o : Option (List Interval))
   )
 
   -- an input may be anything, so both branches have the whole value
-  returns_next : Pass Content Content boxes set returning None (two a y)
+  returns_next : Pass BoxContent BoxContent boxes set returning None (two a y)
       (record { entries = value 7 (two a y) ∷ value 8 (two a y) ∷ []; normal = two a y; breaks = []; continues = []; returns = two a y ∷ []; flag = None })
   returns_next = (
     goes_on (value 7 (two a y) ∷ []) (two a y) None,
@@ -166,7 +167,7 @@ module _ (set : Plan) (a x y z : Interval) (o : Option (List Interval))
     refl,
   )
 
-  counts_last : Pass Content Content boxes set counting_b None (two a y) (goes_on (value 9 (two a y) ∷ []) (two a z) None)
+  counts_last : Pass BoxContent BoxContent boxes set counting_b None (two a y) (goes_on (value 9 (two a y) ∷ []) (two a z) None)
   counts_last = (
     goes_on (value 9 (two a y) ∷ []) (two a y) None,
     goes_on [] (two a z) None,
@@ -175,7 +176,7 @@ module _ (set : Plan) (a x y z : Interval) (o : Option (List Interval))
     refl,
   )
 
-  inner_pass : Pass Content Content boxes set inner_body None (two a x) (inner_found (value 5 (two a x) ∷ []) (box_of o) (two a y) (two a z))
+  inner_pass : Pass BoxContent BoxContent boxes set inner_body None (two a x) (inner_found (value 5 (two a x) ∷ []) (box_of o) (two a y) (two a z))
   inner_pass = (
     record {
       entries = value 5 (two a x) ∷ value 6 (box_of o) ∷ value 7 (two a y) ∷ value 8 (two a y) ∷ value 9 (two a y) ∷ [];
@@ -204,7 +205,8 @@ module _ (set : Plan) (a x y z : Interval) (o : Option (List Interval))
   )
 
   -- 1 != 0 holds everywhere: nothing is below it, and all is above it
-  inner_turn : GoesRound Content Content boxes 4 0 endless (Pass Content Content boxes set (seq (catch 4 continued inner_body) empty)) None (two a x)
+  inner_turn : GoesRound BoxContent BoxContent boxes 4 0 endless (Pass BoxContent BoxContent boxes set (seq (catch 4 continued inner_body) empty)) None
+      (two a x)
       (inner_found (value 4 (two a x) ∷ value 5 (two a x) ∷ []) (box_of o) (two a y) (two a z))
   inner_turn = (
     two a x,
@@ -221,29 +223,30 @@ module _ (set : Plan) (a x y z : Interval) (o : Option (List Interval))
     refl,
   )
 
-  inner_from : GoesFrom Content Content boxes 4 0 endless (Pass Content Content boxes set (seq (catch 4 continued inner_body) empty)) (two a x) None (two a x)
+  inner_from : GoesFrom BoxContent BoxContent boxes 4 0 endless (Pass BoxContent BoxContent boxes set (seq (catch 4 continued inner_body) empty)) (two a x) None
+      (two a x)
       (inner_found (value 4 (two a x) ∷ value 5 (two a x) ∷ []) (box_of o) (two a y) (two a z))
   inner_from = (Exact, (refl, refl), inner_turn)
 
 abbrev inner_loop : Node
 inner_loop = loop_node 4 0 endless inner_body empty
 
-abbrev inner_entries : Interval → List (Entry Content)
+abbrev inner_entries : Interval → List (Entry BoxContent)
 inner_entries a =
     value 4 (two a (between 0 3)) ∷ value 5 (two a (between 0 3)) ∷ value 6 (two a (between 3 3)) ∷ value 7 (two a (between 0 2)) ∷ value 8 (two a (between 0 2)) ∷ value 9 (two a (between 0 2)) ∷
     value 10 (two a (between 1 3)) ∷ []
 
 -- it is left by `break` alone, with b 3, and returns with b 0..2
-abbrev inner_loop_found : Interval → Result Content
+abbrev inner_loop_found : Interval → Result BoxContent
 inner_loop_found a = record { entries = inner_entries a; normal = two a (between 3 3); breaks = []; continues = []; returns = two a (between 0 2) ∷ []; flag = None }
 
 -- the inner loop where b begins with 0: its heads have b 0..0, 0..1 and 0.. , and it is narrowed to 0..3
-module _ (set : Plan) (a : Interval) (sound : IsSound a) (order : crossed a ≡ false) (low_joined : lesser_low a.low a.low ≡ a.low) (high_joined : greater a.high a.high ≡ a.high)
+module _ (set : Plan) (a : Interval) (sound : IsValidInterval a) (order : crossed a ≡ false) (low_joined : lesser_low a.low a.low ≡ a.low) (high_joined : greater a.high a.high ≡ a.high)
     (low_widened : widened_low a.low a.low ≡ a.low) (high_widened : stable a.high a.high ≡ a.high) where
-  at_three : (x : Interval) (o : Option (List Interval)) → box_of o ≡ stepped (test Ge three) (two a x) → StepsTo (test Ge three) (two a x) (box_of o)
+  at_three : (x : Interval) (o : Option (List Interval)) → box_of o ≡ stepped (test Ge three) (two a x) → BoxTransfersTo (test Ge three) (two a x) (box_of o)
   at_three x o is = record { table = is; extremes = tt }
 
-  next_is : (y : Interval) → IsSound y → StepsTo (assign 1 next_b) (two a y) (stepped (assign 1 next_b) (two a y))
+  next_is : (y : Interval) → IsValidInterval y → BoxTransfersTo (assign 1 next_b) (two a y) (stepped (assign 1 next_b) (two a y))
   next_is y fits = record {
     table = refl;
     extremes = (end_is_extreme Low next_b (a ∷ y ∷ []) (sound, (fits, tt)) refl, end_is_extreme High next_b (a ∷ y ∷ []) (sound, (fits, tt)) refl);
@@ -253,10 +256,10 @@ module _ (set : Plan) (a : Interval) (sound : IsSound a) (order : crossed a ≡ 
   loop_body = seq (catch 4 continued inner_body) empty
 
   -- a round from b in x, of which y is under 3 and z comes next
-  abbrev found_from : Interval → Option (List Interval) → Interval → Interval → Result Content
+  abbrev found_from : Interval → Option (List Interval) → Interval → Interval → Result BoxContent
   found_from x o y z = inner_found (value 4 (two a x) ∷ value 5 (two a x) ∷ []) (box_of o) (two a y) (two a z)
 
-  inner_heads : Grows Content Content boxes 4 0 endless (Pass Content Content boxes set loop_body) standard 1 None (two a (between 0 0)) (two a (between 0 1) ∷ two a (at_least 0) ∷ [])
+  inner_heads : Grows BoxContent BoxContent boxes 4 0 endless (Pass BoxContent BoxContent boxes set loop_body) standard 1 None (two a (between 0 0)) (two a (between 0 1) ∷ two a (at_least 0) ∷ [])
       (two a (at_least 0))
       (found_from (at_least 0) (Some (a ∷ at_least 3 ∷ [])) (between 0 2) (between 1 3))
   inner_heads = (
@@ -281,7 +284,8 @@ module _ (set : Plan) (a : Interval) (sound : IsSound a) (order : crossed a ≡ 
     ),
   )
 
-  inner_narrowing : Narrows Content Content boxes 4 0 endless (Pass Content Content boxes set loop_body) 1 (two a (between 0 0)) (two a (at_least 0))
+  inner_narrowing : Narrows BoxContent BoxContent boxes 4 0 endless (Pass BoxContent BoxContent boxes set loop_body) 1 (two a (between 0 0))
+      (two a (at_least 0))
       (found_from (at_least 0) (Some (a ∷ at_least 3 ∷ [])) (between 0 2) (between 1 3))
       (two a (between 0 3)) (found_from (between 0 3) (Some (a ∷ between 3 3 ∷ [])) (between 0 2) (between 1 3))
   inner_narrowing = (
@@ -295,9 +299,9 @@ module _ (set : Plan) (a : Interval) (sound : IsSound a) (order : crossed a ≡ 
   )
 
 -- nothing leaves the endless loop by its condition, so what comes behind it is what broke out
-inner_loop_pass : (a : Interval) → IsSound a → crossed a ≡ false → lesser_low a.low a.low ≡ a.low → greater a.high a.high ≡ a.high → widened_low a.low a.low ≡ a.low →
+inner_loop_pass : (a : Interval) → IsValidInterval a → crossed a ≡ false → lesser_low a.low a.low ≡ a.low → greater a.high a.high ≡ a.high → widened_low a.low a.low ≡ a.low →
     stable a.high a.high ≡ a.high
-    → Pass Content Content boxes (narrowed 1) inner_loop None (two a (between 0 0)) (inner_loop_found a)
+    → Pass BoxContent BoxContent boxes (narrowed 1) inner_loop None (two a (between 0 0)) (inner_loop_found a)
 inner_loop_pass a sound order low_joined high_joined low_widened high_widened = (
   two a (between 3 3),
   Exact,
@@ -343,7 +347,7 @@ abbrev next_a : Form
 next_a = form (pos 1) (pos 1 ∷ pos 0 ∷ [])
 
 -- what a round from a in x and b in z finds, where a in y is under 5, and comes to be in u
-abbrev outer_found : List (Entry Content) → Interval → Interval → Interval → Result Content
+abbrev outer_found : List (Entry BoxContent) → Interval → Interval → Interval → Result BoxContent
 outer_found before y z u = record {
   entries = before ++ value 3 (two y z) ∷ (inner_entries y ++ value 11 (two y (between 3 3)) ∷ value 12 (two u (between 3 3)) ∷ []);
   normal = two u (between 3 3);
@@ -354,9 +358,10 @@ outer_found before y z u = record {
 }
 
 module _ (x y z u : Interval)
-    (is_under : StepsTo (test Ge under_five) (two x z) (two y z)) (is_zero : StepsTo (assign 1 zero_form) (two y z) (two y (between 0 0)))
-    (inner : Pass Content Content boxes (narrowed 1) inner_loop None (two y (between 0 0)) (inner_loop_found y)) (is_next : StepsTo (assign 0 next_a) (two y (between 3 3)) (two u (between 3 3))) where
-  outer_pass : Pass Content Content boxes (narrowed 1) outer_body None (two y z) (outer_found [] y z u)
+    (is_under : BoxTransfersTo (test Ge under_five) (two x z) (two y z)) (is_zero : BoxTransfersTo (assign 1 zero_form) (two y z) (two y (between 0 0)))
+    (inner : Pass BoxContent BoxContent boxes (narrowed 1) inner_loop None (two y (between 0 0)) (inner_loop_found y))
+    (is_next : BoxTransfersTo (assign 0 next_a) (two y (between 3 3)) (two u (between 3 3))) where
+  outer_pass : Pass BoxContent BoxContent boxes (narrowed 1) outer_body None (two y z) (outer_found [] y z u)
   outer_pass = (
     record {
       entries = value 3 (two y z) ∷ (inner_entries y ++ value 11 (two y (between 3 3)) ∷ []);
@@ -402,7 +407,7 @@ module _ (x y z u : Interval)
     refl,
   )
 
-  outer_turn : GoesRound Content Content boxes 2 0 outer_condition (Pass Content Content boxes (narrowed 1) (seq (catch 2 continued outer_body) empty)) None (two x z)
+  outer_turn : GoesRound BoxContent BoxContent boxes 2 0 outer_condition (Pass BoxContent BoxContent boxes (narrowed 1) (seq (catch 2 continued outer_body) empty)) None (two x z)
       (outer_found (value 2 (two x z) ∷ []) y z u)
   outer_turn = (
     two y z,
@@ -419,11 +424,11 @@ module _ (x y z u : Interval)
     refl,
   )
 
-  outer_from : GoesFrom Content Content boxes 2 0 outer_condition (Pass Content Content boxes (narrowed 1) (seq (catch 2 continued outer_body) empty)) (two x z) None (two x z)
+  outer_from : GoesFrom BoxContent BoxContent boxes 2 0 outer_condition (Pass BoxContent BoxContent boxes (narrowed 1) (seq (catch 2 continued outer_body) empty)) (two x z) None (two x z)
       (outer_found (value 2 (two x z) ∷ []) y z u)
   outer_from = (Exact, (refl, refl), outer_turn)
 
-zeroed : (y z : Interval) → IsSound y → IsSound z → StepsTo (assign 1 zero_form) (two y z) (two y (between 0 0))
+zeroed : (y z : Interval) → IsValidInterval y → IsValidInterval z → BoxTransfersTo (assign 1 zero_form) (two y z) (two y (between 0 0))
 zeroed y z first second = record {
   table = refl;
   extremes = (
@@ -432,27 +437,27 @@ zeroed y z first second = record {
   );
 }
 
-next_is_a : (y z : Interval) → IsSound y → IsSound z → StepsTo (assign 0 next_a) (two y z) (stepped (assign 0 next_a) (two y z))
+next_is_a : (y z : Interval) → IsValidInterval y → IsValidInterval z → BoxTransfersTo (assign 0 next_a) (two y z) (stepped (assign 0 next_a) (two y z))
 next_is_a y z first second = record { table = refl; extremes = (end_is_extreme Low next_a (y ∷ z ∷ []) (first, (second, tt)) refl, end_is_extreme High next_a (y ∷ z ∷ []) (first, (second, tt)) refl) }
 
 -- a is 0..0, 0..1, 0..4 in the inner loop
-sound_0_0 : IsSound (between 0 0)
+sound_0_0 : IsValidInterval (between 0 0)
 sound_0_0 = between_sound 0 0 (lit< tt) (lit< tt) refl
 
-sound_0_1 : IsSound (between 0 1)
+sound_0_1 : IsValidInterval (between 0 1)
 sound_0_1 = between_sound 0 1 (lit< tt) (lit< tt) refl
 
-sound_0_3 : IsSound (between 0 3)
+sound_0_3 : IsValidInterval (between 0 3)
 sound_0_3 = between_sound 0 3 (lit< tt) (lit< tt) refl
 
-sound_0_4 : IsSound (between 0 4)
+sound_0_4 : IsValidInterval (between 0 4)
 sound_0_4 = between_sound 0 4 (lit< tt) (lit< tt) refl
 
-sound_3_3 : IsSound (between 3 3)
+sound_3_3 : IsValidInterval (between 3 3)
 sound_3_3 = between_sound 3 3 (lit< tt) (lit< tt) refl
 
 -- the outer heads: a 0..0 and b 0..0; 0..1 and 0..3; 0.. and 0..3
-outer_heads : Grows Content Content boxes 2 0 outer_condition (Pass Content Content boxes (narrowed 1) (seq (catch 2 continued outer_body) empty)) standard 1 None
+outer_heads : Grows BoxContent BoxContent boxes 2 0 outer_condition (Pass BoxContent BoxContent boxes (narrowed 1) (seq (catch 2 continued outer_body) empty)) standard 1 None
     (two (between 0 0) (between 0 0)) (two (between 0 1) (between 0 3) ∷ two (at_least 0) (between 0 3) ∷ []) (two (at_least 0) (between 0 3))
     (outer_found (value 2 (two (at_least 0) (between 0 3)) ∷ []) (between 0 4) (between 0 3) (between 1 5))
 outer_heads = (
@@ -477,7 +482,7 @@ outer_heads = (
   ),
 )
 
-outer_narrowing : Narrows Content Content boxes 2 0 outer_condition (Pass Content Content boxes (narrowed 1) (seq (catch 2 continued outer_body) empty)) 1 (two (between 0 0) (between 0 0))
+outer_narrowing : Narrows BoxContent BoxContent boxes 2 0 outer_condition (Pass BoxContent BoxContent boxes (narrowed 1) (seq (catch 2 continued outer_body) empty)) 1 (two (between 0 0) (between 0 0))
     (two (at_least 0) (between 0 3))
     (outer_found (value 2 (two (at_least 0) (between 0 3)) ∷ []) (between 0 4) (between 0 3) (between 1 5))
     (two (between 0 5) (between 0 3)) (outer_found (value 2 (two (between 0 5) (between 0 3)) ∷ []) (between 0 4) (between 0 3) (between 1 5))
@@ -492,15 +497,15 @@ outer_narrowing = (
 )
 
 -- the outer loop is left with a 5 and b 0..3, and returns with a 0..4 and b 0..2
-abbrev outer_entries : List (Entry Content)
+abbrev outer_entries : List (Entry BoxContent)
 outer_entries =
     value 2 (two (between 0 5) (between 0 3)) ∷ value 3 (two (between 0 4) (between 0 3)) ∷
     (inner_entries (between 0 4) ++ value 11 (two (between 0 4) (between 3 3)) ∷ value 12 (two (between 1 5) (between 3 3)) ∷ [])
 
-abbrev outer_result : Result Content
+abbrev outer_result : Result BoxContent
 outer_result = record { entries = outer_entries; normal = two (between 5 5) (between 0 3); breaks = []; continues = []; returns = two (between 0 4) (between 0 2) ∷ []; flag = None }
 
-outer_loop_pass : Pass Content Content boxes (narrowed 1) outer_loop None (two (between 0 0) (between 0 0)) outer_result
+outer_loop_pass : Pass BoxContent BoxContent boxes (narrowed 1) outer_loop None (two (between 0 0) (between 0 0)) outer_result
 outer_loop_pass = (
   two (between 5 5) (between 0 3),
   Exact,
@@ -525,7 +530,8 @@ outer_loop_pass = (
 )
 
 -- assert(a == 5): where it is false there is nothing, below 5 and above it
-asserted : Pass Content Content boxes (narrowed 1) (seq (point 13) (check 13 0 (compare equal a_is (literal Int 5)))) None (two (between 5 5) (between 0 3))
+asserted : Pass BoxContent BoxContent boxes (narrowed 1) (seq (point 13) (check 13 0 (compare equal a_is (literal Int 5)))) None
+    (two (between 5 5) (between 0 3))
     (goes_on (value 13 (two (between 5 5) (between 0 3)) ∷ failing 13 nowhere ∷ []) (two (between 5 5) (between 0 3)) None)
 asserted = (
   goes_on (value 13 (two (between 5 5) (between 0 3)) ∷ []) (two (between 5 5) (between 0 3)) None,
@@ -602,31 +608,31 @@ nested_graph = record {
   parts = refl;
 }
 
-abbrev end_box : Content
+abbrev end_box : BoxContent
 end_box = two (between 5 5) (between 0 3)
 
-abbrev body_entries : List (Entry Content)
+abbrev body_entries : List (Entry BoxContent)
 body_entries = value 0 none ∷ value 1 (one (between 0 0)) ∷ (outer_entries ++ value 13 end_box ∷ failing 13 nowhere ∷ [])
 
-abbrev nested_result : Result Content
+abbrev nested_result : Result BoxContent
 nested_result = record { entries = body_entries ++ value 14 end_box ∷ []; normal = end_box; breaks = []; continues = []; returns = two (between 0 4) (between 0 2) ∷ []; flag = None }
 
-declaring_b : Pass Content Content boxes (narrowed 1) declared_b None (one (between 0 0)) (goes_on (value 1 (one (between 0 0)) ∷ []) (two (between 0 0) (between 0 0)) None)
+declaring_b : Pass BoxContent BoxContent boxes (narrowed 1) declared_b None (one (between 0 0)) (goes_on (value 1 (one (between 0 0)) ∷ []) (two (between 0 0) (between 0 0)) None)
 declaring_b = (
   goes_on (value 1 (one (between 0 0)) ∷ []) (one (between 0 0)) None,
   goes_on [] (two (between 0 0) (between 0 0)) None,
   refl,
   (
-    goes_on [] (two (between 0 0) open_interval) None,
+    goes_on [] (two (between 0 0) full_interval) None,
     goes_on [] (two (between 0 0) (between 0 0)) None,
-    (two (between 0 0) open_interval, Exact, (refl, record { table = refl; extremes = tt }), refl),
-    (two (between 0 0) (between 0 0), Exact, (refl, zeroed (between 0 0) open_interval sound_0_0 ((tt, tt), refl)), refl),
+    (two (between 0 0) full_interval, Exact, (refl, record { table = refl; extremes = tt }), refl),
+    (two (between 0 0) (between 0 0), Exact, (refl, zeroed (between 0 0) full_interval sound_0_0 ((tt, tt), refl)), refl),
     refl,
   ),
   refl,
 )
 
-pub nested_written : Written box_meaning (narrowed 1) nested nested_tree nested_result
+pub nested_written : Written box_abstraction (narrowed 1) nested nested_tree nested_result
 nested_written = (
   none,
   none,
@@ -674,5 +680,5 @@ at_return = (8, lit< tt, refl)
 pub at_assertion : Contains nested_result.entries (value 13 (two (between 5 5) (between 0 3)))
 at_assertion = (13, lit< tt, refl)
 
-pub assertion_proved : Contains nested_result.entries (failing 13 nowhere) × IsUnreachable box_meaning nowhere
+pub assertion_proved : Contains nested_result.entries (failing 13 nowhere) × IsUnreachable box_abstraction nowhere
 assertion_proved = ((14, lit< tt, refl), refl)

@@ -1,6 +1,6 @@
 -- What threads may do to each other by their intervals is what each is told of the others, and brings no variable.
 use Rattle.std.proofs.Common.{◌≡◌, ◌∙◌, ◌<◌, ℕ, ℤ, List, length, refl}
-use Rattle.lra_others.specs.Others as others
+use Rattle.lra_interference.specs.Interference as others
 use Rattle.lra_program.specs.Program.{Function, Program}
 use Rattle.lra_program.specs.Step.{State}
 use Rattle.lra_operations.specs.TrailsAgree.{KeepsWidth}
@@ -13,10 +13,10 @@ use Rattle.lra_woven.proofs.TellsAll.{told_has}
 
 -- what may become of the k-th thread's state
 abbrev pub BecomesAmong : ℕ → Table → ℕ → State → State → Type 0
-BecomesAmong globals table k = MayBecome (others_of globals k table).may
+BecomesAmong globals table k = MayBecome (others_of globals k table).rely
 
 many_given : (n : ℕ) (Gets : ℕ → ℤ → Type 0) (told : Row) (s t : List ℤ)
-    → ((x : ℕ) (z : ℤ) → x < n → Gets x z → HasNumber told x z) → Changes n Gets s t → others.Many (MayGive told) s t
+    → ((x : ℕ) (z : ℤ) → x < n → Gets x z → HasNumber told x z) → Changes n Gets s t → others.RelyClosure (MayGive told) s t
 many_given n Gets told s _ each (none _) = others.none s
 many_given n Gets told s _ each (more _ t x z before low gets) =
     let (i, at, inner) = each x z low gets in
@@ -34,7 +34,7 @@ all_allowed P fs table k s t change = record {
     each : (x : ℕ) (z : ℤ) → x < length P.globals → OthersGive P fs (HasWritten table) k x z → HasNumber (told_to (length P.globals) k table) x z
     each x z low gives = let (row, at, has) = gives.within in told_has (length P.globals) k gives.giver table row x z low at gives.is_other has
 
-many_long : (told : Row) (s t : List ℤ) → others.Many (MayGive told) s t → length t ≡ length s
+many_long : (told : Row) (s t : List ℤ) → others.RelyClosure (MayGive told) s t → length t ≡ length s
 many_long told s _ (others.none _) = refl
 many_long told s u (others.more _ t _ many gift) = as_long told t u gift ∙ many_long told s t many
 

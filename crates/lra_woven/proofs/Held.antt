@@ -1,9 +1,9 @@
 -- The value at a point of a tree that is iterated over among others is formed, and has the stores of their runs.
 use Rattle.std.proofs.Common.{◌≡◌, ℕ, ℤ, List, length, Option, Some, None, Bool, subst}
 use Rattle.std.specs.Prelude.{slice_get}
-use Rattle.lra_domain.specs.Meaning.{Meaning}
+use Rattle.lra_domain.specs.Abstraction.{Abstraction}
 use Rattle.lra_domain.specs.Laws.{Laws}
-use Rattle.lra_others.specs.Others.{Others}
+use Rattle.lra_interference.specs.Interference.{Interference}
 use Rattle.lra_program.specs.Program.{Program}
 use Rattle.lra_program.specs.WellFormed.{AreGoodGlobals}
 use Rattle.lra_program.specs.Step.{State}
@@ -21,11 +21,11 @@ use Rattle.lra_iter.specs.Among.{GoesAmong}
 use Rattle.lra_iter.specs.Solved.{IsSolvedAmong}
 use Rattle.lra_iter.proofs.CoveringAmong.{begun_covers_among}
 
-module _ {V H : Type 0} (o : Others V) (m : Meaning V H) (laws : Laws m) (plan : Plan) (P : Program) (good : AreGoodGlobals P.globals) (g tree : Node)
+module _ {V H : Type 0} (o : Interference V) (m : Abstraction V H) (laws : Laws m) (plan : Plan) (P : Program) (good : AreGoodGlobals P.globals) (g tree : Node)
     (opens : tree ≡ opened (length P.globals) g) where
   pub held_among : (values : List V) (notes : List (ℕ × ℕ × V)) (verdicts : List (ℕ × Bool)) (flagged : Option ℕ)
       → IsSolvedAmong o m plan P tree values notes verdicts flagged → (q : ℕ) (draws : List ℤ) (a : Trail ℕ) (t : State)
-      → GoesAmong o P g draws (to_point q) a → MayBecome o.may a.state t → (v : V) × (slice_get values q ≡ Some v) × Has m v t.store
+      → GoesAmong o P g draws (to_point q) a → MayBecome o.rely a.state t → (v : V) × (slice_get values q ≡ Some v) × Has m v t.store
   held_among values notes verdicts flagged solved q draws a t goes becomes =
       let d = solved.derived in
       let pass = subst (λ (x : Node). PassAmong V H (dropping m) (admitted o m) plan x (noted 0 d.2 None) d.1 solved.result) opens d.5 in

@@ -5,10 +5,10 @@ use Rattle.std.specs.List.{Contains}
 use Rattle.std.proofs.lemmas.Option.{same_Some}
 use Rattle.lra_linear_spec.proofs.Membership.{map_from, map_has}
 use Rattle.lra_base.specs.declared.refusals.Place.{Place}
-use Rattle.lra_others.specs.Others.{Others}
-use Rattle.lra_box.specs.Content.{Content}
+use Rattle.lra_interference.specs.Interference.{Interference}
+use Rattle.lra_box.specs.Content.{BoxContent}
 use Rattle.lra_box.specs.Laws.{box_laws}
-use Rattle.lra_box.specs.Meaning.{box_meaning}
+use Rattle.lra_box.specs.Abstraction.{box_abstraction}
 use Rattle.lra_program.specs.Program.{Function, Program}
 use Rattle.lra_program.specs.Step.{State}
 use Rattle.lra_program.specs.Run.{Point}
@@ -47,10 +47,10 @@ use Rattle.lra_woven.proofs.InsideHolds.{inside_holds}
 use Rattle.lra_woven.proofs.Held.{held_among}
 
 -- what is noted is a gift
-gift_listed : (found : ThreadFound) (q x : ℕ) (v : Content) → Contains (notes_of found) (q, x, v) → Contains (gifts_in found) (x, v)
+gift_listed : (found : ThreadFound) (q x : ℕ) (v : BoxContent) → Contains (notes_of found) (q, x, v) → Contains (gifts_in found) (x, v)
 gift_listed found q x v among =
     let (note, listed, is) = map_from note_view found.noted.notes.items (q, x, v) among in
-    subst (λ (g : ℕ × Content). Contains (gifts_in found) g) (ap (λ (n : ℕ × ℕ × Content). (n.1, n.2)) is)
+    subst (λ (g : ℕ × BoxContent). Contains (gifts_in found) g) (ap (λ (n : ℕ × ℕ × BoxContent). (n.1, n.2)) is)
     (map_has gift_in found.noted.notes.items note listed)
 
 module _ (P : Program) (fs : List Function) (graphs : List Graph) (end : Settled ThreadFound) (are : AreThreads P fs graphs)
@@ -59,7 +59,7 @@ module _ (P : Program) (fs : List Function) (graphs : List Graph) (end : Settled
   abbrev may : ℕ → State → State → Type 0
   may = BecomesAmong (length P.globals) end.table
 
-  abbrev beside : ℕ → Others Content
+  abbrev beside : ℕ → Interference BoxContent
   beside k = others_of (length P.globals) k end.table
 
   abbrev Within : ℕ → ℕ → ℤ → Type 0
@@ -154,11 +154,11 @@ module _ (P : Program) (fs : List Function) (graphs : List Graph) (end : Settled
       is_own other there = same_Some other found (sym there ∙ round.is_found)
 
       store_held : (store : List ℤ) → AtThread P fs k (point_of s) store
-          → (v : Content) × (slice_get (values_of found) q ≡ Some v) × box_meaning.has v store × (box_meaning.dims v ≡ length store)
+          → (v : BoxContent) × (slice_get (values_of found) q ≡ Some v) × box_abstraction.gamma v store × (box_abstraction.dims v ≡ length store)
       store_held store stands =
           let (u, (draws, d, goes, becomes), same) = stands_at store stands in
           let (v, there, has, wide) = round.holds.stores q draws d u goes becomes in
-          (v, there, subst (λ (ys : List ℤ). box_meaning.has v ys) same has, wide ∙ ap length same)
+          (v, there, subst (λ (ys : List ℤ). box_abstraction.gamma v ys) same has, wide ∙ ap length same)
 
       never_fails : Contains (verdicts_of found) (q, true) → FailsThread P fs k (point_of s) → ⊥
       never_fails listed fails =
@@ -166,7 +166,7 @@ module _ (P : Program) (fs : List Function) (graphs : List Graph) (end : Settled
           let (d, goes, named) = denies among.function among.draws a among.is_thread among.does in
           round.holds.proved q among.draws d listed goes
 
-      never_there : (v : Content) (store : List ℤ) → slice_get (values_of found) q ≡ Some v → IsUnreachable box_meaning v
+      never_there : (v : BoxContent) (store : List ℤ) → slice_get (values_of found) q ≡ Some v → IsUnreachable box_abstraction v
           → AtThread P fs k (point_of s) store → ⊥
       never_there v store there none stands =
           let (u, (draws, d, goes, becomes), same) = stands_at store stands in
@@ -184,9 +184,9 @@ module _ (P : Program) (fs : List Function) (graphs : List Graph) (end : Settled
           let (steps, c, xs, walk, on, becomes, asks, met) = mine in
           let (drawn, d, goes, left) = stands_by f draws (record { state = c.state; met = xs }) a.state at (steps, c, walk, on, refl) becomes in
           let (plan, solved) = round.solved in
-          let (v, value, held) = held_among (beside k) box_meaning box_laws plan own t.well.globals t.tree (node_view graph.tree) t.opens
+          let (v, value, held) = held_among (beside k) box_abstraction box_laws plan own t.well.globals t.tree (node_view graph.tree) t.opens
           (values_of found) (notes_of found) (verdicts_of found) found.noted.solution.flagged solved q drawn d a.state goes left in
-          inside_holds t.tree (graphs_access_well own t.tree distinct t.is_graph n).once box_meaning box_laws (values_of found) round.inside.0
+          inside_holds t.tree (graphs_access_well own t.tree distinct t.is_graph n).once box_abstraction box_laws (values_of found) round.inside.0
           (told_in found) _ round.inside.1 q js n place listed inner b.asked v a.state b.among b.there value held b.holds
 
       never_strays : (js : List (Place × Bool)) (n : ℕ) (place : Place) → Contains (told_in found) (q, js)

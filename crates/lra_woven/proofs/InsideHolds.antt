@@ -5,7 +5,7 @@ use Rattle.std.specs.List.{Contains}
 use Rattle.std.proofs.lemmas.Option.{same_Some, slice_get_read}
 use Rattle.lra_linear_spec.proofs.Membership.{map_from}
 use Rattle.lra_base.specs.declared.refusals.Place.{Place}
-use Rattle.lra_domain.specs.Meaning.{Meaning}
+use Rattle.lra_domain.specs.Abstraction.{Abstraction}
 use Rattle.lra_domain.specs.Laws.{Laws}
 use Rattle.lra_program.specs.Step.{State}
 use Rattle.lra_program.specs.Accesses.{op_accesses_any, OpStrays}
@@ -30,7 +30,7 @@ module _ (g : Node) (once : AreAskedOnce op_accesses_any g) where
       let there = slice_get_read all (length all) y.0 b refl y.1 (sym y.2) in
       same_Some a b (sym at ∙ ap (λ (n : ℕ). slice_get all n) (once x.0 y.0 a b at there same) ∙ there)
 
-  pub inside_holds : {V H : Type 0} (m : Meaning V H) → Laws m → (values : List V) (before : Option ℕ) (told : List (ℕ × Told)) (flagged : Option ℕ)
+  pub inside_holds : {V H : Type 0} (m : Abstraction V H) → Laws m → (values : List V) (before : Option ℕ) (told : List (ℕ × Told)) (flagged : Option ℕ)
       → JudgesAccesses m (dropping m) g values before told flagged → (q : ℕ) (js : Told) (n : ℕ) (place : Place)
       → Contains told (q, js) → slice_get js n ≡ Some (place, true)
       → (b : Asked) (v : V) (s : State) → Contains (accessed_in None g) b → b.point ≡ q → slice_get values q ≡ Some v → Has m v s.store

@@ -9,9 +9,9 @@ use Rattle.std.proofs.lemmas.Option.{same_Some, none-some, slice_get-map}
 use Rattle.lra_linear_spec.proofs.Membership.{contains_cases, contains_none}
 use Rattle.lra_box.specs.declared.interval.Interval.{Interval}
 use Rattle.lra_box.specs.Bounds.{InInterval}
-use Rattle.lra_box.specs.Content.{Content}
+use Rattle.lra_box.specs.Content.{BoxContent}
 use Rattle.lra_box.specs.Covering.{has_wider}
-use Rattle.lra_box.specs.Meaning.{BoxHas}
+use Rattle.lra_box.specs.Abstraction.{BoxGamma}
 use Rattle.lra_box.specs.Tables.{has_bounds, bound_at, IntervalWithin}
 use Rattle.lra_box.proofs.AdmitLemmas.{bound_has}
 use Rattle.lra_rounds.specs.Intervals.{Row, Table, joined_option, OptionWithin, EachHas, RowWithin, TableWithin}
@@ -38,17 +38,17 @@ in_others false o p z h = h
 to_itself : (x y : ℕ) → y ≡ x → nat_eq y x ≡ true
 to_itself x y e = grind (arith, nat_tests)
 
-note_in : (notes : List (ℕ × Content)) (x : ℕ) (v : Content) (s : List ℤ) (z : ℤ) → Contains notes (x, v) → BoxHas v s → slice_get s x ≡ Some z
+note_in : (notes : List (ℕ × BoxContent)) (x : ℕ) (v : BoxContent) (s : List ℤ) (z : ℤ) → Contains notes (x, v) → BoxGamma v s → slice_get s x ≡ Some z
     → IsIn z (written_to x notes)
 note_in [] x v s z among h at = absurd (contains_none (x, v) among)
 note_in ((y, w) ∷ notes) x v s z among h at = elim (contains_cases (y, w) (x, v) notes among) [
-  | inl same ↦ in_own (nat_eq y x) (bound_at x w.bounds) (written_to x notes) z (to_itself x y (ap (λ (n : ℕ × Content). n.0) same))
-      (bound_in x w.bounds s z (subst (λ (u : Content). has_bounds u.bounds s) (sym (ap (λ (n : ℕ × Content). n.1) same)) h.1) at)
+  | inl same ↦ in_own (nat_eq y x) (bound_at x w.bounds) (written_to x notes) z (to_itself x y (ap (λ (n : ℕ × BoxContent). n.0) same))
+      (bound_in x w.bounds s z (subst (λ (u : BoxContent). has_bounds u.bounds s) (sym (ap (λ (n : ℕ × BoxContent). n.1) same)) h.1) at)
   | inr later ↦ in_others (nat_eq y x) (bound_at x w.bounds) (written_to x notes) z (note_in notes x v s z later h at)
 ]
 
 -- of the k-th global from x on
-written_has : (x more k y : ℕ) (notes : List (ℕ × Content)) (z : ℤ) → y ≡ x + k → k < more → IsIn z (written_to y notes)
+written_has : (x more k y : ℕ) (notes : List (ℕ × BoxContent)) (z : ℤ) → y ≡ x + k → k < more → IsIn z (written_to y notes)
     → HasNumber (written_from x more notes) k z
 written_has x zero k y notes z e low h = absurd (omega (arith, low))
 written_has x (suc more) zero y notes z e low h =
@@ -82,8 +82,8 @@ each_at Has (a ∷ xs) (b ∷ ys) (suc k) x all at = each_at Has xs ys k x all.1
 
 -- of the k-th thread: its table's interval has what a note's value has
 pub notes_written : {R : Type 0} (finding : Finding R) (globals : ℕ) (found : List R) (table : Table) → TableWithin (written_in finding globals found) table
-    → (k : ℕ) (r : R) → slice_get found k ≡ Some r → (x : ℕ) (v : Content) (s : List ℤ) (z : ℤ) → x < globals → Contains (finding.notes r) (x, v)
-    → BoxHas v s → slice_get s x ≡ Some z → HasWritten table k x z
+    → (k : ℕ) (r : R) → slice_get found k ≡ Some r → (x : ℕ) (v : BoxContent) (s : List ℤ) (z : ℤ) → x < globals → Contains (finding.notes r) (x, v)
+    → BoxGamma v s → slice_get s x ≡ Some z → HasWritten table k x z
 notes_written {R} finding globals found table within k r at x v s z low among h here =
     let writes : R → Row = λ (f : R). written_by globals (finding.notes f) in
     let own : slice_get (map writes found) k ≡ Some (writes r) = slice_get-map writes found k ∙ ap (option_map writes) at in

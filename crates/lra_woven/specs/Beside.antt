@@ -12,8 +12,8 @@ use Rattle.lra_operations.specs.declared.graph.Graph.{Graph}
 use Rattle.lra_operations.specs.Agree.{IsGraph, point_of}
 use Rattle.lra_flow.specs.Analysis.{IsUnreachable}
 use Rattle.lra_flow.specs.Opened.{opened}
-use Rattle.lra_box.specs.Content.{Content}
-use Rattle.lra_box.specs.Meaning.{box_meaning}
+use Rattle.lra_box.specs.Content.{BoxContent}
+use Rattle.lra_box.specs.Abstraction.{box_abstraction}
 use Rattle.lra_rounds.specs.Rounds.{Settled}
 use Rattle.lra_interleavings.specs.Interleavings.{thread_program, AtThread, FailsThread, StraysThread, Gives}
 use Rattle.lra_threads.specs.declared.found.ThreadFound.{ThreadFound}
@@ -27,16 +27,17 @@ module _ (P : Program) (fs : List Function) (end : Settled ThreadFound) where
     -- numbers
     pub stores : (k q : ℕ) (f : Function) (s : Site) (store : List ℤ) → slice_get fs k ≡ Some f →
         slice_get (sites_of (thread_program P f)) q ≡ Some s → AtThread P fs k (point_of s) store →
-        (found : ThreadFound) × (slice_get end.found k ≡ Some found) × (v : Content) ×
-        (slice_get (values_of found) q ≡ Some v) × box_meaning.has v store × (box_meaning.dims v ≡ length store)
+        (found : ThreadFound) × (slice_get end.found k ≡ Some found) × (v : BoxContent) ×
+        (slice_get (values_of found) q ≡ Some v) × box_abstraction.gamma v store
+        × (box_abstraction.dims v ≡ length store)
     -- no thread fails an assertion that is proved
     pub proved : (k q : ℕ) (f : Function) (s : Site) (found : ThreadFound) → slice_get fs k ≡ Some f →
         slice_get (sites_of (thread_program P f)) q ≡ Some s → slice_get end.found k ≡ Some found →
         Contains (verdicts_of found) (q, true) → FailsThread P fs k (point_of s) → ⊥
     -- no thread comes to a point whose value has no part
-    pub unreached : (k q : ℕ) (f : Function) (s : Site) (store : List ℤ) (found : ThreadFound) (v : Content) →
+    pub unreached : (k q : ℕ) (f : Function) (s : Site) (store : List ℤ) (found : ThreadFound) (v : BoxContent) →
         slice_get fs k ≡ Some f → slice_get (sites_of (thread_program P f)) q ≡ Some s →
-        slice_get end.found k ≡ Some found → slice_get (values_of found) q ≡ Some v → IsUnreachable box_meaning v →
+        slice_get end.found k ≡ Some found → slice_get (values_of found) q ≡ Some v → IsUnreachable box_abstraction v →
         AtThread P fs k (point_of s) store → ⊥
     -- no thread evaluates an access outside its array that is told to be inside
     pub inside : (k q : ℕ) (f : Function) (s : Site) (found : ThreadFound) (js : List (Place × Bool)) (n : ℕ)

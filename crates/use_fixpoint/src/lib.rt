@@ -3,9 +3,9 @@
 
 ghost use Rattle.std.specs.Prelude.{◌≡◌, ◌≤◌, ◌^◌, ℤ, List, map, IfOk, OnOk};
 ghost use Rattle.guzhtarel.specs.Domains.Actions.{Within};
-ghost use Rattle.guzhtarel.specs.Domains.Changes.{AllReturn, ways};
+ghost use Rattle.guzhtarel.specs.Domains.Changes.{AllReturn, actions_of_steps};
 ghost use Rattle.guzhtarel.specs.Domains.Moves.{SomeLeads};
-ghost use Rattle.guzhtarel.specs.Domains.Stores.{Has};
+ghost use Rattle.guzhtarel.specs.Domains.Gammas.{InGamma};
 
 use guzhtarel::{Change, ConSys, Domain, Grown, Mode, change_all};
 use std::alloc::{AllocError, Global};
@@ -17,12 +17,16 @@ fn join_steps<D: Domain>(
     value: &D,
     steps: &[Vec<Change>],
 ) -> Result<(), AllocError>
-    requires dims { D.meaning.dims all.old ≡ D.meaning.dims value.now }
-    requires fit { AllReturn (D.meaning.dims value.now) (ways (map (λ p. p.items) steps.now)) }
-    ensures dims { D.meaning.dims all.new ≡ D.meaning.dims all.old }
-    ensures kept { OnOk result (Within (Has D.meaning all.old) (Has D.meaning all.new)) }
-    ensures stores { OnOk result (D.meaning.formed all.old → (s t : List ℤ) → Has D.meaning value.now s →
-        SomeLeads (ways (map (λ p. p.items) steps.now)) s t → Has D.meaning all.new t) }
+    requires dims { D.abstraction.dims all.old ≡ D.abstraction.dims value.now }
+    requires fit { AllReturn (D.abstraction.dims value.now)
+        (actions_of_steps (map (λ p. p.items) steps.now)) }
+    ensures dims { D.abstraction.dims all.new ≡ D.abstraction.dims all.old }
+    ensures kept { OnOk result
+        (Within (InGamma D.abstraction all.old) (InGamma D.abstraction all.new)) }
+    ensures stores { OnOk result
+        (D.abstraction.well_formed all.old → (s t : List ℤ) → InGamma D.abstraction value.now s →
+        SomeLeads (actions_of_steps (map (λ p. p.items) steps.now)) s t →
+        InGamma D.abstraction all.new t) }
 {
     let Some((first, later)) = steps.split_first() else {
         return Ok(());
@@ -41,13 +45,15 @@ pub fn invariant<D: Domain>(
     steps: &[Vec<Change>],
     delay: u32,
 ) -> Result<D, AllocError>
-    requires few { D.meaning.dims start.now ≤ 2 ^ 30 }
-    requires fit { AllReturn (D.meaning.dims start.now) (ways (map (λ p. p.items) steps.now)) }
-    ensures dims { IfOk result (λ v. D.meaning.dims v ≡ D.meaning.dims start.now) }
-    ensures formed { IfOk result (λ v. D.meaning.formed v) }
-    ensures holds_start { IfOk result (λ v. Within (D.meaning.has start.now) (D.meaning.has v)) }
-    ensures inductive { IfOk result (λ v. (s t : List ℤ) → D.meaning.has v s →
-        SomeLeads (ways (map (λ p. p.items) steps.now)) s t → D.meaning.has v t) }
+    requires few { D.abstraction.dims start.now ≤ 2 ^ 30 }
+    requires fit { AllReturn (D.abstraction.dims start.now)
+        (actions_of_steps (map (λ p. p.items) steps.now)) }
+    ensures dims { IfOk result (λ v. D.abstraction.dims v ≡ D.abstraction.dims start.now) }
+    ensures formed { IfOk result (λ v. D.abstraction.well_formed v) }
+    ensures holds_start { IfOk result
+        (λ v. Within (D.abstraction.gamma start.now) (D.abstraction.gamma v)) }
+    ensures inductive { IfOk result (λ v. (s t : List ℤ) → D.abstraction.gamma v s →
+        SomeLeads (actions_of_steps (map (λ p. p.items) steps.now)) s t → D.abstraction.gamma v t) }
 {
     if start.is_empty() {
         return start.copy(alloc);

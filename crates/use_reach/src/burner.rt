@@ -3,7 +3,7 @@
 
 ghost use Rattle.std.specs.Prelude.{◌≡◌, ℤ, List, [], ◌∷◌, IfOk, length, map, pos};
 ghost use Rattle.guzhtarel.specs.Domains.Actions.{assign, test};
-ghost use Rattle.guzhtarel.specs.Domains.Changes.{AllReturn, action_of, actions_of, ways};
+ghost use Rattle.guzhtarel.specs.Domains.Changes.{AllReturn, action_of, actions_of, actions_of_steps};
 ghost use Rattle.use_reach.specs.Burner.{beginning, leaking, pausing, too_much};
 ghost use Rattle.use_reach.specs.Runs.{IsGiven, Reaches};
 
@@ -70,7 +70,7 @@ fn bad(alloc: Global) -> Result<Vec<Change>, AllocError>
 
 /// Whether it leaks too much, and the value that was found to tell it.
 pub fn leaks<D: Backward>(alloc: Global) -> Result<(Answer, D), AllocError>
-    ensures dims { IfOk result (λ r. D.meaning.dims r.1 ≡ 3) }
+    ensures dims { IfOk result (λ r. D.abstraction.dims r.1 ≡ 3) }
     ensures safe { IfOk result (λ r. r.0 ≡ Answer.Safe → (s t : List ℤ) → IsGiven 3 beginning s →
         Reaches (leaking ∷ pausing ∷ []) s t → ¬ IsGiven 3 too_much t) }
 {

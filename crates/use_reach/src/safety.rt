@@ -1,7 +1,7 @@
 //! Whether a run of steps reaches a bad store, told by an invariant.
 
 ghost use Rattle.std.specs.Prelude.{◌≡◌, ◌≤◌, ◌^◌, ℤ, List, [], ◌∷◌, map, IfOk};
-ghost use Rattle.guzhtarel.specs.Domains.Changes.{AllReturn, actions_of, ways};
+ghost use Rattle.guzhtarel.specs.Domains.Changes.{AllReturn, actions_of, actions_of_steps};
 ghost use Rattle.use_reach.specs.Runs.{IsGiven, Reaches};
 
 use guzhtarel::{Backward, Change, Domain, change_all};
@@ -21,8 +21,8 @@ pub enum Answer {
 fn given<D: Domain>(alloc: Global, n: usize, changes: &[Change]) -> Result<D, AllocError>
     requires few { n ≤ 2 ^ 30 }
     requires fit { AllReturn n (actions_of changes.now ∷ []) }
-    ensures dims { IfOk result (λ v. D.meaning.dims v ≡ n) }
-    ensures stores { IfOk result (λ v. (s : List ℤ) → IsGiven n (actions_of changes.now) s → D.meaning.has v s) }
+    ensures dims { IfOk result (λ v. D.abstraction.dims v ≡ n) }
+    ensures stores { IfOk result (λ v. (s : List ℤ) → IsGiven n (actions_of changes.now) s → D.abstraction.gamma v s) }
 {
     let mut value = D::universe(alloc, n, 1)?;
     change_all(&mut value, changes)?;
@@ -41,11 +41,12 @@ pub fn reach<D: Backward>(
 ) -> Result<(Answer, D), AllocError>
     requires few { n ≤ 2 ^ 30 }
     requires fit_first { AllReturn n (actions_of first.now ∷ []) }
-    requires fit_steps { AllReturn n (ways (map (λ p. p.items) steps.now)) }
+    requires fit_steps { AllReturn n (actions_of_steps (map (λ p. p.items) steps.now)) }
     requires fit_bad { AllReturn n (actions_of bad.now ∷ []) }
-    ensures dims { IfOk result (λ r. D.meaning.dims r.1 ≡ n) }
+    ensures dims { IfOk result (λ r. D.abstraction.dims r.1 ≡ n) }
     ensures safe { IfOk result (λ r. r.0 ≡ Answer.Safe → (s t : List ℤ) → IsGiven n (actions_of first.now) s →
-        Reaches (ways (map (λ p. p.items) steps.now)) s t → ¬ IsGiven n (actions_of bad.now) t) }
+        Reaches (actions_of_steps (map (λ p. p.items) steps.now)) s t →
+        ¬ IsGiven n (actions_of bad.now) t) }
 {
     let start = given::<D>(alloc, n, first)?;
     let value = invariant(alloc, &start, steps, delay)?;

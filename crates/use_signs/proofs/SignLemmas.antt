@@ -3,34 +3,34 @@ use Rattle.std.proofs.Common.{◌≡◌, ◌≤◌, ◌^◌, ℕ, ℤ, Bool, Lis
 use Rattle.std.specs.Prelude.{IsTrue}
 use Rattle.guzhtarel.specs.Domains.Actions.{Action, ActionFits, Within}
 use Rattle.guzhtarel.specs.Domains.Exactness.TheVariants.{Exact}
-use Rattle.guzhtarel.specs.Domains.Laws.{PartsTell}
-use Rattle.guzhtarel.specs.Domains.Meaning.{Meets, Joins, Values}
+use Rattle.guzhtarel.specs.Domains.Laws.{PartsAreExact}
+use Rattle.guzhtarel.specs.Domains.Abstraction.{TransfersTo, Joins, Values}
 use Rattle.guzhtarel.specs.Domains.Rank.{RankFits}
 use Rattle.guzhtarel.specs.EntryDomains.{Content, lies_in, of_entries}
-use Rattle.guzhtarel.specs.Domains.Unstrained.{meaning_of}
-use Rattle.guzhtarel.proofs.Calls.UnstrainedCalls as calls
+use Rattle.guzhtarel.specs.Domains.ExactDomains.{abstraction_of}
+use Rattle.guzhtarel.proofs.Calls.ExactCalls as calls
 use Rattle.guzhtarel.proofs.EntryDomains as entries
 use Rattle.use_signs.specs.Signs.{sign}
 use Rattle.use_signs.specs.Laws.{sign_facts, signs_facts}
 
-pub changed : (step : Action) (old new : Content Bool) → ActionFits step (length old.entries) → new ≡ (of_entries sign).after step old
-    → Meets (meaning_of (of_entries sign)) step old Exact new
+pub changed : (step : Action) (old new : Content Bool) → ActionFits step (length old.entries) → new ≡ (of_entries sign).transfer step old
+    → TransfersTo (abstraction_of (of_entries sign)) step old Exact new
 changed = calls.meets (of_entries sign) signs_facts
 
-pub joined : (a b new : Content Bool) → length a.entries ≡ length b.entries → new ≡ (of_entries sign).joined a b → Joins (meaning_of (of_entries sign)) a b Exact new
+pub joined : (a b new : Content Bool) → length a.entries ≡ length b.entries → new ≡ (of_entries sign).joined a b → Joins (abstraction_of (of_entries sign)) a b Exact new
 joined = calls.joins (of_entries sign) signs_facts
 
-pub valued : (head new : Content Bool) → new ≡ head → Values (meaning_of (of_entries sign)) head Exact new
+pub valued : (head new : Content Bool) → new ≡ head → Values (abstraction_of (of_entries sign)) head Exact new
 valued = calls.valued (of_entries sign) signs_facts
 
-pub whole : (n : ℕ) (v : Content Bool) → v ≡ (of_entries sign).whole n → (s : List ℤ) → (of_entries sign).has v s ↔ (length s ≡ n)
+pub whole : (n : ℕ) (v : Content Bool) → v ≡ (of_entries sign).top n → (s : List ℤ) → (of_entries sign).gamma v s ↔ (length s ≡ n)
 whole = calls.whole_has (of_entries sign) signs_facts
 
-pub covers : (a b : Content Bool) → IsTrue (lies_in sign a b) → Within ((of_entries sign).has a) ((of_entries sign).has b)
-covers = signs_facts.covered_stores
+pub covers : (a b : Content Bool) → IsTrue (lies_in sign a b) → Within ((of_entries sign).gamma a) ((of_entries sign).gamma b)
+covers = signs_facts.leq_stores
 
-pub rank_fits : (v : Content Bool) → length v.entries ≤ 2 ^ 30 → RankFits ((meaning_of (of_entries sign)).rank v)
+pub rank_fits : (v : Content Bool) → length v.entries ≤ 2 ^ 30 → RankFits ((abstraction_of (of_entries sign)).rank v)
 rank_fits = entries.rank_fits sign sign_facts
 
-pub parts_tell : (v : Content Bool) → PartsTell (meaning_of (of_entries sign)) v
+pub parts_tell : (v : Content Bool) → PartsAreExact (abstraction_of (of_entries sign)) v
 parts_tell = entries.parts_tell sign sign_facts

@@ -11,7 +11,7 @@ use Rattle.guzhtarel.specs.Linear.Vectors.{entry, product}
 use Rattle.guzhtarel.specs.Domains.Laws.{Laws}
 use Rattle.guzhtarel.specs.Entries.{AllHave, AllHold}
 use Rattle.guzhtarel.specs.EntryDomains.{EntryFacts, one_if, of_entries}
-use Rattle.guzhtarel.specs.Domains.Unstrained.{Facts, meaning_of, laws_of}
+use Rattle.guzhtarel.specs.Domains.ExactDomains.{Facts, abstraction_of, laws_of}
 use Rattle.guzhtarel.proofs.EntryChanges.{both_true}
 use Rattle.guzhtarel.proofs.EntryDomains.{facts_of}
 use Rattle.guzhtarel.proofs.Rows.UnitRows.{unit_product}
@@ -107,5 +107,5 @@ sign_facts = record {
 pub signs_facts : Facts (of_entries sign)
 signs_facts = facts_of sign sign_facts
 
-pub signs_laws : Laws (meaning_of (of_entries sign))
+pub signs_laws : Laws (abstraction_of (of_entries sign))
 signs_laws = laws_of (of_entries sign) signs_facts

@@ -2,12 +2,14 @@
 
 ghost use Rattle.std.specs.Prelude.{◌≡◌, IfOk, IsTrue, length};
 ghost use Rattle.guzhtarel.specs.Domains.Rank.{RankFits};
-ghost use Rattle.guzhtarel.specs.Domains.Unstrained.{meaning_of};
+ghost use Rattle.guzhtarel.specs.Domains.ExactDomains.{abstraction_of};
 ghost use Rattle.guzhtarel.specs.EntryDomains.{lies_in, of_entries, system_of_entries};
 ghost use Rattle.use_signs.specs.Signs.{sign};
 
 use crate::lists::{count_known, is_implied, is_sum_known, keep_both, push_signs};
-use guzhtarel::{ConSys, Domain, Exactness, Grown, Included, LinExpr, Mode, Rank, Test, Told};
+use guzhtarel::{
+    ConSys, Domain, ExactParts, Exactness, Grown, Included, LinExpr, Mode, Rank, Test,
+};
 use std::alloc::{AllocError, Global};
 use std::marker::Model;
 
@@ -32,7 +34,7 @@ impl Model for Signs {
 impl Domain for Signs {
     type Head = Signs;
 
-    ghost meaning = { meaning_of (of_entries sign) };
+    ghost abstraction = { abstraction_of (of_entries sign) };
 
     ghost use Rattle.use_signs.specs.Laws.{signs_laws};
 
@@ -160,9 +162,9 @@ impl Domain for Signs {
     }
 }
 
-impl Told for Signs {
+impl ExactParts for Signs {
     #[tactic(auto, using(crate::proofs::SignLemmas::parts_tell))]
-    fn parts_tell_all(&self) {}
+    fn parts_are_exact(&self) {}
 }
 
 impl Signs {
@@ -179,7 +181,7 @@ impl Signs {
         requires { length self.old.entries ≡ length other.now.entries }
         ensures joined { self.new ≡ (of_entries sign).joined self.old other.now }
         ensures dims { length self.new.entries ≡ length self.old.entries }
-        ensures fits { RankFits ((meaning_of (of_entries sign)).rank self.new) }
+        ensures fits { RankFits ((abstraction_of (of_entries sign)).rank self.new) }
     {
         self.nothing = self.nothing && other.nothing;
         keep_both(self.known.as_mut_slice(), other.known.as_slice());
@@ -190,7 +192,7 @@ impl Signs {
     #[tactic(auto, using(crate::proofs::SignLemmas::rank_fits))]
     fn number(&self) -> u64
         ensures number { result ≡ (of_entries sign).number self.now }
-        ensures fits { RankFits ((meaning_of (of_entries sign)).rank self.now) }
+        ensures fits { RankFits ((abstraction_of (of_entries sign)).rank self.now) }
     {
         self.nothing as u64 + count_known(self.known.as_slice())
     }

@@ -9,4 +9,4 @@ use Rattle.lra_back.proofs.backs.are_none_left.Given as goal
 -- nothing is left at those so far
 abbrev pub invariant-points : goal.invariant-points
 invariant-points g l = (tree : Node) → AreWays (seen l.paths.ways.items) tree
-    → IsNothingBefore g.D.Domain.meaning l.paths.globals.now (map site_view l.paths.sites.now) tree l.values l.point
+    → IsNothingBefore g.D.Domain.abstraction l.paths.globals.now (map site_view l.paths.sites.now) tree l.values l.point

@@ -19,7 +19,7 @@ returns-in_err-paths-clause-many g c q is =
 
 pub trace-requires : goal.trace-requires
 trace-requires g c =
-    let m = g.D.Domain.meaning in
+    let m = g.D.Domain.abstraction in
     let graph = c.args.graph.now in
     let sites = map site_view graph.sites.items in
     let paths = c.in_ok-paths.paths in
@@ -39,8 +39,8 @@ trace-requires g c =
 
 pub returns-clause-traced : goal.returns-clause-traced
 returns-clause-traced g c =
-    let m = g.D.Domain.meaning in
-    let b = g.D.Backward.retracing in
+    let m = g.D.Domain.abstraction in
+    let b = g.D.Backward.backward_abstraction in
     let globals = c.args.globals.now in
     let graph = c.args.graph.now in
     let sites = map site_view graph.sites.items in
@@ -68,11 +68,12 @@ returns-clause-proved g c =
     let graph = c.args.graph.now in
     let paths = c.in_ok-paths.paths in
     let of = c.in_ok-paths.ensures.of in
-    left_over g.D.Domain.meaning c.args.globals.now paths.globals.now (map site_view graph.sites.items) (map site_view paths.sites.now) (node_view graph.tree)
+    left_over g.D.Domain.abstraction c.args.globals.now paths.globals.now (map site_view graph.sites.items) (map site_view paths.sites.now)
+    (node_view graph.tree)
     of.0 (ap (map site_view) of.1) c.in_ok-found.found.values.items c.in_ok-found.found.values.items refl c.in_ok-found.found.is_proved
     (c.in_ok-found.ensures.proved (node_view graph.tree) of.2)
 
 pub returns-clause-wide : goal.returns-clause-wide
 returns-clause-wide g c =
-    subst (λ (s : List Site). AreWide g.D.Domain.meaning s c.in_ok-found.found.values.items) (ap (map site_view) c.in_ok-paths.ensures.of.1)
+    subst (λ (s : List Site). AreWide g.D.Domain.abstraction s c.in_ok-found.found.values.items) (ap (map site_view) c.in_ok-paths.ensures.of.1)
     c.in_ok-found.ensures.wide

@@ -8,5 +8,5 @@ pub returns-clause-proved : goal.returns-clause-proved
 returns-clause-proved g c tree is =
     let paths = c.args.paths.now in
     subst (λ (vs : List g.row.D.Denot). c.in_ok-is_proved.is_proved ≡ true
-    ↔ NothingLeftAtStart g.D.Domain.meaning paths.globals.now (map site_view paths.sites.now) tree vs) c.as_slice.ensures.value
+    ↔ NothingLeftAtStart g.D.Domain.abstraction paths.globals.now (map site_view paths.sites.now) tree vs) c.as_slice.ensures.value
     (c.in_ok-is_proved.ensures tree is)

@@ -22,17 +22,17 @@ unreachable-requires g c =
 pub offset_bounds-forward-point : goal.offset_bounds-forward-point
 offset_bounds-forward-point g c =
     let needs = c.requires.1 in
-    let inside = assertion_inside g.D.Domain.meaning (map site_view c.args.paths.now.sites.now) c.args.forward.now needs.wide c.args.point needs.asserts in
+    let inside = assertion_inside g.D.Domain.abstraction (map site_view c.args.paths.now.sites.now) c.args.forward.now needs.wide c.args.point needs.asserts in
     omega (arith, inside)
 
 pub bounds-forward-point : goal.bounds-forward-point
 bounds-forward-point g c =
     let needs = c.requires.1 in
-    assertion_inside g.D.Domain.meaning (map site_view c.args.paths.now.sites.now) c.args.forward.now needs.wide c.args.point needs.asserts
+    assertion_inside g.D.Domain.abstraction (map site_view c.args.paths.now.sites.now) c.args.forward.now needs.wide c.args.point needs.asserts
 
 pub deny-requires : goal.deny-requires
 deny-requires g c =
-    let m = g.D.Domain.meaning in
+    let m = g.D.Domain.abstraction in
     let sites = map site_view c.args.paths.now.sites.now in
     let forward = c.args.forward.now in
     let p = c.args.point in
@@ -42,7 +42,7 @@ deny-requires g c =
 
 pub returns-clause-task : goal.returns-clause-task
 returns-clause-task g c =
-    let m = g.D.Domain.meaning in
+    let m = g.D.Domain.abstraction in
     let paths = c.args.paths.now in
     let sites = map site_view paths.sites.now in
     let forward = c.args.forward.now in
@@ -62,7 +62,7 @@ returns-clause-task g c =
 
 pub returns-clause-prepared : goal.returns-clause-prepared
 returns-clause-prepared g c tree needs =
-    let m = g.D.Domain.meaning in
+    let m = g.D.Domain.abstraction in
     let sites = map site_view c.args.paths.now.sites.now in
     let forward = c.args.forward.now in
     let p = c.args.point in

@@ -12,8 +12,8 @@ use Rattle.lra_back.proofs.backs.trace.Goals as goal
 
 pub returns-clause-traced : goal.returns-clause-traced
 returns-clause-traced g c tree needs =
-    let m = g.D.Domain.meaning in
-    let b = g.D.Backward.retracing in
+    let m = g.D.Domain.abstraction in
+    let b = g.D.Backward.backward_abstraction in
     let globals = c.args.paths.now.globals.now in
     let sites = map site_view c.args.paths.now.sites.now in
     let forward = c.args.forward.now in
@@ -31,7 +31,7 @@ returns-clause-traced g c tree needs =
 
 pub returns-clause-wide : goal.returns-clause-wide
 returns-clause-wide g c =
-    let m = g.D.Domain.meaning in
+    let m = g.D.Domain.abstraction in
     let sites = map site_view c.args.paths.now.sites.now in
     let of = c.in_ok-task.ensures.of in
     let met = c.in_ok-met.ensures in

@@ -7,8 +7,8 @@ use Rattle.lra_back.proofs.heads.start_all.Goals as goal
 
 pub points-preserved : goal.points-preserved
 points-preserved g c =
-    let m = g.D.Domain.meaning in
-    let ops = dropping m g.D.Backward.retracing in
+    let m = g.D.Domain.abstraction in
+    let ops = dropping m g.D.Backward.backward_abstraction in
     let forward = c.args.forward.now in
     let i = c.points.value-index in
     let x = c.value-item.result in
@@ -27,14 +27,14 @@ points-preserved g c =
 
 pub returns-clause-started : goal.returns-clause-started
 returns-clause-started g c =
-    let m = g.D.Domain.meaning in
-    let ops = dropping m g.D.Backward.retracing in
+    let m = g.D.Domain.abstraction in
+    let ops = dropping m g.D.Backward.backward_abstraction in
     first_started ops m (λ v. refl) c.args.forward.now c.points.heads.items
     (first_all ops m c.args.forward.now c.points.value-index c.points.heads.items c.points-test.false c.points.invariant)
 
 pub returns-clause-heads : goal.returns-clause-heads
 returns-clause-heads g c =
-    let m = g.D.Domain.meaning in
-    let ops = dropping m g.D.Backward.retracing in
+    let m = g.D.Domain.abstraction in
+    let ops = dropping m g.D.Backward.backward_abstraction in
     first_heads ops m c.args.forward.now c.points.heads.items
     (first_all ops m c.args.forward.now c.points.value-index c.points.heads.items c.points-test.false c.points.invariant)

@@ -5,4 +5,5 @@ use Rattle.lra_back.proofs.heads.start_all.Given as goal
 
 -- those of the points so far
 abbrev pub invariant-points : goal.invariant-points
-invariant-points g l = AreFirst (dropping g.D.Domain.meaning g.D.Backward.retracing) g.D.Domain.meaning (take l.value-index l.forward) l.heads.items
+invariant-points g l =
+    AreFirst (dropping g.D.Domain.abstraction g.D.Backward.backward_abstraction) g.D.Domain.abstraction (take l.value-index l.forward) l.heads.items

@@ -7,8 +7,8 @@ use Rattle.lra_back.proofs.meets.meet_all.Goals as goal
 
 pub points-preserved : goal.points-preserved
 points-preserved g c =
-    let m = g.D.Domain.meaning in
-    let ops = dropping m g.D.Backward.retracing in
+    let m = g.D.Domain.abstraction in
+    let ops = dropping m g.D.Backward.backward_abstraction in
     let heads = c.args.going.now.heads.items in
     let forward = c.args.forward.now in
     let values = c.points.values.items in
@@ -36,5 +36,6 @@ points-preserved g c =
 
 pub returns-clause-met : goal.returns-clause-met
 returns-clause-met g c =
-    last_meets (dropping g.D.Domain.meaning g.D.Backward.retracing) c.args.going.now.heads.items c.args.forward.now c.args.going.now.flag c.points.point
+    last_meets (dropping g.D.Domain.abstraction g.D.Backward.backward_abstraction) c.args.going.now.heads.items c.args.forward.now c.args.going.now.flag
+    c.points.point
     c.points.flag c.points.values.items c.points-test.false c.requires.count c.points.invariant.still

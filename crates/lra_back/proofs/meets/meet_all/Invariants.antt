@@ -6,8 +6,9 @@ use Rattle.lra_back.proofs.meets.meet_all.Given as goal
 -- what is met from here on is met in all
 abbrev pub invariant-points : goal.invariant-points
 invariant-points g l = record {
-  still : StillMeets (dropping g.D.Domain.meaning g.D.Backward.retracing) l.going.heads.items l.forward l.going.flag l.point l.flag l.values.items;
+  still : StillMeets (dropping g.D.Domain.abstraction g.D.Backward.backward_abstraction) l.going.heads.items l.forward l.going.flag l.point l.flag
+      l.values.items;
   count : length l.values.items ≡ l.point;
   dims : (p : ℕ) (v : g.row.D.Denot) → slice_get l.values.items p ≡ Some v → (x : g.row.D.Denot) → slice_get l.forward p ≡ Some x
-      → g.D.Domain.meaning.dims v ≡ g.D.Domain.meaning.dims x;
+      → g.D.Domain.abstraction.dims v ≡ g.D.Domain.abstraction.dims x;
 }

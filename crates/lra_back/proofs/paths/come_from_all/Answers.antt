@@ -10,7 +10,7 @@ use Rattle.lra_back.proofs.paths.come_from_all.Goals as goal
 
 pub targets-init : goal.targets-init
 targets-init g c = record {
-  still = first_from (dropping g.D.Domain.meaning g.D.Backward.retracing) c.args.forward.now (paths_from c.args.source.now) c.args.heads.now;
+  still = first_from (dropping g.D.Domain.abstraction g.D.Backward.backward_abstraction) c.args.forward.now (paths_from c.args.source.now) c.args.heads.now;
   has = tt;
 }
 
@@ -19,7 +19,7 @@ paths_to-requires g c = record { table = c.requires.writable.table; few = c.requ
 
 pub join_paths-requires-clause-fit : goal.join_paths-requires-clause-fit
 join_paths-requires-clause-fit g c =
-    let m = g.D.Domain.meaning in
+    let m = g.D.Domain.abstraction in
     let i = c.targets.point in
     let at = read_at c.args.heads.now i c.index-heads-point.result c.targets-test.true c.index-heads-point.is in
     rw c.as_slice.ensures.value (subst (λ (xs : List (List Action)). AllFit xs (m.dims c.args.forward.now) (m.head_dims c.index-heads-point.result))
@@ -27,7 +27,7 @@ join_paths-requires-clause-fit g c =
 
 pub targets-preserved : goal.targets-preserved
 targets-preserved g c =
-    let ops = dropping g.D.Domain.meaning g.D.Backward.retracing in
+    let ops = dropping g.D.Domain.abstraction g.D.Backward.backward_abstraction in
     let i = c.targets.point in
     let at = read_at c.args.heads.now i c.index-heads-point.result c.targets-test.true c.index-heads-point.is in
     let by = rw c.as_slice.ensures.value at c.in_ok-joined.ensures.joins in
@@ -45,5 +45,6 @@ targets-preserved g c =
 
 pub returns-clause-comes : goal.returns-clause-comes
 returns-clause-comes g c =
-    last_from (dropping g.D.Domain.meaning g.D.Backward.retracing) c.args.forward.now (paths_from c.args.source.now) c.args.heads.now c.targets.point
+    last_from (dropping g.D.Domain.abstraction g.D.Backward.backward_abstraction) c.args.forward.now (paths_from c.args.source.now) c.args.heads.now
+    c.targets.point
     c.targets.joined.value c.targets.joined.exactness c.targets-test.false c.targets.invariant.still

@@ -6,6 +6,7 @@ use Rattle.lra_back.proofs.paths.come_from_all.Given as goal
 -- what is still to come comes to what is joined so far
 abbrev pub invariant-targets : goal.invariant-targets
 invariant-targets g l = record {
-  still : StillFrom (dropping g.D.Domain.meaning g.D.Backward.retracing) l.forward (paths_from l.source) l.heads l.point l.joined.value l.joined.exactness;
-  has : IfThereHas g.D.Domain.meaning (g.D.Domain.meaning.dims l.forward) l.joined.value;
+  still : StillFrom (dropping g.D.Domain.abstraction g.D.Backward.backward_abstraction) l.forward (paths_from l.source) l.heads l.point l.joined.value
+      l.joined.exactness;
+  has : IfThereHas g.D.Domain.abstraction (g.D.Domain.abstraction.dims l.forward) l.joined.value;
 }

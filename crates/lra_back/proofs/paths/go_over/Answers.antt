@@ -1,7 +1,7 @@
 -- Goals of `go_over`: from the value behind a path to the one before it.
 use Rattle.std.proofs.Common.{◌≡◌, ◌<◌, ◌-◌, suc, length, take, arith, subst, sym}
 use Rattle.std.specs.Borrow.{Bor}
-use Rattle.lra_domain.specs.Changes.{action_of, dims_behind}
+use Rattle.lra_domain.specs.Changes.{action_of, dims_after_actions}
 use Rattle.lra_domain.specs.declared.Exactness.{Exactness}
 use Rattle.lra_domain.specs.declared.changes.Change.{Change}
 use Rattle.lra_sides.specs.TableSides.{all_done}
@@ -11,7 +11,7 @@ use Rattle.lra_back.proofs.paths.go_over.Goals as goal
 
 pub undo-requires : goal.undo-requires
 undo-requires g c =
-    let m = g.D.Domain.meaning in
+    let m = g.D.Domain.abstraction in
     let path = c.args.path.now in
     let i = c.changes.index in
     let item = c.index-path-index.result in
@@ -19,12 +19,12 @@ undo-requires g c =
     let next : i ≡ suc (i - 1) = omega arith in
     undo_fits (all_done path) (m.dims c.args.forward.now) (m.dims c.args.value.now) (i - 1) (action_of item.now) (m.dims c.changes.value)
     (read_mapped (λ (x : Bor Change). action_of x.now) path (i - 1) item inside c.index-path-index.is) c.requires
-    (subst (λ k. m.dims c.changes.value ≡ dims_behind (take k (all_done path)) (m.dims c.args.forward.now)) next c.changes.invariant.has)
+    (subst (λ k. m.dims c.changes.value ≡ dims_after_actions (take k (all_done path)) (m.dims c.args.forward.now)) next c.changes.invariant.has)
 
 pub changes-preserved : goal.changes-preserved
 changes-preserved g c =
-    let m = g.D.Domain.meaning in
-    let ops = dropping m g.D.Backward.retracing in
+    let m = g.D.Domain.abstraction in
+    let ops = dropping m g.D.Backward.backward_abstraction in
     let path = c.args.path.now in
     let n = m.dims c.args.forward.now in
     let i = c.changes.index in

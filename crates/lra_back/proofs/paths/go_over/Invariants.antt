@@ -5,6 +5,6 @@ use Rattle.lra_back.proofs.paths.go_over.Given as goal
 
 -- the changes from this one on are gone over
 abbrev pub invariant-changes : goal.invariant-changes
-invariant-changes g l = IsOverFrom (dropping g.D.Domain.meaning g.D.Backward.retracing) g.D.Domain.meaning.dims (all_done l.path)
-    (g.D.Domain.meaning.dims l.forward)
+invariant-changes g l = IsOverFrom (dropping g.D.Domain.abstraction g.D.Backward.backward_abstraction) g.D.Domain.abstraction.dims (all_done l.path)
+    (g.D.Domain.abstraction.dims l.forward)
     l.index l.fn.value l.all l.value

@@ -7,7 +7,8 @@ use Rattle.lra_back.proofs.paths.join_paths.Given as goal
 -- what is still to come comes to what is joined so far
 abbrev pub invariant-paths : goal.invariant-paths
 invariant-paths g l = record {
-  still : StillComes (dropping g.D.Domain.meaning g.D.Backward.retracing) l.forward l.target (lists_done l.paths) l.fn.so_far.value l.fn.so_far.exactness
+  still : StillComes (dropping g.D.Domain.abstraction g.D.Backward.backward_abstraction) l.forward l.target (lists_done l.paths) l.fn.so_far.value
+      l.fn.so_far.exactness
       l.path-index l.joined.value l.joined.exactness;
-  has : IfThereHas g.D.Domain.meaning (g.D.Domain.meaning.dims l.forward) l.joined.value;
+  has : IfThereHas g.D.Domain.abstraction (g.D.Domain.abstraction.dims l.forward) l.joined.value;
 }

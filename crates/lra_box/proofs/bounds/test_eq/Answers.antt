@@ -5,7 +5,7 @@ use Rattle.std.specs.Int.{w128}
 use Rattle.std.proofs.lemmas.Int.{ints, to_z-of_z}
 use Rattle.std.proofs.lemmas.List.{length-map}
 use Rattle.lra_box.specs.Bounds.{form}
-use Rattle.lra_box.specs.Content.{seen}
+use Rattle.lra_box.specs.Content.{bounds_view}
 use Rattle.lra_box.proofs.TestLemmas.{equal_tested}
 use Rattle.lra_box.proofs.bounds.test_eq.Goals as goal
 
@@ -21,6 +21,6 @@ returns c =
     let minus : pos 0 -ℤ c.args.constant ≡ neg_ℤ c.args.constant = omega (arith, ints) in
     let two = rw (to_z-of_z w128 c.args.constant c.ranges.constant, minus, to_z-of_z w128 (neg_ℤ c.args.constant) fit, c.requires.negated) at c.test_ge-two.ensures.tested in
     record {
-      tested = equal_tested (form c.args.constant c.args.factors.now) (seen c.args.bounds.now) (seen c.test_ge-one.new.bounds)
-          (seen c.test_ge-two.new.bounds) _ _ _ one two c.worse.ensures.exact c.worse.ensures.flagged;
+      tested = equal_tested (form c.args.constant c.args.factors.now) (bounds_view c.args.bounds.now) (bounds_view c.test_ge-one.new.bounds)
+          (bounds_view c.test_ge-two.new.bounds) _ _ _ one two c.worse.ensures.exact c.worse.ensures.flagged;
     }

@@ -2,18 +2,18 @@
 use Rattle.std.proofs.Common.{rules, ◌≡◌, false, true, None}
 use Rattle.std.specs.Prelude.{pos, int_lt}
 use Rattle.lra_box.specs.Refine.{some_occurs}
-use Rattle.lra_box.specs.Content.{seen}
+use Rattle.lra_box.specs.Content.{bounds_view}
 use Rattle.lra_box.proofs.TestLemmas.{none_tested, constant_fails, constant_holds}
 use Rattle.lra_box.proofs.bounds.test_ge.Goals as goal
 
 pub returns-in_default : goal.returns-in_default
-returns-in_default c = let none : seen c.args.bounds.now ≡ None = search rules in record { tested = rw none (none_tested c.args.constant c.args.factors.now _ _) }
+returns-in_default c = let none : bounds_view c.args.bounds.now ≡ None = search rules in record { tested = rw none (none_tested c.args.constant c.args.factors.now _ _) }
 
 pub returns-then-constant-lt0 : goal.returns-then-constant-lt0
 returns-then-constant-lt0 c =
     let occurs : some_occurs c.args.factors.now ≡ false = search rules in
     let below : int_lt c.args.constant (pos 0) ≡ true = search rules in
-    record { tested = constant_fails c.args.constant c.args.factors.now (seen c.args.bounds.now) _ occurs below }
+    record { tested = constant_fails c.args.constant c.args.factors.now (bounds_view c.args.bounds.now) _ occurs below }
 
 pub returns-else-constant-lt0 : goal.returns-else-constant-lt0
 returns-else-constant-lt0 c =

@@ -1,7 +1,7 @@
 -- Goals of `push_equals`: adds the equalities of all places.
 use Rattle.std.proofs.Common.{rules, arith, suc, add-one, ◌≡◌, ◌∷◌, length}
 use Rattle.lra_linear_spec.specs.declared.ConKind.TheVariants.{Eq}
-use Rattle.lra_box.specs.Parts.{equal_rows}
+use Rattle.lra_box.specs.Parts.{box_equalities}
 use Rattle.lra_box.proofs.PartLemmas.{rows_added, kinds_added}
 use Rattle.lra_box.proofs.parts.push_equals.Goals as goal
 
@@ -16,7 +16,7 @@ loop-interval-preserved c =
       places = omega arith;
       dims = search rules;
       sound = sound.1;
-      rows = rw add-one (rows_added c.loop-interval.system.rows _ (equal_rows (length c.args.intervals.now) (suc c.loop-interval.k) c.in-Some.later.now) _ _ c.in_ok-push_equal.ensures.rows rows);
-      kinds = rw add-one (kinds_added Eq c.loop-interval.system.kinds _ _ _ (equal_rows (length c.args.intervals.now) (suc c.loop-interval.k) c.in-Some.later.now) c.in_ok-push_equal.ensures.kinds
+      rows = rw add-one (rows_added c.loop-interval.system.rows _ (box_equalities (length c.args.intervals.now) (suc c.loop-interval.k) c.in-Some.later.now) _ _ c.in_ok-push_equal.ensures.rows rows);
+      kinds = rw add-one (kinds_added Eq c.loop-interval.system.kinds _ _ _ (box_equalities (length c.args.intervals.now) (suc c.loop-interval.k) c.in-Some.later.now) c.in_ok-push_equal.ensures.kinds
           kinds);
     }

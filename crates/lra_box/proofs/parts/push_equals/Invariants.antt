@@ -1,16 +1,16 @@
 use Rattle.std.proofs.Common.{◌≡◌, ◌+◌, ◌++◌, length, replicate}
 use Rattle.lra_linear_spec.specs.declared.ConKind.TheVariants.{Eq}
-use Rattle.lra_box.specs.Bounds.{AllSound}
-use Rattle.lra_box.specs.Parts.{equal_rows}
+use Rattle.lra_box.specs.Bounds.{AllValidIntervals}
+use Rattle.lra_box.specs.Parts.{box_equalities}
 use Rattle.lra_box.proofs.parts.push_equals.Given as goal
 
 abbrev pub invariant-loop-interval : goal.invariant-loop-interval
 invariant-loop-interval l = record {
   places : l.k + length l.left ≡ length l.intervals;
   dims : l.system.dims ≡ length l.intervals;
-  sound : AllSound l.left;
-  rows : l.system.rows ++ equal_rows (length l.intervals) l.k l.left ≡ l.fn.system.rows ++ equal_rows (length l.intervals) 0 l.intervals;
-  kinds : l.system.kinds ++ replicate (length (equal_rows (length l.intervals) l.k l.left)) Eq ≡ l.fn.system.kinds ++ replicate (length (equal_rows (length l.intervals) 0 l.intervals)) Eq;
+  sound : AllValidIntervals l.left;
+  rows : l.system.rows ++ box_equalities (length l.intervals) l.k l.left ≡ l.fn.system.rows ++ box_equalities (length l.intervals) 0 l.intervals;
+  kinds : l.system.kinds ++ replicate (length (box_equalities (length l.intervals) l.k l.left)) Eq ≡ l.fn.system.kinds ++ replicate (length (box_equalities (length l.intervals) 0 l.intervals)) Eq;
 }
 
 abbrev pub decreases-loop-interval : goal.decreases-loop-interval

@@ -1,7 +1,7 @@
 -- Goals of `push_unequals`: adds the inequalities of all places.
 use Rattle.std.proofs.Common.{rules, arith, suc, add-one, ◌≡◌, ◌∷◌, length}
 use Rattle.lra_linear_spec.specs.declared.ConKind.TheVariants.{Ge}
-use Rattle.lra_box.specs.Parts.{unequal_rows}
+use Rattle.lra_box.specs.Parts.{box_inequalities}
 use Rattle.lra_box.proofs.PartLemmas.{rows_added, kinds_added}
 use Rattle.lra_box.proofs.parts.push_unequals.Goals as goal
 
@@ -16,7 +16,9 @@ loop-interval-preserved c =
       places = omega arith;
       dims = search rules;
       sound = sound.1;
-      rows = rw add-one (rows_added c.loop-interval.system.rows _ (unequal_rows (length c.args.intervals.now) (suc c.loop-interval.k) c.in-Some.later.now) _ _ c.in_ok-push_unequal.ensures.rows rows);
-      kinds = rw add-one (kinds_added Ge c.loop-interval.system.kinds _ _ _ (unequal_rows (length c.args.intervals.now) (suc c.loop-interval.k) c.in-Some.later.now) c.in_ok-push_unequal.ensures.kinds
+      rows = rw add-one (rows_added c.loop-interval.system.rows _ (box_inequalities (length c.args.intervals.now) (suc c.loop-interval.k) c.in-Some.later.now) _ _ c.in_ok-push_unequal.ensures.rows
+          rows);
+      kinds = rw add-one (kinds_added Ge c.loop-interval.system.kinds _ _ _ (box_inequalities (length c.args.intervals.now) (suc c.loop-interval.k) c.in-Some.later.now)
+          c.in_ok-push_unequal.ensures.kinds
           kinds);
     }

@@ -7,7 +7,7 @@ use Rattle.lra_change.proofs.cases.+change_in_turn.Goals as goal
 
 pub returns-clause-changes : goal.returns-clause-changes
 returns-clause-changes g t c =
-    let m = g.D.Domain.meaning in
+    let m = g.D.Domain.abstraction in
     let v = c.args.value.now in
     let step = action_of c.in-Some.first.now in
     let cut : c.args.changes.now ≡ c.in-Some.first.now ∷ c.in-Some.later.now = grind (arith, common_steps) in

@@ -10,14 +10,14 @@ change-requires g c = subst (λ (k : ℕ). CanBeMade (action_of c.args.step.now)
 
 pub remove_last-requires : goal.remove_last-requires
 remove_last-requires g c =
-    let m = g.D.Domain.meaning in
+    let m = g.D.Domain.abstraction in
     let wide : m.dims c.change.new.self ≡ m.dims c.args.value.now + 2 =
     c.in_ok-two.ensures.dims ∙ ap (dims_after (action_of c.args.step.now)) (c.in_ok-one.ensures.dims ∙ c.requires.two) ∙ c.requires.stays.1 in
     omega (arith, wide)
 
 pub returns-clause-changes : goal.returns-clause-changes
 returns-clause-changes g c =
-    let m = g.D.Domain.meaning in
+    let m = g.D.Domain.abstraction in
     let step = action_of c.args.step.now in
     let two = done_one m step c.change_in_turn.new.value c.in_ok-two.two c.change.new.self c.in_ok-two.ensures.meets c.in_ok-two.ensures.dims
     c.in_ok-two.ensures.capped in
@@ -29,7 +29,7 @@ returns-clause-changes g c =
 
 pub returns-clause-dims : goal.returns-clause-dims
 returns-clause-dims g c =
-    let m = g.D.Domain.meaning in
+    let m = g.D.Domain.abstraction in
     let wide : m.dims c.change.new.self ≡ m.dims c.args.value.now + 2 =
     c.in_ok-two.ensures.dims ∙ ap (dims_after (action_of c.args.step.now)) (c.in_ok-one.ensures.dims ∙ c.requires.two) ∙ c.requires.stays.1 in
     let gone = c.in_ok-three.ensures.dims in

@@ -20,7 +20,7 @@ join-requires g c =
 
 pub returns-clause-changes : goal.returns-clause-changes
 returns-clause-changes g c =
-    let m = g.D.Domain.meaning in
+    let m = g.D.Domain.abstraction in
     let v = c.args.value.now in
     let two = rw c.in_ok-other.ensures at c.in_ok-two.ensures.changes in
     let same = rw c.in_ok-other.ensures at c.in_ok-two.ensures.dims in

@@ -6,7 +6,7 @@ use Rattle.lra_change.proofs.cases.change_in_first_case.Goals as goal
 pub change_in_case-requires-clause-begins : goal.change_in_case-requires-clause-begins
 change_in_case-requires-clause-begins g c =
     rw (c.as_slice.ensures.value, c.in_ok-begun.ensures, c.dims.ensures)
-    (first_made c.args.division.now (g.D.Domain.meaning.dims c.args.value.now) c.requires.divides c.requires.few)
+    (first_made c.args.division.now (g.D.Domain.abstraction.dims c.args.value.now) c.requires.divides c.requires.few)
 
 pub change_in_case-requires-clause-two : goal.change_in_case-requires-clause-two
 change_in_case-requires-clause-two g c = rw (c.as_slice.ensures.value, c.in_ok-begun.ensures) refl

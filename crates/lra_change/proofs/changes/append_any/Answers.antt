@@ -7,7 +7,7 @@ use Rattle.lra_change.proofs.changes.append_any.Goals as goal
 
 pub returns-clause-changes : goal.returns-clause-changes
 returns-clause-changes g c =
-    let m = g.D.Domain.meaning in
+    let m = g.D.Domain.abstraction in
     let v = c.args.value.now in
     let made = done_one m (embed 1) v c.in_ok-exactness.exactness c.embed.new.self c.in_ok-exactness.ensures.meets c.in_ok-exactness.ensures.dims
     c.in_ok-exactness.ensures.capped in

@@ -9,18 +9,18 @@ use Rattle.lra_change.proofs.changes.give.Goals as goal
 
 pub returns-in-Waiting-clause-gives : goal.returns-in-Waiting-clause-gives
 returns-in-Waiting-clause-gives g c =
-    let m = g.D.Domain.meaning in
+    let m = g.D.Domain.abstraction in
     let v = c.args.value.now in
     cell_as m (m.dims v) c.args.target (Waiting c.in-Waiting.field-0) (seen_of (m.dims v) c.args.base (expr_view c.args.e.now)) v _ v c.in-Waiting.is
     (done_none m v)
 
 pub set-requires-clause-place : goal.set-requires-clause-place
 set-requires-clause-place g c =
-    variable_below c.args.target.cell c.in-Variable.place (g.D.Domain.meaning.dims c.args.value.now) c.in-Variable.is c.requires.place
+    variable_below c.args.target.cell c.in-Variable.place (g.D.Domain.abstraction.dims c.args.value.now) c.in-Variable.is c.requires.place
 
 pub returns-in_ok-held-in-Variable-clause-gives : goal.returns-in_ok-held-in-Variable-clause-gives
 returns-in_ok-held-in-Variable-clause-gives g c =
-    let m = g.D.Domain.meaning in
+    let m = g.D.Domain.abstraction in
     let v = c.args.value.now in
     let x = c.in-Variable.place in
     let seen = seen_of (m.dims v) c.args.base (expr_view c.args.e.now) in

@@ -9,17 +9,17 @@ use Rattle.lra_change.proofs.changes.give_any_value.Goals as goal
 
 pub returns-in-Waiting-clause-gives : goal.returns-in-Waiting-clause-gives
 returns-in-Waiting-clause-gives g c =
-    let m = g.D.Domain.meaning in
+    let m = g.D.Domain.abstraction in
     let v = c.args.value.now in
     cell_as m (m.dims v) c.args.target (Waiting c.in-Waiting.field-0) Unseen v _ v c.in-Waiting.is (done_none m v)
 
 pub forget-requires : goal.forget-requires
 forget-requires g c =
-    variable_below c.args.target.cell c.in-Variable.place (g.D.Domain.meaning.dims c.args.value.now) c.in-Variable.is c.requires.place
+    variable_below c.args.target.cell c.in-Variable.place (g.D.Domain.abstraction.dims c.args.value.now) c.in-Variable.is c.requires.place
 
 pub returns-in_ok-held-in-Variable-clause-gives : goal.returns-in_ok-held-in-Variable-clause-gives
 returns-in_ok-held-in-Variable-clause-gives g c =
-    let m = g.D.Domain.meaning in
+    let m = g.D.Domain.abstraction in
     let v = c.args.value.now in
     let x = c.in-Variable.place in
     let made = done_one m (forget x) v c.in_ok-exactness-in-Variable.exactness c.forget.new.self c.in_ok-exactness-in-Variable.ensures.meets

@@ -8,7 +8,7 @@ use Rattle.lra_change.proofs.changes.push_one.Goals as goal
 
 pub returns-clause-pushes : goal.returns-clause-pushes
 returns-clause-pushes g c =
-    let m = g.D.Domain.meaning in
+    let m = g.D.Domain.abstraction in
     let v = c.args.value.now in
     let e = expr_view c.args.argument.now.value in
     let sets = rw c.dims-place.ensures at c.in_ok-two.ensures.sets in

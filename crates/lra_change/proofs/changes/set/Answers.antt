@@ -8,22 +8,22 @@ use Rattle.lra_change.proofs.changes.set.Goals as goal
 
 pub assign-requires-clause-width : goal.assign-requires-clause-width
 assign-requires-clause-width g c =
-    seen_width c.dims.result (g.D.Domain.meaning.dims c.args.value.now) c.args.base (expr_view c.args.e.now) c.in_ok-seen.seen c.in-Linear.form
+    seen_width c.dims.result (g.D.Domain.abstraction.dims c.args.value.now) c.args.base (expr_view c.args.e.now) c.in_ok-seen.seen c.in-Linear.form
     c.dims.ensures c.in-Linear.is c.in_ok-seen.ensures
 
 pub assign_in_cases-requires-clause-divides : goal.assign_in_cases-requires-clause-divides
 assign_in_cases-requires-clause-divides g c =
-    (seen_divides c.dims.result (g.D.Domain.meaning.dims c.args.value.now) c.args.base (expr_view c.args.e.now) c.in_ok-seen.seen c.in-Divided.division
+    (seen_divides c.dims.result (g.D.Domain.abstraction.dims c.args.value.now) c.args.base (expr_view c.args.e.now) c.in_ok-seen.seen c.in-Divided.division
     c.in-Divided.form c.dims.ensures c.in-Divided.is c.in_ok-seen.ensures).0
 
 pub assign_in_cases-requires-clause-width : goal.assign_in_cases-requires-clause-width
 assign_in_cases-requires-clause-width g c =
-    (seen_divides c.dims.result (g.D.Domain.meaning.dims c.args.value.now) c.args.base (expr_view c.args.e.now) c.in_ok-seen.seen c.in-Divided.division
+    (seen_divides c.dims.result (g.D.Domain.abstraction.dims c.args.value.now) c.args.base (expr_view c.args.e.now) c.in_ok-seen.seen c.in-Divided.division
     c.in-Divided.form c.dims.ensures c.in-Divided.is c.in_ok-seen.ensures).1
 
 pub returns-clause-sets : goal.returns-clause-sets
 returns-clause-sets g c =
-    let m = g.D.Domain.meaning in
+    let m = g.D.Domain.abstraction in
     let v = c.args.value.now in
     let seen = λ (k : ℕ). seen_of k c.args.base (expr_view c.args.e.now) in
     let there = Divided c.in-Divided.division c.in-Divided.form in

@@ -10,15 +10,15 @@ use Rattle.lra_change.proofs.comparisons.leave_comparison.Goals as goal
 
 pub leave_difference-requires-clause-width : goal.leave_difference-requires-clause-width
 leave_difference-requires-clause-width g c =
-    difference_fits c.dims.result (g.D.Domain.meaning.dims c.args.value.now) c.args.around.base (expr_view c.args.left.now) (expr_view c.args.right.now)
+    difference_fits c.dims.result (g.D.Domain.abstraction.dims c.args.value.now) c.args.around.base (expr_view c.args.left.now) (expr_view c.args.right.now)
     c.in_ok-seen.seen c.dims.ensures c.in_ok-seen.ensures
 
 pub returns-clause-leaves : goal.returns-clause-leaves
 returns-clause-leaves g c =
-    let n = g.D.Domain.meaning.dims c.args.value.now in
+    let n = g.D.Domain.abstraction.dims c.args.value.now in
     let op = comparison_view c.args.op in
     let s = c.in_ok-seen.seen in
     let difference = λ (k : ℕ). difference_seen k c.args.around.base (expr_view c.args.left.now) (expr_view c.args.right.now) in
     let is : difference n ≡ s = ap difference (sym c.dims.ensures) ∙ sym c.in_ok-seen.ensures in
-    leaves_as g.D.Domain.meaning c.leave_difference.result c.args.value.now c.args.before c.leave_difference.new.value (comparison_moves n op s)
+    leaves_as g.D.Domain.abstraction c.leave_difference.result c.args.value.now c.args.before c.leave_difference.new.value (comparison_moves n op s)
     (comparison_moves n op (difference n)) (ap (comparison_moves n op) is) c.leave_difference.ensures.leaves

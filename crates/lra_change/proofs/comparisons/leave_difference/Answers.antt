@@ -10,12 +10,12 @@ use Rattle.lra_change.proofs.comparisons.leave_difference.Goals as goal
 
 pub returns-in-Unseen-clause-leaves : goal.returns-in-Unseen-clause-leaves
 returns-in-Unseen-clause-leaves g c =
-    rw c.in-Unseen.is ((stay_takes (dropping g.D.Domain.meaning) c.args.value.now c.args.before c.args.value.now c.args.before).0 (refl, refl))
+    rw c.in-Unseen.is ((stay_takes (dropping g.D.Domain.abstraction) c.args.value.now c.args.before c.args.value.now c.args.before).0 (refl, refl))
 
 pub returns-in_default-clause-leaves : goal.returns-in_default-clause-leaves
 returns-in_default-clause-leaves g c =
-    let n = g.D.Domain.meaning.dims c.args.value.now in
+    let n = g.D.Domain.abstraction.dims c.args.value.now in
     let op = comparison_view c.args.op in
     let s = c.args.seen.now in
-    leaves_as g.D.Domain.meaning c.leave_seen.result c.args.value.now c.args.before c.leave_seen.new.value (split_moves n op s) (comparison_moves n op s)
+    leaves_as g.D.Domain.abstraction c.leave_seen.result c.args.value.now c.args.before c.leave_seen.new.value (split_moves n op s) (comparison_moves n op s)
     (split_as n op s c.in_default.not-Unseen) c.leave_seen.ensures.leaves

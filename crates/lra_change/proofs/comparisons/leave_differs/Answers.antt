@@ -1,7 +1,7 @@
 -- Goals of `leave_differs`: what `<` or `>` leaves of the value.
 use Rattle.std.proofs.Common.{refl, sym, ◌∙◌}
 use Rattle.lra_base.specs.Operators.{below, above}
-use Rattle.lra_domain.specs.Meaning.{worse}
+use Rattle.lra_domain.specs.Abstraction.{worse}
 use Rattle.lra_flow.specs.Operations.{dropping}
 use Rattle.lra_flow.specs.MovesOf.{seen_moves}
 use Rattle.lra_flow.proofs.Takes.{join_takes}
@@ -9,7 +9,7 @@ use Rattle.lra_change.proofs.comparisons.leave_differs.Goals as goal
 
 pub returns-clause-leaves : goal.returns-clause-leaves
 returns-clause-leaves g c =
-    let m = g.D.Domain.meaning in
+    let m = g.D.Domain.abstraction in
     let n = m.dims c.args.value.now in
     let d = c.args.seen.now in
     rw (c.worse-2.ensures.is, c.worse.ensures.is) ((join_takes (dropping m) c.args.value.now c.args.before c.join.new.self (worse (worse c.in_ok-less.one c.in_ok-two.two) c.in_ok-joined.joined)

@@ -9,12 +9,13 @@ use Rattle.lra_change.proofs.comparisons.leave_divided.Goals as goal
 
 pub change_in_cases-requires-clause-stays : goal.change_in_cases-requires-clause-stays
 change_in_cases-requires-clause-stays g c =
-    test_stays c.args.op c.args.d.now c.in-Some.test (g.D.Domain.meaning.dims c.args.value.now) c.requires.width (sym c.in_ok-test_of.ensures ∙ c.in-Some.is)
+    test_stays c.args.op c.args.d.now c.in-Some.test (g.D.Domain.abstraction.dims c.args.value.now) c.requires.width
+    (sym c.in_ok-test_of.ensures ∙ c.in-Some.is)
 
 pub returns-in-None-clause-leaves : goal.returns-in-None-clause-leaves
 returns-in-None-clause-leaves g c =
     let none : comparison_test (comparison_view c.args.op) c.args.d.now ≡ None = sym c.in_ok-test_of.ensures ∙ c.in-None.is in
-    rw none ((stay_takes (dropping g.D.Domain.meaning) c.args.value.now c.args.before c.args.value.now c.args.before).0 (refl, refl))
+    rw none ((stay_takes (dropping g.D.Domain.abstraction) c.args.value.now c.args.before c.args.value.now c.args.before).0 (refl, refl))
 
 pub returns-in_ok-exactness-in-Some-clause-leaves : goal.returns-in_ok-exactness-in-Some-clause-leaves
 returns-in_ok-exactness-in-Some-clause-leaves g c =

@@ -19,7 +19,7 @@ leave_divided-requires-clause-width g c =
 
 pub returns-in-Unseen-clause-leaves : goal.returns-in-Unseen-clause-leaves
 returns-in-Unseen-clause-leaves g c =
-    rw c.in-Unseen.is ((stay_takes (dropping g.D.Domain.meaning) c.args.value.now c.args.before c.args.value.now c.args.before).0 (refl, refl))
+    rw c.in-Unseen.is ((stay_takes (dropping g.D.Domain.abstraction) c.args.value.now c.args.before c.args.value.now c.args.before).0 (refl, refl))
 
 pub returns-in-Linear-clause-leaves : goal.returns-in-Linear-clause-leaves
 returns-in-Linear-clause-leaves g c = rw c.in-Linear.is c.leave_linear.ensures.leaves

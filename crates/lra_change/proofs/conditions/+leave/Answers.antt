@@ -16,7 +16,7 @@ use Rattle.lra_change.proofs.conditions.+leave.Goals as goal
 
 pub leave-returns-in-Compare-clause-leaves : goal.leave-returns-in-Compare-clause-leaves
 leave-returns-in-Compare-clause-leaves g t c =
-    let m = g.D.Domain.meaning in
+    let m = g.D.Domain.abstraction in
     let n = m.dims c.args.value.now in
     let difference = difference_seen n c.args.base (expr_view c.in-Compare.left) (expr_view c.in-Compare.right) in
     let shown = ap cond_view c.in-Compare.is ∙ compare_view c.in-Compare.op c.in-Compare.left c.in-Compare.right in
@@ -28,7 +28,7 @@ leave-returns-in-Compare-clause-leaves g t c =
 
 pub leave-returns-in-Nonzero-clause-leaves : goal.leave-returns-in-Nonzero-clause-leaves
 leave-returns-in-Nonzero-clause-leaves g t c =
-    let m = g.D.Domain.meaning in
+    let m = g.D.Domain.abstraction in
     let n = m.dims c.args.value.now in
     leaves_as m c.leave_nonzero.result c.args.value.now c.args.before c.leave_nonzero.new.value (guard n c.args.base c.args.wanted (nonzero (expr_view c.in-Nonzero.e)))
     (guard n c.args.base c.args.wanted (cond_view c.args.condition.now))
@@ -36,7 +36,7 @@ leave-returns-in-Nonzero-clause-leaves g t c =
 
 pub leave-returns-in-Opposite-clause-leaves : goal.leave-returns-in-Opposite-clause-leaves
 leave-returns-in-Opposite-clause-leaves g t c =
-    let m = g.D.Domain.meaning in
+    let m = g.D.Domain.abstraction in
     let n = m.dims c.args.value.now in
     leaves_as m c.leave.result c.args.value.now c.args.before c.leave.new.value (guard n c.args.base (not c.args.wanted) (cond_view c.deref.result.now))
     (guard n c.args.base c.args.wanted (cond_view c.args.condition.now))
@@ -45,7 +45,7 @@ leave-returns-in-Opposite-clause-leaves g t c =
 
 pub leave-returns-in-All-clause-leaves : goal.leave-returns-in-All-clause-leaves
 leave-returns-in-All-clause-leaves g t c =
-    let m = g.D.Domain.meaning in
+    let m = g.D.Domain.abstraction in
     let n = m.dims c.args.value.now in
     leaves_as m c.leave_all.result c.args.value.now c.args.before c.leave_all.new.value
     (guard n c.args.base c.args.wanted (all_of (cond_view c.deref-in-All.result.now) (map cond_view c.as_slice.result.now)))
@@ -55,7 +55,7 @@ leave-returns-in-All-clause-leaves g t c =
 
 pub leave-returns-in-Any-clause-leaves : goal.leave-returns-in-Any-clause-leaves
 leave-returns-in-Any-clause-leaves g t c =
-    let m = g.D.Domain.meaning in
+    let m = g.D.Domain.abstraction in
     let n = m.dims c.args.value.now in
     leaves_as m c.leave_any.result c.args.value.now c.args.before c.leave_any.new.value
     (guard n c.args.base c.args.wanted (any_of (cond_view c.deref-in-Any.result.now) (map cond_view c.as_slice-in-Any.result.now)))
@@ -66,7 +66,7 @@ leave-returns-in-Any-clause-leaves g t c =
 
 pub leave_all-returns-then-wanted-clause-leaves : goal.leave_all-returns-then-wanted-clause-leaves
 leave_all-returns-then-wanted-clause-leaves g t c =
-    let m = g.D.Domain.meaning in
+    let m = g.D.Domain.abstraction in
     let n = m.dims c.args.value.now in
     let base = c.args.around.base in
     let first = cond_view c.args.first.now in
@@ -77,7 +77,7 @@ leave_all-returns-then-wanted-clause-leaves g t c =
 
 pub leave_all-returns-else-wanted-clause-leaves : goal.leave_all-returns-else-wanted-clause-leaves
 leave_all-returns-else-wanted-clause-leaves g t c =
-    let m = g.D.Domain.meaning in
+    let m = g.D.Domain.abstraction in
     let n = m.dims c.args.value.now in
     let base = c.args.around.base in
     let first = cond_view c.args.first.now in
@@ -88,7 +88,7 @@ leave_all-returns-else-wanted-clause-leaves g t c =
 
 pub leave_any-returns-then-wanted-clause-leaves : goal.leave_any-returns-then-wanted-clause-leaves
 leave_any-returns-then-wanted-clause-leaves g t c =
-    let m = g.D.Domain.meaning in
+    let m = g.D.Domain.abstraction in
     let n = m.dims c.args.value.now in
     let base = c.args.around.base in
     let first = cond_view c.args.first.now in
@@ -99,7 +99,7 @@ leave_any-returns-then-wanted-clause-leaves g t c =
 
 pub leave_any-returns-else-wanted-clause-leaves : goal.leave_any-returns-else-wanted-clause-leaves
 leave_any-returns-else-wanted-clause-leaves g t c =
-    let m = g.D.Domain.meaning in
+    let m = g.D.Domain.abstraction in
     let n = m.dims c.args.value.now in
     let base = c.args.around.base in
     let first = cond_view c.args.first.now in
@@ -119,14 +119,14 @@ leave_in_turn-leave-requires-in-rest g t c κs within =
 
 pub leave_in_turn-rest-preserved : goal.leave_in_turn-rest-preserved
 leave_in_turn-rest-preserved g t c =
-    turned_on g.D.Domain.meaning c.args.around.base c.args.wanted (cond_view c.args.first.now) c.args.rest.now c.rest.next-index c.next-item.result c.args.value.now c.args.before
+    turned_on g.D.Domain.abstraction c.args.around.base c.args.wanted (cond_view c.args.first.now) c.args.rest.now c.rest.next-index c.next-item.result c.args.value.now c.args.before
     c.rest.value c.rest.exactness c.leave-in-rest.new.value c.in_ok-exactness-2.exactness c.rest-test.true c.next-item.is c.rest.invariant c.in_ok-exactness-2.ensures.leaves
     c.in_ok-exactness-2.ensures.dims
 
 pub leave_in_turn-returns-clause-leaves : goal.leave_in_turn-returns-clause-leaves
 leave_in_turn-returns-clause-leaves g t c =
     let all : length c.args.rest.now ≤ c.rest.next-index = omega (arith, c.rest-test.false) in
-    turned_all g.D.Domain.meaning c.args.around.base c.args.wanted (cond_view c.args.first.now) c.args.rest.now c.rest.next-index c.args.value.now c.args.before c.rest.value
+    turned_all g.D.Domain.abstraction c.args.around.base c.args.wanted (cond_view c.args.first.now) c.args.rest.now c.rest.next-index c.args.value.now c.args.before c.rest.value
     c.rest.exactness all c.rest.invariant
 
 pub leave_either-leave-requires : goal.leave_either-leave-requires
@@ -137,7 +137,7 @@ leave_either-leave-requires g t c κs within =
 
 pub leave_either-returns-clause-leaves : goal.leave_either-returns-clause-leaves
 leave_either-returns-clause-leaves g t c =
-    either_all g.D.Domain.meaning c.args.around.base c.join_lefts.result c.args.wanted (cond_view c.args.first.now) (map cond_view c.args.rest.now)
+    either_all g.D.Domain.abstraction c.args.around.base c.join_lefts.result c.args.wanted (cond_view c.args.first.now) (map cond_view c.args.rest.now)
     (record { value = c.args.value.now; exactness = c.args.before }) c.in_ok-from.from c.in_ok-apart.apart.lefts.items c.in_ok-apart.apart.off (cond_view c.in_ok-apart.apart.last.now)
     (record { value = c.leave.new.value; exactness = c.in_ok-exactness.exactness }) c.join_lefts.new.value c.in_ok-from.ensures c.in_ok-apart.ensures.apart
     c.in_ok-exactness.ensures.leaves c.join_lefts.ensures.joined

@@ -20,4 +20,4 @@ abbrev pub decreases-leave_either : goal.decreases-leave_either
 decreases-leave_either g l = 2 * chain_size l.first.now l.rest.now
 
 abbrev pub invariant-leave_in_turn-rest : goal.invariant-leave_in_turn-rest
-invariant-leave_in_turn-rest g l = IsInTurnSoFar g.D.Domain.meaning l.around.base l.wanted (cond_view l.first) (map cond_view (take l.next-index l.rest)) l.fn.value l.fn.before l.value l.exactness
+invariant-leave_in_turn-rest g l = IsInTurnSoFar g.D.Domain.abstraction l.around.base l.wanted (cond_view l.first) (map cond_view (take l.next-index l.rest)) l.fn.value l.fn.before l.value l.exactness

@@ -5,7 +5,8 @@ use Rattle.lra_change.proofs.conditions.divide_lefts.Given as goal
 
 abbrev pub invariant-operands : goal.invariant-operands
 invariant-operands g l = record {
-  either : IsEitherSoFar g.D.Domain.meaning l.around.base l.wanted (cond_view l.first) (map cond_view l.rest) l.fn.from l.lefts.items l.off (cond_view l.last)
+  either : IsEitherSoFar g.D.Domain.abstraction l.around.base l.wanted (cond_view l.first) (map cond_view l.rest) l.fn.from l.lefts.items l.off
+      (cond_view l.last)
       (map cond_view (drop l.next-index l.rest));
   at : l.last ≡ get_or (l.first ∷ l.rest) l.next-index l.last;
 }

@@ -16,7 +16,7 @@ assign-requires-clause-width g c =
 
 pub returns-clause-appends : goal.returns-clause-appends
 returns-clause-appends g c =
-    let m = g.D.Domain.meaning in
+    let m = g.D.Domain.abstraction in
     let form = rw c.dims-place.ensures at c.in_ok-form.ensures in
     let assigns = rw c.dims-place.ensures at c.in_ok-two.ensures.meets in
     let v = c.args.value.now in

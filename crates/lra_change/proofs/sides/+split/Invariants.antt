@@ -14,9 +14,9 @@ abbrev pub decreases-split_any : goal.decreases-split_any
 decreases-split_any g l = chain_size l.first.now l.rest.now
 
 abbrev pub invariant-split_all-rest : goal.invariant-split_all-rest
-invariant-split_all-rest g l = IsDividedSoFar g.D.Domain.meaning l.base true (cond_view l.first) (map cond_view l.rest) l.fn.from l.before.items l.sides.on l.sides.off
+invariant-split_all-rest g l = IsDividedSoFar g.D.Domain.abstraction l.base true (cond_view l.first) (map cond_view l.rest) l.fn.from l.before.items l.sides.on l.sides.off
     (map cond_view (drop l.next-index l.rest))
 
 abbrev pub invariant-split_any-rest : goal.invariant-split_any-rest
-invariant-split_any-rest g l = IsDividedSoFar g.D.Domain.meaning l.base false (cond_view l.first) (map cond_view l.rest) l.fn.from l.before.items l.sides.off l.sides.on
+invariant-split_any-rest g l = IsDividedSoFar g.D.Domain.abstraction l.base false (cond_view l.first) (map cond_view l.rest) l.fn.from l.before.items l.sides.off l.sides.on
     (map cond_view (drop l.next-index l.rest))

@@ -12,7 +12,7 @@ test-requires-2 g c = one_wide c.in_ok-high.high c.dims-live.result c.args.place
 
 pub returns-clause-holds : goal.returns-clause-holds
 returns-clause-holds g c =
-    let m = g.D.Domain.meaning in
+    let m = g.D.Domain.abstraction in
     let low = rw c.dims-live.ensures at c.in_ok-low.ensures in
     let high = rw c.dims-live.ensures at c.in_ok-high.ensures in
     rw (c.worse-2.ensures.is, c.worse.ensures.is) (λ p v made.

@@ -3,4 +3,4 @@ use Rattle.lra_closed.proofs.Stores.{stores_closed}
 use Rattle.lra_closed.proofs.laws.stores_are_closed.Goals as goal
 
 pub returns : goal.returns
-returns g c = stores_closed g.D.Domain.meaning g.met.D.Domain.laws
+returns g c = stores_closed g.D.Domain.abstraction g.met.D.Domain.laws

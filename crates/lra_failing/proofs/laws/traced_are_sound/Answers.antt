@@ -3,4 +3,4 @@ use Rattle.lra_failing.proofs.FailingRuns.{traced_sound}
 use Rattle.lra_failing.proofs.laws.traced_are_sound.Goals as goal
 
 pub returns : goal.returns
-returns g c = traced_sound g.D.Domain.meaning g.D.Backward.retracing g.met.D.Domain.laws
+returns g c = traced_sound g.D.Domain.abstraction g.D.Backward.backward_abstraction g.met.D.Domain.laws

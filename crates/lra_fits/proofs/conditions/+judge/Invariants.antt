@@ -15,7 +15,7 @@ decreases-judge_sides g l = 2 * chain_size l.first.now l.rest.now
 
 abbrev pub invariant-judge_sides-rest : goal.invariant-judge_sides-rest
 invariant-judge_sides-rest g l = record {
-  judged : AreJudgedSoFar g.D.Domain.meaning g.L.Leaf.both g.L.Leaf.one l.around.base l.wanted (cond_view l.first) (map cond_view l.rest) l.fn.from
+  judged : AreJudgedSoFar g.D.Domain.abstraction g.L.Leaf.both g.L.Leaf.one l.around.base l.wanted (cond_view l.first) (map cond_view l.rest) l.fn.from
       l.fn.told.items (cond_view l.last) (map cond_view (drop l.next-index l.rest)) l.value l.so_far l.told.items;
   smaller : cond_size l.last < chain_size l.first l.rest;
 }

@@ -6,5 +6,5 @@ use Rattle.lra_fits.proofs.expressions.judge_arguments.Given as goal
 
 abbrev pub invariant-arguments : goal.invariant-arguments
 invariant-arguments g l = HasAnswers
-    (ArgumentsJudged g.D.Domain.meaning l.value l.base (map argument_view (take l.argument-index l.arguments)))
+    (ArgumentsJudged g.D.Domain.abstraction l.value l.base (map argument_view (take l.argument-index l.arguments)))
     l.fn.answers.items l.answers.items

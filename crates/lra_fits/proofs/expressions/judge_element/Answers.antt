@@ -11,7 +11,7 @@ use Rattle.lra_fits.proofs.expressions.judge_element.Goals as goal
 
 pub returns : goal.returns
 returns g c =
-    let m = g.D.Domain.meaning in
+    let m = g.D.Domain.abstraction in
     let v = c.args.value.now in
     let e = expr_view c.args.e.now in
     let gets : Receiver → List Bool → Type 0 = λ r. GivenJudged m v c.args.base r e in

@@ -6,5 +6,5 @@ use Rattle.lra_fits.proofs.questions.fill_table.Given as goal
 
 -- the verdicts on what is done so far
 abbrev pub invariant-doings : goal.invariant-doings
-invariant-doings g l = Fills (dropping g.D.Domain.meaning) g.Q.Question.told l.values
+invariant-doings g l = Fills (dropping g.D.Domain.abstraction) g.Q.Question.told l.values
     (asked_by g.Q.Question.asks (map done_view (take l.done-index l.doings))) l.fn.table.items l.table.items

@@ -17,6 +17,6 @@ fill_table-requires-clause-below g c =
 pub returns : goal.returns
 returns g c =
     let fills = rw c.as_slice.ensures.value at c.in_ok-fill_table.ensures in
-    table_finds (dropping g.D.Domain.meaning) g.Q.Question.told c.args.values.now g.Q.Question.asks (node_view c.args.tree.now)
+    table_finds (dropping g.D.Domain.abstraction) g.Q.Question.told c.args.values.now g.Q.Question.asks (node_view c.args.tree.now)
     (map done_view c.in_ok-doings.doings.items) (length c.args.values.now) c.in_ok-table.table.items c.fill_table.new.table.items c.in_ok-doings.ensures
     c.in_ok-table.ensures fills c.args.flagged c.in_ok-found.found.flagged c.in_ok-found.found.answers.items c.in_ok-found.ensures.told c.in_ok-found.ensures.flags

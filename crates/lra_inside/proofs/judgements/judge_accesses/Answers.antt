@@ -9,7 +9,7 @@ use Rattle.lra_inside.proofs.judgements.judge_accesses.Goals as goal
 
 pub returns : goal.returns
 returns g c =
-    let m = g.D.Domain.meaning in
+    let m = g.D.Domain.abstraction in
     finds_shown (dropping m) (λ op v js e. OpInside m (dropping m) op v js.items e) (OpInside m (dropping m)) (λ js. js.items) (λ op v js e told. told)
     (accessed_in None (node_view c.args.tree.now)) c.args.values.now c.args.flagged c.in_ok-found.found.flagged c.in_ok-found.found.answers.items
     c.in_ok-found.ensures

@@ -12,7 +12,7 @@ returns g c plan =
     let begun = c.nothing_yet in
     let flag : begun.result.flag ≡ noted c.args.point e c.args.flag =
     ◌∙◌ {c = noted c.args.point e c.args.flag} begun.ensures.flag c.note-flag.ensures in
-    entering_passed (g.F.Disturb.others c.args.others.now) g.D.Domain.meaning plan c.args.point c.args.flag c.args.value
+    entering_passed (g.F.Interfere.interference c.args.others.now) g.D.Domain.abstraction plan c.args.point c.args.flag c.args.value
     new e (seen begun.result)
     (c.in_ok-exactness.ensures.admits, c.apply.ensures.dims, c.apply.ensures.capped)
     (begun_seen begun.result new (noted c.args.point e c.args.flag) begun.ensures.found begun.ensures.normal flag)

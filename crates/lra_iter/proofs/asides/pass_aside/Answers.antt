@@ -10,15 +10,15 @@ use Rattle.lra_iter.proofs.asides.pass_aside.Goals as goal
 
 pub returns-in-Entering : goal.returns-in-Entering
 returns-in-Entering g c plan =
-    let o = g.F.Disturb.others c.args.others.now in
-    let m = g.D.Domain.meaning in
+    let o = g.F.Interfere.interference c.args.others.now in
+    let m = g.D.Domain.abstraction in
     subst (λ x. IfOk c.admit.result (λ r. IsPassed o m plan (aside c.args.point x) c.args.flag c.args.value (seen r)))
     (sym c.in-Entering.is) (c.admit.ensures plan)
 
 pub returns-in-Noting : goal.returns-in-Noting
 returns-in-Noting g c plan =
-    let o = g.F.Disturb.others c.args.others.now in
-    let m = g.D.Domain.meaning in
+    let o = g.F.Interfere.interference c.args.others.now in
+    let m = g.D.Domain.abstraction in
     let at = c.args.point in
     let place = c.in-Noting.variable in
     subst (λ x. IfOk c.note_gift.result (λ r. IsPassed o m plan (aside at x) c.args.flag c.args.value (seen r)))

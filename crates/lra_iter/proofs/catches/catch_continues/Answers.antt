@@ -9,7 +9,7 @@ use Rattle.lra_iter.proofs.catches.catch_continues.Goals as goal
 pub returns-clause-caught : goal.returns-clause-caught
 returns-clause-caught g c =
     let inner = c.args.inner in
-    let joined : AreJoined (dropping g.D.Domain.meaning) inner.normal inner.found.continues.items c.in_ok-exactness.exactness c.join_all.new.value =
+    let joined : AreJoined (dropping g.D.Domain.abstraction) inner.normal inner.found.continues.items c.in_ok-exactness.exactness c.join_all.new.value =
     rw (c.as_slice.ensures.value, c.take_continues-jumps.ensures.taken) at c.in_ok-exactness.ensures.joined in (
       c.join_all.new.value,
       c.in_ok-exactness.exactness,

@@ -10,8 +10,9 @@ use Rattle.lra_iter.proofs.catches.catch_returns.Goals as goal
 pub join_all-requires : goal.join_all-requires
 join_all-requires g c =
     let pushed : c.push.new.self.items ≡ c.args.inner.found.returns.items ++ c.args.inner.normal ∷ [] = search rules in
-    let have : AllHave g.D.Domain.meaning (g.D.Domain.meaning.dims c.remove-first.result) c.remove-first.new.self.items =
-    (returns_have g.D.Domain.meaning c.args.inner.found.returns.items c.push.new.self.items c.remove-first.new.self.items c.args.inner.normal c.remove-first.result pushed c.remove-first.ensures.value
+    let have : AllHave g.D.Domain.abstraction (g.D.Domain.abstraction.dims c.remove-first.result) c.remove-first.new.self.items =
+    (returns_have g.D.Domain.abstraction c.args.inner.found.returns.items c.push.new.self.items c.remove-first.new.self.items c.args.inner.normal c.remove-first.result pushed
+    c.remove-first.ensures.value
     c.remove-first.ensures.items c.requires).1 in
     rw c.as_slice.ensures.value have
 
@@ -22,7 +23,7 @@ returns-clause-caught g c =
     let joined = rw c.as_slice.ensures.value at c.in_ok-exactness.ensures.joined in (
       c.join_all.new.value,
       c.in_ok-exactness.exactness,
-      returns_joined (dropping g.D.Domain.meaning) inner.found.returns.items c.push.new.self.items c.remove-first.new.self.items inner.normal c.remove-first.result c.join_all.new.value
+      returns_joined (dropping g.D.Domain.abstraction) inner.found.returns.items c.push.new.self.items c.remove-first.new.self.items inner.normal c.remove-first.result c.join_all.new.value
           c.in_ok-exactness.exactness
           pushed c.remove-first.ensures.value c.remove-first.ensures.items joined,
       c.take_returns-jumps.ensures.left inner.normal c.join_all.new.value inner.flag c.note.result ∙ ap (λ f. behind returned (seen inner) c.join_all.new.value f) c.note.ensures,
@@ -31,5 +32,5 @@ returns-clause-caught g c =
 pub returns-clause-dims : goal.returns-clause-dims
 returns-clause-dims g c =
     let pushed : c.push.new.self.items ≡ c.args.inner.found.returns.items ++ c.args.inner.normal ∷ [] = search rules in
-    c.in_ok-exactness.ensures.dims ∙ (returns_have g.D.Domain.meaning c.args.inner.found.returns.items c.push.new.self.items c.remove-first.new.self.items c.args.inner.normal c.remove-first.result
+    c.in_ok-exactness.ensures.dims ∙ (returns_have g.D.Domain.abstraction c.args.inner.found.returns.items c.push.new.self.items c.remove-first.new.self.items c.args.inner.normal c.remove-first.result
     pushed c.remove-first.ensures.value c.remove-first.ensures.items c.requires).0

@@ -12,8 +12,8 @@ use Rattle.lra_iter.proofs.loops.enter.Goals as goal
 
 pub returns : goal.returns
 returns g c others kept =
-    let o = g.F.Disturb.others others in
-    let m = g.D.Domain.meaning in
+    let o = g.F.Interfere.interference others in
+    let m = g.D.Domain.abstraction in
     let l = c.args.the_loop.now in
     let body = node_view l.body.now in
     let e = c.in_ok-exactness.exactness in

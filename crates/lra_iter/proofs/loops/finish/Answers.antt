@@ -6,8 +6,8 @@ use Rattle.lra_iter.proofs.loops.finish.Goals as goal
 
 pub returns-clause-keeps : goal.returns-clause-keeps
 returns-clause-keeps g c others plan loops all kept =
-    let o = g.F.Disturb.others others in
-    let m = g.D.Domain.meaning in
+    let o = g.F.Interfere.interference others in
+    let m = g.D.Domain.abstraction in
     let l = c.args.the_loop.now in
     let left = rw c.into_outcome.ensures at c.in_ok-outcome.ensures.left in
     c.in_ok-end.ensures others plan loops

@@ -10,13 +10,14 @@ narrow_on-requires g c =
       given.1,
       given.2,
       given.4,
-      narrowing_narrowed (g.F.Disturb.others given.0) g.D.Domain.meaning given.1 c.args.place given.2 given.3 c.args.outcome
+      narrowing_narrowed (g.F.Interfere.interference given.0) g.D.Domain.abstraction given.1 c.args.place given.2 given.3 c.args.outcome
           c.args.memory.now given.4 given.5 given.6,
     )
 
 pub returns-clause-leads : goal.returns-clause-leads
 returns-clause-leads g c others set whole part may owed made =
-    c.narrow_on.ensures.leads others set whole may (narrowing_narrowed (g.F.Disturb.others others) g.D.Domain.meaning set c.args.place whole part c.args.outcome
+    c.narrow_on.ensures.leads others set whole may
+    (narrowing_narrowed (g.F.Interfere.interference others) g.D.Domain.abstraction set c.args.place whole part c.args.outcome
     c.args.memory.now may owed made)
 
 pub returns-clause-falls : goal.returns-clause-falls

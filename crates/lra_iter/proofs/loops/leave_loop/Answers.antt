@@ -10,7 +10,7 @@ use Rattle.lra_iter.proofs.loops.leave_loop.Goals as goal
 
 pub returns-clause-left : goal.returns-clause-left
 returns-clause-left g c =
-    let m = g.D.Domain.meaning in
+    let m = g.D.Domain.abstraction in
     let l = c.args.the_loop.now in
     let out = c.leave.new.value in (
       out,

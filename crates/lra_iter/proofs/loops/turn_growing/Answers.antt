@@ -15,14 +15,14 @@ place_of l first growing entered = record { the_loop = l; first = first; growing
 
 pub enter-requires : goal.enter-requires
 enter-requires g c =
-    let m = g.D.Domain.meaning in
+    let m = g.D.Domain.abstraction in
     let given = c.requires in
-    growing_few (g.F.Disturb.others given.0) m given.1 c.args.the_loop given.2 c.args.first c.args.growing c.args.kept given.3 given.4 given.5
+    growing_few (g.F.Interfere.interference given.0) m given.1 c.args.the_loop given.2 c.args.first c.args.growing c.args.kept given.3 given.4 given.5
 
 pub returns-in-Again-clause-leads : goal.returns-in-Again-clause-leads
 returns-in-Again-clause-leads g c others set whole memory may head =
-    let o = g.F.Disturb.others others in
-    let m = g.D.Domain.meaning in
+    let o = g.F.Interfere.interference others in
+    let m = g.D.Domain.abstraction in
     let l = c.args.the_loop in
     let growing = c.args.growing in
     let entered = subst (λ r. IsEntered o m l.plan.now l.point l.base (cond_view l.condition.now)
@@ -36,13 +36,13 @@ returns-in-Again-clause-leads g c others set whole memory may head =
 pub returns-in-Again-clause-steps : goal.returns-in-Again-clause-steps
 returns-in-Again-clause-steps g c b set =
     let parts = c.into_parts-entered in
-    growing_again_less g.D.Domain.meaning set c.again.result
+    growing_again_less g.D.Domain.abstraction set c.again.result
     (place_of c.args.the_loop c.args.first c.args.growing parts.result.0) b parts.result.1 c.again.ensures
 
 pub returns-in-Anew-clause-leads : goal.returns-in-Anew-clause-leads
 returns-in-Anew-clause-leads g c others set whole memory may head =
-    let o = g.F.Disturb.others others in
-    let m = g.D.Domain.meaning in
+    let o = g.F.Interfere.interference others in
+    let m = g.D.Domain.abstraction in
     let l = c.args.the_loop in
     let growing = c.args.growing in
     let entered = subst (λ r. IsEntered o m l.plan.now l.point l.base (cond_view l.condition.now)
@@ -56,5 +56,5 @@ returns-in-Anew-clause-leads g c others set whole memory may head =
 pub returns-in-Anew-clause-steps : goal.returns-in-Anew-clause-steps
 returns-in-Anew-clause-steps g c b set =
     let l = c.args.the_loop in
-    growing_less g.D.Domain.meaning set c.opens.result (place_of l c.args.first c.args.growing c.in-Anew.entered) b
+    growing_less g.D.Domain.abstraction set c.opens.result (place_of l c.args.first c.args.growing c.in-Anew.entered) b
     (record { node = l.body; value = c.in-Anew.value; flag = c.in-Anew.flag }) refl c.opens.ensures

@@ -9,14 +9,14 @@ use Rattle.lra_iter.proofs.loops.turn_narrowing.Goals as goal
 
 pub enter-requires : goal.enter-requires
 enter-requires g c =
-    let m = g.D.Domain.meaning in
+    let m = g.D.Domain.abstraction in
     let given = c.requires in
-    waiting_few (g.F.Disturb.others given.0) m given.1 c.args.narrowing given.2 c.args.flag given.3 given.4 given.5
+    waiting_few (g.F.Interfere.interference given.0) m given.1 c.args.narrowing given.2 c.args.flag given.3 given.4 given.5
 
 pub returns-in-Again-clause-leads : goal.returns-in-Again-clause-leads
 returns-in-Again-clause-leads g c others set whole memory may waiting kept =
-    let o = g.F.Disturb.others others in
-    let m = g.D.Domain.meaning in
+    let o = g.F.Interfere.interference others in
+    let m = g.D.Domain.abstraction in
     let n = c.args.narrowing in
     let l = n.the_loop in
     let entered = subst (λ r. IsEntered o m l.plan.now l.point l.base (cond_view l.condition.now)
@@ -30,13 +30,13 @@ returns-in-Again-clause-leads g c others set whole memory may waiting kept =
 pub returns-in-Again-clause-steps : goal.returns-in-Again-clause-steps
 returns-in-Again-clause-steps g c b set =
     let parts = c.into_parts-entered in
-    narrowing_again_less g.D.Domain.meaning set c.again.result
+    narrowing_again_less g.D.Domain.abstraction set c.again.result
     (record { narrowing = c.args.narrowing; entered = parts.result.0 }) b parts.result.1 c.again.ensures
 
 pub returns-in-Anew-clause-leads : goal.returns-in-Anew-clause-leads
 returns-in-Anew-clause-leads g c others set whole memory may waiting kept =
-    let o = g.F.Disturb.others others in
-    let m = g.D.Domain.meaning in
+    let o = g.F.Interfere.interference others in
+    let m = g.D.Domain.abstraction in
     let n = c.args.narrowing in
     let l = n.the_loop in
     let entered = subst (λ r. IsEntered o m l.plan.now l.point l.base (cond_view l.condition.now)
@@ -49,5 +49,5 @@ returns-in-Anew-clause-leads g c others set whole memory may waiting kept =
 pub returns-in-Anew-clause-steps : goal.returns-in-Anew-clause-steps
 returns-in-Anew-clause-steps g c b set =
     let n = c.args.narrowing in
-    narrowing_less g.D.Domain.meaning set c.opens.result (record { narrowing = n; entered = c.in-Anew.entered }) b
+    narrowing_less g.D.Domain.abstraction set c.opens.result (record { narrowing = n; entered = c.in-Anew.entered }) b
     (record { node = n.the_loop.body; value = c.in-Anew.value; flag = c.in-Anew.flag }) refl c.opens.ensures

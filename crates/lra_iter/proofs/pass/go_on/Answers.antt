@@ -19,33 +19,34 @@ use Rattle.lra_iter.proofs.pass.go_on.Goals as goal
 pub go_on_row-requires : goal.go_on_row-requires
 go_on_row-requires g c =
     let given = c.requires in
-    let here = subst (λ p. IsOpen (g.F.Disturb.others given.0) g.D.Domain.meaning given.1 p given.2 given.3) c.in-Row.is given.5 in
+    let here = subst (λ p. IsOpen (g.F.Interfere.interference given.0) g.D.Domain.abstraction given.1 p given.2 given.3) c.in-Row.is given.5 in
     (given.0, given.1, given.2, given.3, c.args.memory.now, given.7, given.4, here, given.6)
 
 pub returns-in-Row-clause-leads : goal.returns-in-Row-clause-leads
 returns-in-Row-clause-leads g c others set whole part may owed made =
-    let here = subst (λ p. IsOpen (g.F.Disturb.others others) g.D.Domain.meaning set p whole part) c.in-Row.is owed in
+    let here = subst (λ p. IsOpen (g.F.Interfere.interference others) g.D.Domain.abstraction set p whole part) c.in-Row.is owed in
     c.go_on_row.ensures.leads others set whole part c.args.memory.now may here made
 
 pub returns-in-Row-clause-falls : goal.returns-in-Row-clause-falls
 returns-in-Row-clause-falls g c others set whole part owed =
-    let m = g.D.Domain.meaning in
+    let m = g.D.Domain.abstraction in
     subst (λ p. IfOk c.go_on_row.result (λ n. next_left m (2 ^ 64) set n < place_left m (2 ^ 64) set p)) (sym c.in-Row.is)
     (c.go_on_row.ensures.falls (2 ^ 64) set)
 
 pub returns-in-Last-clause-leads : goal.returns-in-Last-clause-leads
 returns-in-Last-clause-leads g c others set whole part may owed made =
-    let m = g.D.Domain.meaning in
-    let here = subst (λ p. IsOpen (g.F.Disturb.others others) m set p whole part) c.in-Last.is owed in
+    let m = g.D.Domain.abstraction in
+    let here = subst (λ p. IsOpen (g.F.Interfere.interference others) m set p whole part) c.in-Last.is owed in
     c.passed.ensures.leads others set whole c.args.memory.now (IfOk-weaker c.follow_with.result
     (λ r. AreInTurn c.in-Last.found c.args.outcome.found r.found × (r.normal ≡ c.args.outcome.normal) ×
-    (r.flag ≡ c.args.outcome.flag)) (λ r. IsMade (g.F.Disturb.others others) m set whole (seen r) c.args.memory.now)
-    (λ r taken. last_made (g.F.Disturb.others others) m set c.in-Last.found whole part c.args.memory.now c.args.outcome r here made taken.0 taken.1 taken.2)
+    (r.flag ≡ c.args.outcome.flag)) (λ r. IsMade (g.F.Interfere.interference others) m set whole (seen r) c.args.memory.now)
+    (λ r taken. last_made (g.F.Interfere.interference others) m set c.in-Last.found whole part c.args.memory.now c.args.outcome r here made taken.0 taken.1
+    taken.2)
     c.follow_with.ensures)
 
 pub returns-in-Last-clause-falls : goal.returns-in-Last-clause-falls
 returns-in-Last-clause-falls g c others set whole part owed =
-    let m = g.D.Domain.meaning in
+    let m = g.D.Domain.abstraction in
     ends_less m set c.passed.result (2 ^ 64) (place_left m (2 ^ 64) set c.args.place)
     (subst (λ p. 0 < place_left m (2 ^ 64) set p) (sym c.in-Last.is) (omega arith)) (c.passed.ensures.ends (2 ^ 64) set)
 
@@ -53,39 +54,39 @@ returns-in-Last-clause-falls g c others set whole part owed =
 
 pub returns-in-Choice-clause-leads : goal.returns-in-Choice-clause-leads
 returns-in-Choice-clause-leads g c others set whole part may owed made =
-    let here = subst (λ p. IsOpen (g.F.Disturb.others others) g.D.Domain.meaning set p whole part) c.in-Choice.is owed in
+    let here = subst (λ p. IsOpen (g.F.Interfere.interference others) g.D.Domain.abstraction set p whole part) c.in-Choice.is owed in
     c.go_on_choice.ensures.leads others set whole part c.args.memory.now may here made
 
 pub returns-in-Choice-clause-falls : goal.returns-in-Choice-clause-falls
 returns-in-Choice-clause-falls g c others set whole part owed =
-    let m = g.D.Domain.meaning in
+    let m = g.D.Domain.abstraction in
     subst (λ p. IfOk c.go_on_choice.result (λ n. next_left m (2 ^ 64) set n < place_left m (2 ^ 64) set p))
     (sym c.in-Choice.is) (c.go_on_choice.ensures.falls (2 ^ 64) set)
 
 pub meet_again-requires : goal.meet_again-requires
 meet_again-requires g c =
-    let m = g.D.Domain.meaning in
+    let m = g.D.Domain.abstraction in
     let given = c.requires in
-    let here = subst (λ p. IsOpen (g.F.Disturb.others given.0) m given.1 p given.2 given.3) c.in-Branch.is given.5 in
-    branches_meet (g.F.Disturb.others given.0) m given.1 c.into_inner.result given.2 given.3
-    (subst (λ x. IsBranch (g.F.Disturb.others given.0) m given.1 x given.2 given.3) (sym c.into_inner.ensures) here)
+    let here = subst (λ p. IsOpen (g.F.Interfere.interference given.0) m given.1 p given.2 given.3) c.in-Branch.is given.5 in
+    branches_meet (g.F.Interfere.interference given.0) m given.1 c.into_inner.result given.2 given.3
+    (subst (λ x. IsBranch (g.F.Interfere.interference given.0) m given.1 x given.2 given.3) (sym c.into_inner.ensures) here)
     c.args.outcome c.args.memory.now given.6 given.4
 
 pub returns-in-Branch-clause-leads : goal.returns-in-Branch-clause-leads
 returns-in-Branch-clause-leads g c others set whole part may owed made =
-    let m = g.D.Domain.meaning in
+    let m = g.D.Domain.abstraction in
     let branch = c.into_inner.result in
-    let here = subst (λ x. IsBranch (g.F.Disturb.others others) m set x whole part) (sym c.into_inner.ensures)
-    (subst (λ p. IsOpen (g.F.Disturb.others others) m set p whole part) c.in-Branch.is owed) in
+    let here = subst (λ x. IsBranch (g.F.Interfere.interference others) m set x whole part) (sym c.into_inner.ensures)
+    (subst (λ p. IsOpen (g.F.Interfere.interference others) m set p whole part) c.in-Branch.is owed) in
     c.passed-in-Branch.ensures.leads others set whole c.args.memory.now (if_both c.meet_again.result
     (λ r. AreMet m branch.point (seen branch.first) (seen c.args.outcome) (seen r))
-    (λ r. m.dims r.normal ≡ m.dims branch.first.normal) (λ r. IsMade (g.F.Disturb.others others) m set whole (seen r) c.args.memory.now)
-    (λ r met dims. branches_made (g.F.Disturb.others others) m set branch whole part here c.args.outcome c.args.memory.now made r met dims)
+    (λ r. m.dims r.normal ≡ m.dims branch.first.normal) (λ r. IsMade (g.F.Interfere.interference others) m set whole (seen r) c.args.memory.now)
+    (λ r met dims. branches_made (g.F.Interfere.interference others) m set branch whole part here c.args.outcome c.args.memory.now made r met dims)
     c.meet_again.ensures.joined c.meet_again.ensures.dims)
 
 pub returns-in-Branch-clause-falls : goal.returns-in-Branch-clause-falls
 returns-in-Branch-clause-falls g c others set whole part owed =
-    let m = g.D.Domain.meaning in
+    let m = g.D.Domain.abstraction in
     ends_less m set c.passed-in-Branch.result (2 ^ 64) (place_left m (2 ^ 64) set c.args.place)
     (subst (λ p. 0 < place_left m (2 ^ 64) set p) (sym c.in-Branch.is) (omega arith))
     (c.passed-in-Branch.ensures.ends (2 ^ 64) set)
@@ -94,25 +95,25 @@ returns-in-Branch-clause-falls g c others set whole part owed =
 
 pub go_on_growing-requires : goal.go_on_growing-requires
 go_on_growing-requires g c =
-    let m = g.D.Domain.meaning in
+    let m = g.D.Domain.abstraction in
     let given = c.requires in
-    let here = subst (λ p. IsOpen (g.F.Disturb.others given.0) m given.1 p given.2 given.3) c.in-Growing.is given.5 in
-    let inside = subst (λ x. IsGrowing (g.F.Disturb.others given.0) m given.1 x given.2 given.3)
+    let here = subst (λ p. IsOpen (g.F.Interfere.interference given.0) m given.1 p given.2 given.3) c.in-Growing.is given.5 in
+    let inside = subst (λ x. IsGrowing (g.F.Interfere.interference given.0) m given.1 x given.2 given.3)
     (sym c.into_inner-in-Growing.ensures) here in
     (given.0, given.1, given.2, given.3, given.4, inside, given.6)
 
 pub returns-in-Growing-clause-leads : goal.returns-in-Growing-clause-leads
 returns-in-Growing-clause-leads g c others set whole part may owed made =
-    let m = g.D.Domain.meaning in
-    let here = subst (λ p. IsOpen (g.F.Disturb.others others) m set p whole part) c.in-Growing.is owed in
+    let m = g.D.Domain.abstraction in
+    let here = subst (λ p. IsOpen (g.F.Interfere.interference others) m set p whole part) c.in-Growing.is owed in
     c.go_on_growing.ensures.leads others set whole part may
-    (subst (λ x. IsGrowing (g.F.Disturb.others others) m set x whole part) (sym c.into_inner-in-Growing.ensures) here) made
+    (subst (λ x. IsGrowing (g.F.Interfere.interference others) m set x whole part) (sym c.into_inner-in-Growing.ensures) here) made
 
 pub returns-in-Growing-clause-falls : goal.returns-in-Growing-clause-falls
 returns-in-Growing-clause-falls g c others set whole part owed =
-    let m = g.D.Domain.meaning in
-    let here = subst (λ p. IsOpen (g.F.Disturb.others others) m set p whole part) c.in-Growing.is owed in
-    let inside = subst (λ x. IsGrowing (g.F.Disturb.others others) m set x whole part) (sym c.into_inner-in-Growing.ensures) here in
+    let m = g.D.Domain.abstraction in
+    let here = subst (λ p. IsOpen (g.F.Interfere.interference others) m set p whole part) c.in-Growing.is owed in
+    let inside = subst (λ x. IsGrowing (g.F.Interfere.interference others) m set x whole part) (sym c.into_inner-in-Growing.ensures) here in
     let less = subst (λ (x : GrowingPlace _ _). IfOk c.go_on_growing.result (λ n. next_left m (2 ^ 64) set n <
     turns_left m (2 ^ 64) set x.the_loop (set.narrow + rounds_left (2 ^ 64) x.growing.left (m.rank x.growing.head))))
     c.into_inner-in-Growing.ensures (c.go_on_growing.ensures.falls set inside.head.loop.plan) in
@@ -121,31 +122,31 @@ returns-in-Growing-clause-falls g c others set whole part owed =
 
 pub go_on_narrowing-requires : goal.go_on_narrowing-requires
 go_on_narrowing-requires g c =
-    let m = g.D.Domain.meaning in
+    let m = g.D.Domain.abstraction in
     let given = c.requires in
-    let here = subst (λ p. IsOpen (g.F.Disturb.others given.0) m given.1 p given.2 given.3) c.in-Narrowing.is given.5 in (
+    let here = subst (λ p. IsOpen (g.F.Interfere.interference given.0) m given.1 p given.2 given.3) c.in-Narrowing.is given.5 in (
       given.0,
       given.1,
       given.2,
       given.3,
       given.4,
-      subst (λ x. IsNarrowing (g.F.Disturb.others given.0) m given.1 x given.2 given.3)
+      subst (λ x. IsNarrowing (g.F.Interfere.interference given.0) m given.1 x given.2 given.3)
           (sym c.into_inner-in-Narrowing.ensures) here,
       given.6,
     )
 
 pub returns-in-Narrowing-clause-leads : goal.returns-in-Narrowing-clause-leads
 returns-in-Narrowing-clause-leads g c others set whole part may owed made =
-    let m = g.D.Domain.meaning in
-    let here = subst (λ p. IsOpen (g.F.Disturb.others others) m set p whole part) c.in-Narrowing.is owed in
+    let m = g.D.Domain.abstraction in
+    let here = subst (λ p. IsOpen (g.F.Interfere.interference others) m set p whole part) c.in-Narrowing.is owed in
     c.go_on_narrowing.ensures.leads others set whole part may
-    (subst (λ x. IsNarrowing (g.F.Disturb.others others) m set x whole part) (sym c.into_inner-in-Narrowing.ensures) here) made
+    (subst (λ x. IsNarrowing (g.F.Interfere.interference others) m set x whole part) (sym c.into_inner-in-Narrowing.ensures) here) made
 
 pub returns-in-Narrowing-clause-falls : goal.returns-in-Narrowing-clause-falls
 returns-in-Narrowing-clause-falls g c others set whole part owed =
-    let m = g.D.Domain.meaning in
-    let here = subst (λ p. IsOpen (g.F.Disturb.others others) m set p whole part) c.in-Narrowing.is owed in
-    let inside = subst (λ x. IsNarrowing (g.F.Disturb.others others) m set x whole part) (sym c.into_inner-in-Narrowing.ensures) here in
+    let m = g.D.Domain.abstraction in
+    let here = subst (λ p. IsOpen (g.F.Interfere.interference others) m set p whole part) c.in-Narrowing.is owed in
+    let inside = subst (λ x. IsNarrowing (g.F.Interfere.interference others) m set x whole part) (sym c.into_inner-in-Narrowing.ensures) here in
     let less = subst (λ (x : NarrowingPlace _). IfOk c.go_on_narrowing.result (λ n. next_left m (2 ^ 64) set n <
     turns_left m (2 ^ 64) set x.narrowing.the_loop x.narrowing.left))
     c.into_inner-in-Narrowing.ensures (c.go_on_narrowing.ensures.falls set inside.waiting.loop.plan) in
@@ -157,25 +158,25 @@ returns-in-Narrowing-clause-falls g c others set whole part owed =
 pub catch_jumps-requires : goal.catch_jumps-requires
 catch_jumps-requires g c =
     let given = c.requires in
-    let here = subst (λ p. IsOpen (g.F.Disturb.others given.0) g.D.Domain.meaning given.1 p given.2 given.3) c.in-Catch.is given.5 in
-    jumps_have (g.F.Disturb.others given.0) g.D.Domain.meaning given.1 c.in-Catch.point c.in-Catch.exit given.2 given.3 here c.args.outcome
+    let here = subst (λ p. IsOpen (g.F.Interfere.interference given.0) g.D.Domain.abstraction given.1 p given.2 given.3) c.in-Catch.is given.5 in
+    jumps_have (g.F.Interfere.interference given.0) g.D.Domain.abstraction given.1 c.in-Catch.point c.in-Catch.exit given.2 given.3 here c.args.outcome
     c.args.memory.now given.6 given.4
 
 pub returns-in-Catch-clause-leads : goal.returns-in-Catch-clause-leads
 returns-in-Catch-clause-leads g c others set whole part may owed made =
-    let m = g.D.Domain.meaning in
+    let m = g.D.Domain.abstraction in
     let q = c.in-Catch.point in
     let exit = c.in-Catch.exit in
-    let here = subst (λ p. IsOpen (g.F.Disturb.others others) m set p whole part) c.in-Catch.is owed in
+    let here = subst (λ p. IsOpen (g.F.Interfere.interference others) m set p whole part) c.in-Catch.is owed in
     c.passed-in-Catch.ensures.leads others set whole c.args.memory.now (if_both c.catch_jumps.result
     (λ r. Catches m q (exit_view exit) (seen c.args.outcome) (seen r)) (λ r. m.dims r.normal ≡ m.dims c.args.outcome.normal)
-    (λ r. IsMade (g.F.Disturb.others others) m set whole (seen r) c.args.memory.now)
-    (λ r caught dims. catch_made (g.F.Disturb.others others) m set q exit whole part here c.args.outcome c.args.memory.now made r caught dims)
+    (λ r. IsMade (g.F.Interfere.interference others) m set whole (seen r) c.args.memory.now)
+    (λ r caught dims. catch_made (g.F.Interfere.interference others) m set q exit whole part here c.args.outcome c.args.memory.now made r caught dims)
     c.catch_jumps.ensures.caught c.catch_jumps.ensures.dims)
 
 pub returns-in-Catch-clause-falls : goal.returns-in-Catch-clause-falls
 returns-in-Catch-clause-falls g c others set whole part owed =
-    let m = g.D.Domain.meaning in
+    let m = g.D.Domain.abstraction in
     ends_less m set c.passed-in-Catch.result (2 ^ 64) (place_left m (2 ^ 64) set c.args.place)
     (subst (λ p. 0 < place_left m (2 ^ 64) set p) (sym c.in-Catch.is) (omega arith)) (c.passed-in-Catch.ensures.ends (2 ^ 64) set)
 
@@ -183,9 +184,9 @@ returns-in-Catch-clause-falls g c others set whole part owed =
 
 pub go_on_selection-requires : goal.go_on_selection-requires
 go_on_selection-requires g c =
-    let m = g.D.Domain.meaning in
+    let m = g.D.Domain.abstraction in
     let given = c.requires in
-    let here = subst (λ p. IsOpen (g.F.Disturb.others given.0) m given.1 p given.2 given.3) c.in-Select.is given.5 in (
+    let here = subst (λ p. IsOpen (g.F.Interfere.interference given.0) m given.1 p given.2 given.3) c.in-Select.is given.5 in (
       given.0,
       given.1,
       given.2,
@@ -193,20 +194,20 @@ go_on_selection-requires g c =
       c.args.memory.now,
       given.7,
       given.4,
-      subst (λ x. IsSelect (g.F.Disturb.others given.0) m given.1 x given.2 given.3) (sym c.into_inner-in-Select.ensures) here,
+      subst (λ x. IsSelect (g.F.Interfere.interference given.0) m given.1 x given.2 given.3) (sym c.into_inner-in-Select.ensures) here,
       given.6,
     )
 
 pub returns-in-Select-clause-leads : goal.returns-in-Select-clause-leads
 returns-in-Select-clause-leads g c others set whole part may owed made =
-    let m = g.D.Domain.meaning in
-    let here = subst (λ p. IsOpen (g.F.Disturb.others others) m set p whole part) c.in-Select.is owed in
+    let m = g.D.Domain.abstraction in
+    let here = subst (λ p. IsOpen (g.F.Interfere.interference others) m set p whole part) c.in-Select.is owed in
     c.go_on_selection.ensures.leads others set whole part c.args.memory.now may
-    (subst (λ x. IsSelect (g.F.Disturb.others others) m set x whole part) (sym c.into_inner-in-Select.ensures) here) made
+    (subst (λ x. IsSelect (g.F.Interfere.interference others) m set x whole part) (sym c.into_inner-in-Select.ensures) here) made
 
 pub returns-in-Select-clause-falls : goal.returns-in-Select-clause-falls
 returns-in-Select-clause-falls g c others set whole part owed =
-    let m = g.D.Domain.meaning in
+    let m = g.D.Domain.abstraction in
     subst (λ p. IfOk c.go_on_selection.result (λ n. next_left m (2 ^ 64) set n < place_left m (2 ^ 64) set p)) (sym c.in-Select.is)
     (place_falls m set c.go_on_selection.result (2 ^ 64) c.into_inner-in-Select.result c.in-Select.place c.into_inner-in-Select.ensures
     (c.go_on_selection.ensures.falls (2 ^ 64) set))

@@ -5,7 +5,7 @@ use Rattle.lra_operations.specs.Graph.{aside}
 use Rattle.lra_flow.specs.Plan.{Plan}
 use Rattle.lra_outcomes.specs.declared.shapes.Shape.{Shape}
 use Rattle.lra_outcomes.specs.declared.shapes.Shape.TheVariants.{Aside, Leaf, Row, Choice, Loop, Catch, Select}
-use Rattle.lra_others.specs.Others.{nobody}
+use Rattle.lra_interference.specs.Interference.{no_interference}
 use Rattle.lra_outcomes.specs.Fits.{TreeFits}
 use Rattle.std.proofs.lemmas.Result.{IfOk-weaker}
 use Rattle.lra_places.specs.Open.{due, IsMade, MayBePassed}
@@ -26,14 +26,14 @@ pass_leaf-requires g c =
     let tree = c.args.tree in
     let shape : IsShape c.args.plan.now tree.node.now (Leaf c.in-Leaf.leaf) =
     subst (λ (x : Shape). IsShape c.args.plan.now tree.node.now x) c.in-Leaf.is c.of.ensures in
-    let fits : TreeFits (leaf_view c.in-Leaf.leaf) (g.D.Domain.meaning.dims tree.value) =
-    subst (λ x. TreeFits x (g.D.Domain.meaning.dims tree.value)) shape.0 c.requires.may.fits in
+    let fits : TreeFits (leaf_view c.in-Leaf.leaf) (g.D.Domain.abstraction.dims tree.value) =
+    subst (λ x. TreeFits x (g.D.Domain.abstraction.dims tree.value)) shape.0 c.requires.may.fits in
     record { parts = c.requires.parts; few = c.requires.may.few; fits = fits }
 
 pub returns-in-Leaf-clause-leads : goal.returns-in-Leaf-clause-leads
 returns-in-Leaf-clause-leads g c =
-    let o = g.F.Disturb.others c.args.others.now in
-    let m = g.D.Domain.meaning in
+    let o = g.F.Interfere.interference c.args.others.now in
+    let m = g.D.Domain.abstraction in
     let set = c.args.plan.now in
     let tree = c.args.tree in
     let whole = due tree c.args.memory.now in
@@ -41,13 +41,13 @@ returns-in-Leaf-clause-leads g c =
     let shape : IsShape set tree.node.now (Leaf c.in-Leaf.leaf) =
     subst (λ (x : Shape). IsShape set tree.node.now x) c.in-Leaf.is c.of.ensures in
     c.passed.ensures.leads c.args.others.now set whole c.args.memory.now (IfOk-weaker c.pass_leaf.result
-    (λ r. IsPassed nobody m set leaf tree.flag tree.value (seen r)) (λ r. IsMade o m set whole (seen r) c.args.memory.now)
+    (λ r. IsPassed no_interference m set leaf tree.flag tree.value (seen r)) (λ r. IsMade o m set whole (seen r) c.args.memory.now)
     (λ r one. leaf_made o m set whole leaf r shape.0 (leaf_among o m set c.in-Leaf.leaf tree.flag tree.value (seen r) one))
     c.pass_leaf.ensures)
 
 pub returns-in-Leaf-clause-falls : goal.returns-in-Leaf-clause-falls
 returns-in-Leaf-clause-falls g c =
-    let m = g.D.Domain.meaning in
+    let m = g.D.Domain.abstraction in
     let set = c.args.plan.now in
     let tree = c.args.tree in
     let shape : IsShape set tree.node.now (Leaf c.in-Leaf.leaf) =
@@ -60,8 +60,8 @@ returns-in-Leaf-clause-falls g c =
 
 pub returns-in-Aside-clause-leads : goal.returns-in-Aside-clause-leads
 returns-in-Aside-clause-leads g c =
-    let o = g.F.Disturb.others c.args.others.now in
-    let m = g.D.Domain.meaning in
+    let o = g.F.Interfere.interference c.args.others.now in
+    let m = g.D.Domain.abstraction in
     let set = c.args.plan.now in
     let tree = c.args.tree in
     let whole = due tree c.args.memory.now in
@@ -74,7 +74,7 @@ returns-in-Aside-clause-leads g c =
 
 pub returns-in-Aside-clause-falls : goal.returns-in-Aside-clause-falls
 returns-in-Aside-clause-falls g c =
-    let m = g.D.Domain.meaning in
+    let m = g.D.Domain.abstraction in
     let set = c.args.plan.now in
     let tree = c.args.tree in
     let shape : IsShape set tree.node.now (Aside c.in-Aside.point c.in-Aside.what) =
@@ -95,7 +95,8 @@ open_row-requires g c =
       way = (
         c.args.others.now,
         due tree c.args.memory.now,
-        subst (λ (s : Plan). MayBePassed (g.F.Disturb.others c.args.others.now) g.D.Domain.meaning s (due tree c.args.memory.now)) (sym shape.2) c.requires.may,
+        subst (λ (s : Plan). MayBePassed (g.F.Interfere.interference c.args.others.now) g.D.Domain.abstraction s (due tree c.args.memory.now)) (sym shape.2)
+            c.requires.may,
         shape.0,
         refl,
         refl,
@@ -111,7 +112,7 @@ returns-in-Row-clause-leads g c =
 
 pub returns-in-Row-clause-falls : goal.returns-in-Row-clause-falls
 returns-in-Row-clause-falls g c =
-    let m = g.D.Domain.meaning in
+    let m = g.D.Domain.abstraction in
     let set = c.args.plan.now in
     let tree = c.args.tree in
     let shape : IsShape set tree.node.now (Row c.in-Row.row) =
@@ -130,7 +131,7 @@ returns-in-Choice-clause-leads g c =
 
 pub returns-in-Choice-clause-falls : goal.returns-in-Choice-clause-falls
 returns-in-Choice-clause-falls g c =
-    let m = g.D.Domain.meaning in
+    let m = g.D.Domain.abstraction in
     let set = c.args.plan.now in
     let tree = c.args.tree in
     let choice = c.in-Choice.choice in
@@ -169,7 +170,7 @@ returns-in-Loop-clause-leads g c =
 
 pub returns-in-Loop-clause-falls : goal.returns-in-Loop-clause-falls
 returns-in-Loop-clause-falls g c =
-    let m = g.D.Domain.meaning in
+    let m = g.D.Domain.abstraction in
     let set = c.args.plan.now in
     let tree = c.args.tree in
     let shape : IsShape set tree.node.now (Loop c.in-Loop.the_loop) =
@@ -185,7 +186,7 @@ returns-in-Catch-clause-leads g c =
     let catch = c.in-Catch.catch in
     let shape : IsShape c.args.plan.now tree.node.now (Catch catch) =
     subst (λ (x : Shape). IsShape c.args.plan.now tree.node.now x) c.in-Catch.is c.of.ensures in
-    catch_leads (g.F.Disturb.others c.args.others.now) g.D.Domain.meaning c.args.plan.now catch.point catch.exit catch.body.now tree.value tree.flag
+    catch_leads (g.F.Interfere.interference c.args.others.now) g.D.Domain.abstraction c.args.plan.now catch.point catch.exit catch.body.now tree.value tree.flag
     (due tree c.args.memory.now) shape.0 refl refl c.requires.may
 
 pub returns-in-Catch-clause-falls : goal.returns-in-Catch-clause-falls
@@ -208,7 +209,8 @@ open_selection-requires g c =
       way = (
         c.args.others.now,
         due tree c.args.memory.now,
-        subst (λ (s : Plan). MayBePassed (g.F.Disturb.others c.args.others.now) g.D.Domain.meaning s (due tree c.args.memory.now)) (sym shape.2) c.requires.may,
+        subst (λ (s : Plan). MayBePassed (g.F.Interfere.interference c.args.others.now) g.D.Domain.abstraction s (due tree c.args.memory.now)) (sym shape.2)
+            c.requires.may,
         shape.0,
         refl,
         refl,
@@ -224,7 +226,7 @@ returns-in-Select-clause-leads g c =
 
 pub returns-in-Select-clause-falls : goal.returns-in-Select-clause-falls
 returns-in-Select-clause-falls g c =
-    let m = g.D.Domain.meaning in
+    let m = g.D.Domain.abstraction in
     let set = c.args.plan.now in
     let tree = c.args.tree in
     let shape : IsShape set tree.node.now (Select c.in-Select.selection) =

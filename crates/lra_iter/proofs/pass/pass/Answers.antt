@@ -13,7 +13,7 @@ open_tree-requires g c = record {
 }
 
 pub steps-init : goal.steps-init
-steps-init g c = begins (g.F.Disturb.others c.args.others.now) g.D.Domain.meaning c.args.plan.now c.none-places.result.open.items (record {
+steps-init g c = begins (g.F.Interfere.interference c.args.others.now) g.D.Domain.abstraction c.args.plan.now c.none-places.result.open.items (record {
   tree = node_view c.args.tree.node.now;
   value = c.args.tree.value;
   flag = c.args.tree.flag;
@@ -39,8 +39,8 @@ take_step-requires g c = record {
 
 pub returns-in-Ended-clause-passed : goal.returns-in-Ended-clause-passed
 returns-in-Ended-clause-passed g c =
-    let o = g.F.Disturb.others c.args.others.now in
-    let m = g.D.Domain.meaning in
+    let o = g.F.Interfere.interference c.args.others.now in
+    let m = g.D.Domain.abstraction in
     let whole : Due _ = record {
       tree = node_view c.args.tree.node.now;
       value = c.args.tree.value;
@@ -52,8 +52,8 @@ returns-in-Ended-clause-passed g c =
 
 pub returns-in-Ended-clause-stays : goal.returns-in-Ended-clause-stays
 returns-in-Ended-clause-stays g c =
-    let o = g.F.Disturb.others c.args.others.now in
-    let m = g.D.Domain.meaning in
+    let o = g.F.Interfere.interference c.args.others.now in
+    let m = g.D.Domain.abstraction in
     let whole : Due _ = record {
       tree = node_view c.args.tree.node.now;
       value = c.args.tree.value;
@@ -67,8 +67,8 @@ returns-in-Ended-clause-stays g c =
 
 pub steps-preserved : goal.steps-preserved
 steps-preserved g c =
-    let o = g.F.Disturb.others c.args.others.now in
-    let m = g.D.Domain.meaning in
+    let o = g.F.Interfere.interference c.args.others.now in
+    let m = g.D.Domain.abstraction in
     let whole : Due _ = record {
       tree = node_view c.args.tree.node.now;
       value = c.args.tree.value;
@@ -80,7 +80,7 @@ steps-preserved g c =
 
 pub steps-smaller : goal.steps-smaller
 steps-smaller g c =
-    let m = g.D.Domain.meaning in
+    let m = g.D.Domain.abstraction in
     let whole : Due _ = record {
       tree = node_view c.args.tree.node.now;
       value = c.args.tree.value;

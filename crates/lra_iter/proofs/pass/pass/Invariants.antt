@@ -5,8 +5,8 @@ use Rattle.lra_places.specs.StepsLeft.{all_left}
 use Rattle.lra_iter.proofs.pass.pass.Given as goal
 
 abbrev pub invariant-steps : goal.invariant-steps
-invariant-steps g l = AreUnderWay (g.F.Disturb.others l.others) g.D.Domain.meaning l.plan l.places.open.items
+invariant-steps g l = AreUnderWay (g.F.Interfere.interference l.others) g.D.Domain.abstraction l.plan l.places.open.items
     (record { tree = node_view l.fn.tree.node.now; value = l.fn.tree.value; flag = l.fn.tree.flag; memory = l.fn.memory }) l.next l.memory
 
 abbrev pub decreases-steps : goal.decreases-steps
-decreases-steps g l = all_left g.D.Domain.meaning (2 ^ 64) l.plan l.places.open.items l.next
+decreases-steps g l = all_left g.D.Domain.abstraction (2 ^ 64) l.plan l.places.open.items l.next

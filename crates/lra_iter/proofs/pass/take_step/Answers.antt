@@ -11,7 +11,8 @@ use Rattle.lra_iter.proofs.pass.take_step.Goals as goal
 
 pub returns-in-None-clause-leads : goal.returns-in-None-clause-leads
 returns-in-None-clause-leads g c whole way =
-    all_made (g.F.Disturb.others c.args.others.now) g.D.Domain.meaning c.args.plan.now c.args.places.now.open.items whole c.args.next c.args.memory.now way
+    all_made (g.F.Interfere.interference c.args.others.now) g.D.Domain.abstraction c.args.plan.now c.args.places.now.open.items whole c.args.next
+    c.args.memory.now way
     c.in-Passed.outcome c.in-Passed.is (c.pop.ensures.none c.in-None.is)
 
 -- the innermost goes on -----------------------------------------------------------------------------------------------
@@ -19,7 +20,7 @@ returns-in-None-clause-leads g c whole way =
 pub go_on-requires : goal.go_on-requires
 go_on-requires g c =
     let whole = c.requires.way.0 in
-    let behind = popped (g.F.Disturb.others c.args.others.now) g.D.Domain.meaning c.args.plan.now
+    let behind = popped (g.F.Interfere.interference c.args.others.now) g.D.Domain.abstraction c.args.plan.now
     c.args.places.now.open.items whole c.args.next c.args.memory.now c.requires.way.1
     c.pop.new.self.open.items c.pop.result c.in-Some.place c.in-Passed.outcome c.in-Passed.is
     c.pop.ensures.left c.in-Some.is in
@@ -27,8 +28,8 @@ go_on-requires g c =
 
 pub returns-in-Some-clause-leads : goal.returns-in-Some-clause-leads
 returns-in-Some-clause-leads g c whole way =
-    let o = g.F.Disturb.others c.args.others.now in
-    let m = g.D.Domain.meaning in
+    let o = g.F.Interfere.interference c.args.others.now in
+    let m = g.D.Domain.abstraction in
     let set = c.args.plan.now in
     let left = c.pop.new.self.open.items in
     let new = c.go_on.new.memory in
@@ -40,8 +41,8 @@ returns-in-Some-clause-leads g c whole way =
 
 pub returns-in-Some-clause-falls : goal.returns-in-Some-clause-falls
 returns-in-Some-clause-falls g c whole way =
-    let o = g.F.Disturb.others c.args.others.now in
-    let m = g.D.Domain.meaning in
+    let o = g.F.Interfere.interference c.args.others.now in
+    let m = g.D.Domain.abstraction in
     let set = c.args.plan.now in
     let left = c.pop.new.self.open.items in
     let all = c.args.places.now.open.items in
@@ -56,8 +57,8 @@ returns-in-Some-clause-falls g c whole way =
 
 pub go_on-requires-in-Again : goal.go_on-requires-in-Again
 go_on-requires-in-Again g c =
-    let o = g.F.Disturb.others c.args.others.now in
-    let m = g.D.Domain.meaning in
+    let o = g.F.Interfere.interference c.args.others.now in
+    let m = g.D.Domain.abstraction in
     let set = c.args.plan.now in
     let way = c.requires.way.1 in
     let here = leads_on o m set c.args.places.now.open.items c.requires.way.0 c.args.next
@@ -74,8 +75,8 @@ go_on-requires-in-Again g c =
 
 pub returns-in-Again-clause-leads : goal.returns-in-Again-clause-leads
 returns-in-Again-clause-leads g c whole way =
-    let o = g.F.Disturb.others c.args.others.now in
-    let m = g.D.Domain.meaning in
+    let o = g.F.Interfere.interference c.args.others.now in
+    let m = g.D.Domain.abstraction in
     let set = c.args.plan.now in
     let all = c.args.places.now.open.items in
     let new = c.go_on-in-Again.new.memory in
@@ -89,8 +90,8 @@ returns-in-Again-clause-leads g c whole way =
 
 pub returns-in-Again-clause-falls : goal.returns-in-Again-clause-falls
 returns-in-Again-clause-falls g c whole way =
-    let o = g.F.Disturb.others c.args.others.now in
-    let m = g.D.Domain.meaning in
+    let o = g.F.Interfere.interference c.args.others.now in
+    let m = g.D.Domain.abstraction in
     let set = c.args.plan.now in
     let all = c.args.places.now.open.items in
     let here = leads_on o m set all whole c.args.next c.args.memory.now way (Again c.in-Again.place c.in-Again.outcome)
@@ -107,14 +108,14 @@ returns-in-Again-clause-falls g c whole way =
 
 pub open_tree-requires : goal.open_tree-requires
 open_tree-requires g c =
-    let here = leads_on (g.F.Disturb.others c.args.others.now) g.D.Domain.meaning c.args.plan.now c.args.places.now.open.items
+    let here = leads_on (g.F.Interfere.interference c.args.others.now) g.D.Domain.abstraction c.args.plan.now c.args.places.now.open.items
     c.requires.way.0 c.args.next c.args.memory.now c.requires.way.1 (Opens c.in-Opens.place c.in-Opens.tree) c.in-Opens.is in
     record { parts = c.requires.parts; may = here.1 }
 
 pub returns-in_ok-push-in-Opens-clause-leads : goal.returns-in_ok-push-in-Opens-clause-leads
 returns-in_ok-push-in-Opens-clause-leads g c whole way =
-    let o = g.F.Disturb.others c.args.others.now in
-    let m = g.D.Domain.meaning in
+    let o = g.F.Interfere.interference c.args.others.now in
+    let m = g.D.Domain.abstraction in
     let set = c.args.plan.now in
     let new = c.open_tree.new.memory in
     let opens = c.in_ok-push-in-Opens.ensures in
@@ -125,7 +126,7 @@ returns-in_ok-push-in-Opens-clause-leads g c whole way =
 
 pub returns-in_ok-push-in-Opens-clause-falls : goal.returns-in_ok-push-in-Opens-clause-falls
 returns-in_ok-push-in-Opens-clause-falls g c whole way =
-    let m = g.D.Domain.meaning in
+    let m = g.D.Domain.abstraction in
     let set = c.args.plan.now in
     let all = c.args.places.now.open.items in
     let opens = c.in_ok-push-in-Opens.ensures in

@@ -13,7 +13,7 @@ use Rattle.lra_iter.proofs.solution.analyse.Goals as goal
 
 pub returns-clause-solved : goal.returns-clause-solved
 returns-clause-solved g c P same =
-    let m = g.D.Domain.meaning in
+    let m = g.D.Domain.abstraction in
     let tree = node_view c.args.graph.now.tree in
     let solution = c.in_ok-found.found.solution in
     let one = c.in_ok-found.ensures.solved P same in
@@ -22,7 +22,7 @@ returns-clause-solved g c P same =
 
 pub returns-clause-sound : goal.returns-clause-sound
 returns-clause-sound g c P same =
-    let m = g.D.Domain.meaning in
+    let m = g.D.Domain.abstraction in
     let laws = g.met.D.Domain.laws in
     let plan = c.args.plan.now in
     let tree = node_view c.args.graph.now.tree in

@@ -26,22 +26,22 @@ pass-requires-clause-remembers g c =
     let loops = numbered_loops (map site_view c.args.graph.now.sites.items) (node_view c.args.graph.now.tree) c.requires.numbered in (
       loops.0,
       loops.1,
-      subst (λ xs. All (IsRecalled (g.F.Disturb.others c.args.others.now) g.D.Domain.meaning c.args.plan.now loops.0
+      subst (λ xs. All (IsRecalled (g.F.Interfere.interference c.args.others.now) g.D.Domain.abstraction c.args.plan.now loops.0
           c.in_ok-value.flag) xs) (sym c.nothing-memory.ensures) (All-nil _),
     )
 
 pub solution_of-requires : goal.solution_of-requires
 solution_of-requires g c =
-    let m = g.D.Domain.meaning in
+    let m = g.D.Domain.abstraction in
     let graph = c.args.graph.now in
-    rw c.deref.ensures.value (pass_counted (dropping m) (admitted (g.F.Disturb.others c.args.others.now) m)
+    rw c.deref.ensures.value (pass_counted (dropping m) (admitted (g.F.Interfere.interference c.args.others.now) m)
     (map site_view graph.sites.items) c.args.plan.now (node_view graph.tree) c.in_ok-value.flag c.in_ok-value.value
     (seen c.in_ok-outcome.outcome) c.requires.numbered c.in_ok-outcome.ensures.passed.pass)
 
 pub returns-clause-solved : goal.returns-clause-solved
 returns-clause-solved g c P same =
-    let o = g.F.Disturb.others c.args.others.now in
-    let m = g.D.Domain.meaning in
+    let o = g.F.Interfere.interference c.args.others.now in
+    let m = g.D.Domain.abstraction in
     let tree = node_view c.args.graph.now.tree in
     let result = seen c.in_ok-outcome.outcome in
     let found = c.in_ok-solution.solution in
@@ -56,8 +56,8 @@ returns-clause-solved g c P same =
 
 pub returns-clause-wide : goal.returns-clause-wide
 returns-clause-wide g c lives =
-    let o = g.F.Disturb.others c.args.others.now in
-    let m = g.D.Domain.meaning in
+    let o = g.F.Interfere.interference c.args.others.now in
+    let m = g.D.Domain.abstraction in
     let graph = c.args.graph.now in
     let solution = c.in_ok-solution.solution.solution in
     found_wide o m g.met.D.Domain.laws (map site_view graph.sites.items) c.args.plan.now (node_view graph.tree)
@@ -67,8 +67,8 @@ returns-clause-wide g c lives =
 
 pub returns-clause-notes : goal.returns-clause-notes
 returns-clause-notes g c lives =
-    let o = g.F.Disturb.others c.args.others.now in
-    let m = g.D.Domain.meaning in
+    let o = g.F.Interfere.interference c.args.others.now in
+    let m = g.D.Domain.abstraction in
     let graph = c.args.graph.now in
     let result = seen c.in_ok-outcome.outcome in
     let notes = map note_view c.in_ok-solution.solution.notes.items in
@@ -79,8 +79,8 @@ returns-clause-notes g c lives =
 
 pub returns-clause-sound : goal.returns-clause-sound
 returns-clause-sound g c P own same opens =
-    let o = g.F.Disturb.others c.args.others.now in
-    let m = g.D.Domain.meaning in
+    let o = g.F.Interfere.interference c.args.others.now in
+    let m = g.D.Domain.abstraction in
     let laws = g.met.D.Domain.laws in
     let plan = c.args.plan.now in
     let sites = map site_view c.args.graph.now.sites.items in

@@ -16,7 +16,7 @@ returns-clause-solves g c =
     let sites = c.args.sites.now in
     let tabled = rw c.into_entries-entries.ensures at c.in_ok-tables.ensures.tabled in
     let verdicts = rw c.deref.ensures.value at c.in_ok-number_held.ensures in
-    tables_solve g.D.Domain.meaning (map site_view sites) (seen c.args.outcome) (length sites) c.in_ok-tables.tables.values.items c.in_ok-tables.tables.verdicts.items
+    tables_solve g.D.Domain.abstraction (map site_view sites) (seen c.args.outcome) (length sites) c.in_ok-tables.tables.values.items c.in_ok-tables.tables.verdicts.items
     (sym (length-map sites site_view)) c.requires
     tabled c.in_ok-take_held.field-0.items c.in_ok-number_held.field-0.items c.args.outcome.flag c.in_ok-take_held.ensures verdicts refl
 
@@ -24,7 +24,7 @@ pub returns-clause-points : goal.returns-clause-points
 returns-clause-points g c =
     let sites = c.args.sites.now in
     let tabled = rw c.into_entries-entries.ensures at c.in_ok-tables.ensures.tabled in
-    let count = values_count g.D.Domain.meaning (map site_view sites) (seen c.args.outcome) (length sites) c.in_ok-tables.tables.values.items c.in_ok-tables.tables.verdicts.items
+    let count = values_count g.D.Domain.abstraction (map site_view sites) (seen c.args.outcome) (length sites) c.in_ok-tables.tables.values.items c.in_ok-tables.tables.verdicts.items
     (sym (length-map sites site_view)) c.requires
     tabled c.in_ok-take_held.field-0.items c.in_ok-take_held.ensures in
     rw (length-map sites site_view) at count
@@ -34,7 +34,7 @@ returns-clause-assertions g c =
     let sites = c.args.sites.now in
     let tabled = rw c.into_entries-entries.ensures at c.in_ok-tables.ensures.tabled in
     let verdicts = rw c.deref.ensures.value at c.in_ok-number_held.ensures in
-    verdicts_count g.D.Domain.meaning (map site_view sites) (seen c.args.outcome) (length sites) c.in_ok-tables.tables.values.items c.in_ok-tables.tables.verdicts.items
+    verdicts_count g.D.Domain.abstraction (map site_view sites) (seen c.args.outcome) (length sites) c.in_ok-tables.tables.values.items c.in_ok-tables.tables.verdicts.items
     (sym (length-map sites site_view)) c.requires
     tabled c.in_ok-number_held.field-0.items verdicts
 

@@ -11,7 +11,7 @@ use Rattle.lra_iter.proofs.tables.tables_of.Goals as goal
 
 pub entries-init : goal.entries-init
 entries-init g c = (
-  none_tabled g.D.Domain.meaning c.args.count c.in_ok-values.values.items c.in_ok-verdicts.verdicts.items
+  none_tabled g.D.Domain.abstraction c.args.count c.in_ok-values.values.items c.in_ok-verdicts.verdicts.items
       c.in_ok-values.ensures c.in_ok-verdicts.ensures,
   ap (λ ns. map note_view ns) c.new-notes.ensures.items,
 )
@@ -33,7 +33,7 @@ entries-preserved-in-Value g c =
     let next = vec_next items c.into_iter-entry-iterator.result gives.0 (gives.1 ∙ c.args.entries.ok.0) c.entries.yielded c.entries.entry-iterator c.entries.yielded_by c.next.result c.next.new.self
     c.in-Some.entry c.in-Some.is c.next.ensures.steps in (
       rw c.fill.ensures (value_filled c.args.count items c.entries.yielded c.in-Some.entry c.requires next
-          g.D.Domain.meaning c.entries.values.items c.entries.verdicts.items c.entries.invariant.0 c.in-Value.point
+          g.D.Domain.abstraction c.entries.values.items c.entries.verdicts.items c.entries.invariant.0 c.in-Value.point
           c.in-Value.value c.in-Value.is),
       value_unnoted c.entries.yielded c.in-Some.entry c.entries.notes.items c.entries.invariant.1 c.in-Value.point
           c.in-Value.value c.in-Value.is,
@@ -56,7 +56,7 @@ entries-preserved-in-Failing g c =
     let next = vec_next items c.into_iter-entry-iterator.result gives.0 (gives.1 ∙ c.args.entries.ok.0) c.entries.yielded c.entries.entry-iterator c.entries.yielded_by c.next.result c.next.new.self
     c.in-Some.entry c.in-Some.is c.next.ensures.steps in (
       rw c.fill-in-Failing.ensures (failing_filled c.args.count items c.entries.yielded c.in-Some.entry c.requires next
-          g.D.Domain.meaning c.entries.values.items c.entries.verdicts.items c.entries.invariant.0 c.in-Failing.point
+          g.D.Domain.abstraction c.entries.values.items c.entries.verdicts.items c.entries.invariant.0 c.in-Failing.point
           c.in-Failing.value c.in-Failing.is c.is_empty.result c.is_empty.ensures.parts),
       failing_unnoted c.entries.yielded c.in-Some.entry c.entries.notes.items c.entries.invariant.1 c.in-Failing.point
           c.in-Failing.value c.in-Failing.is,
@@ -69,7 +69,7 @@ entries-preserved g c =
     let next = vec_next items c.into_iter-entry-iterator.result gives.0 (gives.1 ∙ c.args.entries.ok.0) c.entries.yielded
     c.entries.entry-iterator c.entries.yielded_by c.next.result c.next.new.self c.in-Some.entry c.in-Some.is c.next.ensures.steps in
     let note : Note _ = record { point = c.in-Given.point; variable = c.in-Given.variable; value = c.in-Given.value } in (
-      given_filled c.args.count items c.entries.yielded c.in-Some.entry c.requires next g.D.Domain.meaning
+      given_filled c.args.count items c.entries.yielded c.in-Some.entry c.requires next g.D.Domain.abstraction
           c.entries.values.items c.entries.verdicts.items c.entries.invariant.0 c.in-Given.point c.in-Given.value
           c.in-Given.variable c.in-Given.is,
       ap (λ ns. map note_view ns) c.in_ok-push-in-Given.ensures.items ∙ given_noted c.entries.yielded c.in-Some.entry
@@ -82,7 +82,7 @@ returns-clause-tabled g c =
     let gives = c.into_iter-entry-iterator.ensures.into_iter_gives in
     let all = vec_all items c.into_iter-entry-iterator.result gives.0 (gives.1 ∙ c.args.entries.ok.0) c.entries.yielded
     c.entries.entry-iterator c.entries.yielded_by c.next.result c.next.new.self c.in-None.is c.next.ensures.steps in
-    subst (λ (es : List (Entry g.row.D.Denot)). AreTabled g.D.Domain.meaning c.args.count (map entry_view es)
+    subst (λ (es : List (Entry g.row.D.Denot)). AreTabled g.D.Domain.abstraction c.args.count (map entry_view es)
     c.entries.values.items c.entries.verdicts.items) all c.entries.invariant.0
 
 pub returns-clause-noted : goal.returns-clause-noted

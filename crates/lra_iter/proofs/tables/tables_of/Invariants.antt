@@ -4,5 +4,5 @@ use Rattle.lra_iter.specs.Tables.{note_view, notes_in, AreTabled}
 use Rattle.lra_iter.proofs.tables.tables_of.Given as goal
 
 abbrev pub invariant-entries : goal.invariant-entries
-invariant-entries g l = AreTabled g.D.Domain.meaning l.count (map entry_view l.yielded) l.values.items l.verdicts.items ×
+invariant-entries g l = AreTabled g.D.Domain.abstraction l.count (map entry_view l.yielded) l.values.items l.verdicts.items ×
     (map note_view l.notes.items ≡ notes_in (map entry_view l.yielded))

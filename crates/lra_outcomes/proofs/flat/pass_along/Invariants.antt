@@ -1,5 +1,5 @@
 use Rattle.std.proofs.Common.{map, length}
-use Rattle.lra_others.specs.Others.{nobody}
+use Rattle.lra_interference.specs.Interference.{no_interference}
 use Rattle.lra_operations.specs.GraphViews.{node_view, row}
 use Rattle.lra_outcomes.specs.Flat.{AllLeaves}
 use Rattle.lra_outcomes.proofs.FlatRows.{FlatLoop}
@@ -7,7 +7,7 @@ use Rattle.lra_outcomes.proofs.flat.pass_along.Given as goal
 
 abbrev pub invariant-leaves : goal.invariant-leaves
 invariant-leaves g l = record {
-  loop : FlatLoop nobody g.D.Domain.meaning l.plan (row (map node_view l.fn.the_row.trees.now) (node_view l.fn.the_row.last.now))
+  loop : FlatLoop no_interference g.D.Domain.abstraction l.plan (row (map node_view l.fn.the_row.trees.now) (node_view l.fn.the_row.last.now))
       (row (map node_view l.left) (node_view l.fn.the_row.last.now)) l.fn.so_far l.so_far;
   leaves : AllLeaves l.left;
 }

@@ -1,7 +1,7 @@
 -- Goals of `pass_act`: the value changes.
 use Rattle.std.proofs.Common.{[], map, sym}
 use Rattle.std.proofs.lemmas.List.{append-nil}
-use Rattle.lra_others.specs.Others.{nobody}
+use Rattle.lra_interference.specs.Interference.{no_interference}
 use Rattle.lra_operations.specs.Graph.{act}
 use Rattle.lra_operations.specs.GraphViews.{op_view}
 use Rattle.lra_flow.specs.Pass.{noted}
@@ -14,6 +14,6 @@ returns g c plan =
     let so_far = c.args.so_far.now in
     let new = c.change.new.value in
     let done = c.in_ok-exactness.ensures in
-    goes_further nobody g.D.Domain.meaning plan so_far (act c.args.point (op_view c.args.op.now)) so_far.found.entries [] new
+    goes_further no_interference g.D.Domain.abstraction plan so_far (act c.args.point (op_view c.args.op.now)) so_far.found.entries [] new
     c.note-so_far.result (sym (append-nil (map entry_view so_far.found.entries.items)))
     (new, c.in_ok-exactness.exactness, done.changes, flagged_so [] new c.note-so_far.result (noted c.args.point c.in_ok-exactness.exactness so_far.flag) c.note-so_far.ensures) done.dims

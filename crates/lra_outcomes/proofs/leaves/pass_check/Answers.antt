@@ -1,6 +1,6 @@
 -- Goals of `pass_check`: both sides of the condition.
 use Rattle.std.proofs.Common.{[], ◌∷◌, refl, subst, true, false}
-use Rattle.lra_others.specs.Others.{nobody}
+use Rattle.lra_interference.specs.Interference.{no_interference}
 use Rattle.lra_domain.specs.declared.Exactness.{Exactness}
 use Rattle.lra_program.specs.ProgramViews.{cond_view}
 use Rattle.lra_change.specs.Sides.{SplitsBy}
@@ -14,7 +14,7 @@ use Rattle.lra_outcomes.proofs.leaves.pass_check.Goals as goal
 
 pub returns : goal.returns
 returns g c plan =
-    let m = g.D.Domain.meaning in
+    let m = g.D.Domain.abstraction in
     let so_far = c.args.so_far.now in
     let at = c.args.point in
     let condition = cond_view c.args.condition.now in
@@ -27,7 +27,7 @@ returns g c plan =
     (record { value = so_far.normal; exactness = Exactness.Exact }) sides =
     subst (λ v. SplitsBy m c.args.base true condition
     (record { value = v; exactness = Exactness.Exact }) sides) c.in_ok-copy.ensures c.in_ok-sides.ensures in
-    goes_further nobody m plan so_far (check at c.args.base condition) c.push.new.self xs on.value c.note-so_far.result
+    goes_further no_interference m plan so_far (check at c.args.base condition) c.push.new.self xs on.value c.note-so_far.result
     (entry_more so_far.found.entries.items c.push.new.self.items _ _ c.in_ok-push.ensures.items refl) (
       off.value,
       on.value,

@@ -1,5 +1,5 @@
 -- Goals of `pass_leaf`: nothing is found before it.
-use Rattle.lra_others.specs.Others.{nobody}
+use Rattle.lra_interference.specs.Interference.{no_interference}
 use Rattle.lra_outcomes.specs.Shapes.{leaf_view}
 use Rattle.lra_outcomes.proofs.LeafSteps.{passed_alone}
 use Rattle.lra_outcomes.proofs.leaves.pass_leaf.Goals as goal
@@ -7,5 +7,5 @@ use Rattle.lra_outcomes.proofs.leaves.pass_leaf.Goals as goal
 pub returns : goal.returns
 returns g c =
     let begun = c.nothing_yet-outcome.ensures in
-    passed_alone nobody g.D.Domain.meaning c.args.plan.now c.nothing_yet-outcome.result (leaf_view c.args.leaf.now) c.pass_on.new.so_far
+    passed_alone no_interference g.D.Domain.abstraction c.args.plan.now c.nothing_yet-outcome.result (leaf_view c.args.leaf.now) c.pass_on.new.so_far
     c.args.flag c.args.value begun.found begun.normal begun.flag c.in_ok-pass_on.ensures

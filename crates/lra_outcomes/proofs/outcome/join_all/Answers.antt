@@ -4,11 +4,11 @@ use Rattle.lra_outcomes.proofs.Joining.{join_starts, join_wide, join_next, join_
 use Rattle.lra_outcomes.proofs.outcome.join_all.Goals as goal
 
 pub others-init : goal.others-init
-others-init g c = join_starts g.D.Domain.meaning c.args.value.now c.args.others.now c.requires
+others-init g c = join_starts g.D.Domain.abstraction c.args.value.now c.args.others.now c.requires
 
 pub others-preserved : goal.others-preserved
 others-preserved g c =
-    let m = g.D.Domain.meaning in
+    let m = g.D.Domain.abstraction in
     let all = c.args.others.now in
     let i = c.others.other-index in
     let u = c.other-item.result in
@@ -20,5 +20,5 @@ others-preserved g c =
     c.worse-exactness.ensures.is
 
 pub returns-clause-joined : goal.returns-clause-joined
-returns-clause-joined g c = join_ends g.D.Domain.meaning c.args.value.now c.others.value c.args.others.now
+returns-clause-joined g c = join_ends g.D.Domain.abstraction c.args.value.now c.others.value c.args.others.now
     c.others.other-index c.others.exactness c.others.invariant c.others-test.false

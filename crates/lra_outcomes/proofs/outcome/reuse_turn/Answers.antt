@@ -6,4 +6,4 @@ use Rattle.lra_outcomes.proofs.outcome.reuse_turn.Goals as goal
 pub returns : goal.returns
 returns g c others plan body kept =
     let same : c.in-Some.turn.entered ≡ c.args.on.now = search rules in
-    same_given (g.F.Disturb.others others) g.D.Domain.meaning plan body c.args.flag c.args.on.now c.args.kept c.in-Some.turn c.in-Some.is same kept
+    same_given (g.F.Interfere.interference others) g.D.Domain.abstraction plan body c.args.flag c.args.on.now c.args.kept c.in-Some.turn c.in-Some.is same kept

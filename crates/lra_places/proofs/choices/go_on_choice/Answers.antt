@@ -4,5 +4,5 @@ use Rattle.lra_places.proofs.choices.go_on_choice.Goals as goal
 
 pub returns-clause-leads : goal.returns-clause-leads
 returns-clause-leads g c others set whole part memory may owed made =
-    branch_leads (g.F.Disturb.others others) g.D.Domain.meaning set c.args.place c.args.first c.in_ok-place.place
+    branch_leads (g.F.Interfere.interference others) g.D.Domain.abstraction set c.args.place c.args.first c.in_ok-place.place
     c.note.result whole part memory c.in_ok-place.ensures.ok may owed made c.note.ensures

@@ -4,5 +4,5 @@ use Rattle.lra_places.proofs.choices.open_choice.Goals as goal
 
 pub returns-clause-leads : goal.returns-clause-leads
 returns-clause-leads g c others set whole plan is first flagged may =
-    choice_opens (g.F.Disturb.others others) g.D.Domain.meaning set c.args.choice c.in_ok-sides.sides c.args.value
+    choice_opens (g.F.Interfere.interference others) g.D.Domain.abstraction set c.args.choice c.in_ok-sides.sides c.args.value
     c.args.flag c.note.result whole c.in_ok-sides.ensures c.note.ensures plan is first flagged may

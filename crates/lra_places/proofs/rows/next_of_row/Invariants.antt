@@ -6,7 +6,7 @@ use Rattle.lra_places.proofs.rows.next_of_row.Given as goal
 abbrev pub invariant-leaves : goal.invariant-leaves
 invariant-leaves g l = record {
   owes : (others : g.row.F.Denot) →
-      OwesLess (g.F.Disturb.others others) g.D.Domain.meaning l.plan l.fn.the_row.trees.now l.left l.last l.fn.so_far l.so_far;
+      OwesLess (g.F.Interfere.interference others) g.D.Domain.abstraction l.plan l.fn.the_row.trees.now l.left l.last l.fn.so_far l.so_far;
   steps : (n : ℕ) → row_steps n l.left l.last ≤ row_steps n l.fn.the_row.trees.now l.last;
 }
 

@@ -8,7 +8,7 @@ use Rattle.lra_places.proofs.rows.open_first.Goals as goal
 pub returns-clause-leads : goal.returns-clause-leads
 returns-clause-leads g c others set whole memory gs plan first may loop =
     let so_far = c.args.so_far in
-    row_leads (g.F.Disturb.others others) g.D.Domain.meaning set
+    row_leads (g.F.Interfere.interference others) g.D.Domain.abstraction set
     (record { behind = c.args.behind; found = so_far.found }) gs c.args.node.now so_far.normal so_far.flag whole memory plan first may loop
 
 pub returns-clause-steps : goal.returns-clause-steps

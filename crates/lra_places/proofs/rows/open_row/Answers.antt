@@ -10,7 +10,7 @@ next_of_row-requires-clause-way g c =
       way.1,
       way.1.memory,
       way.2,
-      row_opened (g.F.Disturb.others way.0) g.D.Domain.meaning c.args.the_row.plan.now c.args.the_row.trees.now
+      row_opened (g.F.Interfere.interference way.0) g.D.Domain.abstraction c.args.the_row.plan.now c.args.the_row.trees.now
           c.args.the_row.last.now way.1 c.args.value c.args.flag c.nothing_yet.result way.3 way.4 way.5 way.2 begun.found
           begun.normal begun.flag,
     )
@@ -19,5 +19,5 @@ pub returns-clause-leads : goal.returns-clause-leads
 returns-clause-leads g c others set whole plan is first flagged may =
     let begun = c.nothing_yet.ensures in
     c.next_of_row.ensures.leads others set whole whole.memory plan may
-    (row_opened (g.F.Disturb.others others) g.D.Domain.meaning set c.args.the_row.trees.now c.args.the_row.last.now whole
+    (row_opened (g.F.Interfere.interference others) g.D.Domain.abstraction set c.args.the_row.trees.now c.args.the_row.last.now whole
     c.args.value c.args.flag c.nothing_yet.result is first flagged may begun.found begun.normal begun.flag)

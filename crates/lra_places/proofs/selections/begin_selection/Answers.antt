@@ -15,13 +15,13 @@ see-requires g c =
 
 pub match_none-requires-clause-width : goal.match_none-requires-clause-width
 match_none-requires-clause-width g c =
-    seen_wide g.D.Domain.meaning c.in_ok-seen.seen c.args.value c.args.value c.dims.result c.args.selection.base
+    seen_wide g.D.Domain.abstraction c.in_ok-seen.seen c.args.value c.args.value c.dims.result c.args.selection.base
     (expr_view c.args.selection.value.now) c.in_ok-seen.ensures c.dims.ensures refl
 
 pub returns : goal.returns
 returns g c others set whole plan is first flagged may =
-    let o = g.F.Disturb.others others in
-    let m = g.D.Domain.meaning in
+    let o = g.F.Interfere.interference others in
+    let m = g.D.Domain.abstraction in
     let base = c.args.selection.base in
     let e = expr_view c.args.selection.value.now in
     let none = c.in_ok-none.none in

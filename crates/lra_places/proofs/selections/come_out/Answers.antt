@@ -9,16 +9,16 @@ use Rattle.lra_places.proofs.selections.come_out.Goals as goal
 pub returns-in-None : goal.returns-in-None
 returns-in-None g c =
     let s = c.args.selecting in
-    comes_out_none g.D.Domain.meaning s.selection.point s.has_default s.other c.args.so_far c.in-None.is
+    comes_out_none g.D.Domain.abstraction s.selection.point s.has_default s.other c.args.so_far c.in-None.is
 
 pub join_other-requires : goal.join_other-requires
 join_other-requires g c =
-    let m = g.D.Domain.meaning in
+    let m = g.D.Domain.abstraction in
     run_dims m (m.dims c.args.selecting.other) c.args.so_far.normal c.in-Some.normal c.in-Some.is c.requires
 
 pub returns : goal.returns
 returns g c =
-    let m = g.D.Domain.meaning in
+    let m = g.D.Domain.abstraction in
     let s = c.args.selecting in
     let running : Outcome g.row.D.Denot = record { found = c.args.so_far.found; normal = c.in-Some.normal; flag = c.args.so_far.flag } in
     IfOk-weaker c.join_other.result (λ r. ComesOutAt m s.selection.point s.has_default s.other (running_on running) r)

@@ -6,11 +6,11 @@ use Rattle.lra_places.proofs.SelectPlaces.{entered_at}
 use Rattle.lra_places.proofs.selections.enter.Goals as goal
 
 pub join_running-requires : goal.join_running-requires
-join_running-requires g c = subst (λ (n : ℕ). RunHas g.D.Domain.meaning n c.args.so_far.normal) (sym c.in_ok-entered.ensures.dims) c.requires.running
+join_running-requires g c = subst (λ (n : ℕ). RunHas g.D.Domain.abstraction n c.args.so_far.normal) (sym c.in_ok-entered.ensures.dims) c.requires.running
 
 pub returns : goal.returns
 returns g c base e same =
-    let m = g.D.Domain.meaning in
+    let m = g.D.Domain.abstraction in
     let s = c.args.selecting.now in
     let k = c.in_ok-entered.entered in
     let q = s.selection.point in

@@ -13,7 +13,7 @@ use Rattle.lra_places.proofs.selections.enter_at.Goals as goal
 
 pub returns-in-Default-clause-enters : goal.returns-in-Default-clause-enters
 returns-in-Default-clause-enters g c base e same =
-    let m = g.D.Domain.meaning in
+    let m = g.D.Domain.abstraction in
     let s = c.args.selecting.now in
     let l = c.args.label.now in
     IfOk-weaker c.enter_default.result (λ (k : Kept _). k ≡ record { value = s.other; exactness = Exact })
@@ -22,14 +22,14 @@ returns-in-Default-clause-enters g c base e same =
 
 pub returns-in-Default-clause-dims : goal.returns-in-Default-clause-dims
 returns-in-Default-clause-dims g c =
-    let m = g.D.Domain.meaning in
+    let m = g.D.Domain.abstraction in
     let s = c.args.selecting.now in
     IfOk-weaker c.enter_default.result (λ (k : Kept _). k ≡ record { value = s.other; exactness = Exact }) (λ (k : Kept _). m.dims k.value ≡ m.dims s.from)
     (λ k is. ap (λ (x : Kept _). m.dims x.value) is ∙ c.requires.other) c.enter_default.ensures
 
 pub returns-in-Case-clause-enters : goal.returns-in-Case-clause-enters
 returns-in-Case-clause-enters g c base e same =
-    let m = g.D.Domain.meaning in
+    let m = g.D.Domain.abstraction in
     let s = c.args.selecting.now in
     let l = c.args.label.now in
     let z = c.in-Case.number in

@@ -7,17 +7,17 @@ use Rattle.lra_change.specs.Changes.{Does}
 use Rattle.lra_places.proofs.selections.enter_case.Goals as goal
 
 pub leave_number-requires-clause-few : goal.leave_number-requires-clause-few
-leave_number-requires-clause-few g c = subst (λ v. g.D.Domain.meaning.dims v ≤ most_live) (sym c.in_ok-value.ensures) c.requires.few
+leave_number-requires-clause-few g c = subst (λ v. g.D.Domain.abstraction.dims v ≤ most_live) (sym c.in_ok-value.ensures) c.requires.few
 
 pub leave_number-requires-clause-width : goal.leave_number-requires-clause-width
-leave_number-requires-clause-width g c = subst (λ v. SeenFits c.args.seen.now (g.D.Domain.meaning.dims v)) (sym c.in_ok-value.ensures) c.requires.width
+leave_number-requires-clause-width g c = subst (λ v. SeenFits c.args.seen.now (g.D.Domain.abstraction.dims v)) (sym c.in_ok-value.ensures) c.requires.width
 
 pub returns-clause-leaves : goal.returns-clause-leaves
 returns-clause-leaves g c =
-    let m = g.D.Domain.meaning in
+    let m = g.D.Domain.abstraction in
     subst (λ v. Does m (number_moves (m.dims v) true c.args.seen.now c.args.number.now) v c.in_ok-exactness.exactness c.leave_number.new.value)
     c.in_ok-value.ensures
     c.in_ok-exactness.ensures.leaves
 
 pub returns-clause-dims : goal.returns-clause-dims
-returns-clause-dims g c = c.in_ok-exactness.ensures.dims ∙ ap g.D.Domain.meaning.dims c.in_ok-value.ensures
+returns-clause-dims g c = c.in_ok-exactness.ensures.dims ∙ ap g.D.Domain.abstraction.dims c.in_ok-value.ensures

@@ -5,10 +5,10 @@ use Rattle.lra_places.proofs.selections.leave_arm.Goals as goal
 
 pub returns-in-Entry-clause-leaves : goal.returns-in-Entry-clause-leaves
 returns-in-Entry-clause-leaves g c base e behind last all same =
-    entry_left g.D.Domain.meaning base e c.leave_label.result c.args.arm.now c.in-Entry.label behind c.args.value.now c.leave_label.new.value c.args.before
+    entry_left g.D.Domain.abstraction base e c.leave_label.result c.args.arm.now c.in-Entry.label behind c.args.value.now c.leave_label.new.value c.args.before
     last all
     c.in-Entry.is (c.leave_label.ensures.leaves base e (entries_of behind) last all same)
 
 pub returns-in-Tree-clause-leaves : goal.returns-in-Tree-clause-leaves
 returns-in-Tree-clause-leaves g c base e behind last all same none =
-    tree_left g.D.Domain.meaning base e c.args.arm.now c.in-Tree.field-0 behind c.args.value.now c.args.before last all c.in-Tree.is none
+    tree_left g.D.Domain.abstraction base e c.args.arm.now c.in-Tree.field-0 behind c.args.value.now c.args.before last all c.in-Tree.is none

@@ -4,9 +4,9 @@ use Rattle.lra_places.proofs.selections.leave_label.Goals as goal
 
 pub returns-in-Default-clause-leaves : goal.returns-in-Default-clause-leaves
 returns-in-Default-clause-leaves g c base e labels last all same none =
-    default_left g.D.Domain.meaning base e c.args.label.now labels c.args.value.now c.args.before last all c.in-Default.is none
+    default_left g.D.Domain.abstraction base e c.args.label.now labels c.args.value.now c.args.before last all c.in-Default.is none
 
 pub returns-in_ok-exactness-in-Case-clause-leaves : goal.returns-in_ok-exactness-in-Case-clause-leaves
 returns-in_ok-exactness-in-Case-clause-leaves g c base e labels last all same none =
-    case_left g.D.Domain.meaning base e c.args.label.now c.in-Case.number labels c.args.seen.now c.args.value.now c.leave_number.new.value c.args.before
+    case_left g.D.Domain.abstraction base e c.args.label.now c.in-Case.number labels c.args.seen.now c.args.value.now c.leave_number.new.value c.args.before
     c.in_ok-exactness-in-Case.exactness c.worse.result last all c.in-Case.is same c.in_ok-exactness-in-Case.ensures.leaves c.worse.ensures.is none

@@ -9,17 +9,17 @@ use Rattle.lra_flow.specs.Seen.{SeenFits, seen_of}
 use Rattle.lra_places.proofs.selections.match_none.Goals as goal
 
 pub leave_all-requires-clause-few : goal.leave_all-requires-clause-few
-leave_all-requires-clause-few g c = subst (λ v. g.D.Domain.meaning.dims v ≤ most_live) (sym c.in_ok-value.ensures) c.requires.few
+leave_all-requires-clause-few g c = subst (λ v. g.D.Domain.abstraction.dims v ≤ most_live) (sym c.in_ok-value.ensures) c.requires.few
 
 pub leave_all-requires-clause-width : goal.leave_all-requires-clause-width
-leave_all-requires-clause-width g c = subst (λ v. SeenFits c.args.seen.now (g.D.Domain.meaning.dims v)) (sym c.in_ok-value.ensures) c.requires.width
+leave_all-requires-clause-width g c = subst (λ v. SeenFits c.args.seen.now (g.D.Domain.abstraction.dims v)) (sym c.in_ok-value.ensures) c.requires.width
 
 pub returns-clause-leaves : goal.returns-clause-leaves
 returns-clause-leaves g c base e same =
-    let m = g.D.Domain.meaning in
+    let m = g.D.Domain.abstraction in
     subst (λ v. MatchesNone (dropping m) base e (entries_of (arms_of (map arm_view c.args.arms.now))) v c.in_ok-exactness.exactness c.leave_all.new.value)
     c.in_ok-value.ensures
     (c.in_ok-exactness.ensures.leaves base e (same ∙ ap (λ v. seen_of (m.dims v) base e) (sym c.in_ok-value.ensures)))
 
 pub returns-clause-dims : goal.returns-clause-dims
-returns-clause-dims g c = c.in_ok-exactness.ensures.dims ∙ ap g.D.Domain.meaning.dims c.in_ok-value.ensures
+returns-clause-dims g c = c.in_ok-exactness.ensures.dims ∙ ap g.D.Domain.abstraction.dims c.in_ok-value.ensures

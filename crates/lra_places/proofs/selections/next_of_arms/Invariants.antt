@@ -6,7 +6,8 @@ use Rattle.lra_places.proofs.selections.next_of_arms.Given as goal
 
 abbrev pub invariant-arms : goal.invariant-arms
 invariant-arms g l = record {
-  owes : (others : g.row.F.Denot) (set : Plan) → OwesArms (g.F.Disturb.others others) g.D.Domain.meaning set l.selecting l.fn.arms l.left l.fn.so_far l.running;
+  owes : (others : g.row.F.Denot) (set : Plan) →
+      OwesArms (g.F.Interfere.interference others) g.D.Domain.abstraction set l.selecting l.fn.arms l.left l.fn.so_far l.running;
   steps : (n : ℕ) → arms_steps n l.left ≤ arms_steps n l.fn.arms;
 }
 

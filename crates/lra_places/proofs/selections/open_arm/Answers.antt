@@ -12,14 +12,14 @@ use Rattle.lra_places.proofs.selections.open_arm.Goals as goal
 
 pub returns-clause-leads : goal.returns-clause-leads
 returns-clause-leads g c others set whole memory plan may here loop =
-    let m = g.D.Domain.meaning in
+    let m = g.D.Domain.abstraction in
     let s = c.args.selecting in
     let from = subst (λ (p : Plan). RunsFrom (dropping m) (m.dims s.from) p.parts c.args.so_far.normal c.in_ok-value.value) plan c.in_ok-value.ensures.from in
     let runs = subst (λ (n : ℕ). RunHas m n c.args.so_far.normal) (ap m.dims (sym here.from)) loop.running_dims in
-    arm_leads (g.F.Disturb.others others) m set s c.args.node.now c.in_ok-value.value c.in_ok-place.place c.args.behind c.args.so_far.found
+    arm_leads (g.F.Interfere.interference others) m set s c.args.node.now c.in_ok-value.value c.in_ok-place.place c.args.behind c.args.so_far.found
     c.args.so_far.normal c.args.so_far.flag whole memory c.in_ok-place.ensures.ok may here loop from (c.in_ok-value.ensures.dims runs)
 
 pub returns-clause-steps : goal.returns-clause-steps
 returns-clause-steps g c b set =
-    let m = g.D.Domain.meaning in
+    let m = g.D.Domain.abstraction in
     ap (λ (p : SelectPlace _). (1 + arms_steps (most_rounds b set) p.behind.now) + tree_steps m b set c.args.node.now) c.in_ok-place.ensures.ok

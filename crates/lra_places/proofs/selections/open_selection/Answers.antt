@@ -9,7 +9,7 @@ use Rattle.lra_places.proofs.selections.open_selection.Goals as goal
 pub begin_selection-requires : goal.begin_selection-requires
 begin_selection-requires g c =
     let way = c.requires.way in
-    subst (λ v. g.D.Domain.meaning.dims v ≤ most_live) way.4 way.2.few
+    subst (λ v. g.D.Domain.abstraction.dims v ≤ most_live) way.4 way.2.few
 
 pub next_of_arms-requires-clause-parts : goal.next_of_arms-requires-clause-parts
 next_of_arms-requires-clause-parts g c =
@@ -21,7 +21,7 @@ pub next_of_arms-requires-clause-way : goal.next_of_arms-requires-clause-way
 next_of_arms-requires-clause-way g c =
     let way = c.requires.way in
     let begun = c.in_ok-selecting.ensures way.0 c.args.selection.plan.now way.1 refl way.3 way.4 way.5 way.2 in
-    arms_way g.F.Disturb.others way.0 g.D.Domain.meaning c.args.selection.plan.now c.in_ok-selecting.selecting
+    arms_way g.F.Interfere.interference way.0 g.D.Domain.abstraction c.args.selection.plan.now c.in_ok-selecting.selecting
     (arms_of (map arm_view c.args.selection.arms.now)) c.in_ok-selecting.so_far way.1 way.1.memory begun.0.plan way.2 begun.0 begun.1
 
 pub returns-clause-leads : goal.returns-clause-leads

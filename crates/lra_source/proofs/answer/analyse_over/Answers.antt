@@ -9,7 +9,7 @@ use Rattle.lra_source.proofs.answer.analyse_over.Goals as goal
 
 pub returns-clause-answered : goal.returns-clause-answered
 returns-clause-answered g c =
-    is_answered g.D.Domain.meaning g.met.D.Domain.laws g.D.Show.shown c.args.options c.in_ok-front.front.constants.items c.args.bytes.now
+    is_answered g.D.Domain.abstraction g.met.D.Domain.laws g.D.Show.shown c.args.options c.in_ok-front.front.constants.items c.args.bytes.now
     (tree_view c.in_ok-front.front.tree) (report_of c.in_ok-report.report) c.in_ok-front.ensures.tree c.in_ok-front.ensures.constants c.in_ok-report.ensures c.requires.parts
 
 pub report_front-requires-clause-plan : goal.report_front-requires-clause-plan

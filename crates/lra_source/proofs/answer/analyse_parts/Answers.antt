@@ -9,11 +9,11 @@ use Rattle.lra_source.proofs.answer.analyse_parts.Goals as goal
 pub returns-then-options-gt1-clause-answered : goal.returns-then-options-gt1-clause-answered
 returns-then-options-gt1-clause-answered g c =
     IfOk-weaker c.analyse_over.result _ _
-    (λ r. over_sets (λ V H m shown. IsAnsweredOver m shown c.args.options c.args.bytes.now (report_of r)) g.D.Domain.meaning g.D.Show.shown c.args.options.parts c.if-options-gt1.true)
+    (λ r. over_sets (λ V H m shown. IsAnsweredOver m shown c.args.options c.args.bytes.now (report_of r)) g.D.Domain.abstraction g.D.Show.shown c.args.options.parts c.if-options-gt1.true)
     c.analyse_over.ensures.answered
 
 pub returns-else-options-gt1-clause-answered : goal.returns-else-options-gt1-clause-answered
 returns-else-options-gt1-clause-answered g c =
     IfOk-weaker c.analyse_over-else-options-gt1.result _ _
-    (λ r. over_one (λ V H m shown. IsAnsweredOver m shown c.args.options c.args.bytes.now (report_of r)) g.D.Domain.meaning g.D.Show.shown c.args.options.parts c.if-options-gt1.false)
+    (λ r. over_one (λ V H m shown. IsAnsweredOver m shown c.args.options c.args.bytes.now (report_of r)) g.D.Domain.abstraction g.D.Show.shown c.args.options.parts c.if-options-gt1.false)
     c.analyse_over-else-options-gt1.ensures.answered

@@ -2,8 +2,8 @@
 -- or its one refusal; memory may be wanting.
 use Rattle.std.proofs.lemmas.Result.{IfOk-weaker}
 use Rattle.lra_options.specs.declared.options.Domain.TheVariants.{Poly, Box, Oct}
-use Rattle.lra_box.specs.Meaning.{box_meaning}
-use Rattle.lra_oct.specs.Meaning.{octagon_meaning}
+use Rattle.lra_box.specs.Abstraction.{box_abstraction}
+use Rattle.lra_octagon.specs.Abstraction.{octagon_abstraction}
 use Rattle.lra_polydom.specs.Meaning.{polyhedron_meaning}
 use Rattle.lra_report.specs.View.{report_of}
 use Rattle.lra_states.specs.Polyhedra.{shown_polyhedron}
@@ -18,10 +18,10 @@ returns-in-Poly-clause-answered c =
 
 pub returns-in-Box-clause-answered : goal.returns-in-Box-clause-answered
 returns-in-Box-clause-answered c =
-    IfOk-weaker c.analyse_parts-in-Box.result _ _ (λ r. over_domain Box c.args.options c.args.bytes.now box_meaning (shown_state box_meaning) c.in-Box.is (λ say h. h) (report_of r))
+    IfOk-weaker c.analyse_parts-in-Box.result _ _ (λ r. over_domain Box c.args.options c.args.bytes.now box_abstraction (shown_state box_abstraction) c.in-Box.is (λ say h. h) (report_of r))
     c.analyse_parts-in-Box.ensures.answered
 
 pub returns-in-Oct-clause-answered : goal.returns-in-Oct-clause-answered
 returns-in-Oct-clause-answered c =
-    IfOk-weaker c.analyse_parts-in-Oct.result _ _ (λ r. over_domain Oct c.args.options c.args.bytes.now octagon_meaning (shown_state octagon_meaning) c.in-Oct.is (λ say h. h) (report_of r))
+    IfOk-weaker c.analyse_parts-in-Oct.result _ _ (λ r. over_domain Oct c.args.options c.args.bytes.now octagon_abstraction (shown_state octagon_abstraction) c.in-Oct.is (λ say h. h) (report_of r))
     c.analyse_parts-in-Oct.ensures.answered

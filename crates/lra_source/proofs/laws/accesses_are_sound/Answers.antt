@@ -3,4 +3,4 @@ use Rattle.lra_source.proofs.AccessesHold.{accesses_sound}
 use Rattle.lra_source.proofs.laws.accesses_are_sound.Goals as goal
 
 pub returns : goal.returns
-returns g c = accesses_sound _ _ g.D.Domain.meaning g.met.D.Domain.laws
+returns g c = accesses_sound _ _ g.D.Domain.abstraction g.met.D.Domain.laws

@@ -3,4 +3,4 @@ use Rattle.lra_source.proofs.FitsHold.{fitting_sound}
 use Rattle.lra_source.proofs.laws.fitting_is_sound.Goals as goal
 
 pub returns : goal.returns
-returns g c = fitting_sound _ _ g.D.Domain.meaning g.met.D.Domain.laws
+returns g c = fitting_sound _ _ g.D.Domain.abstraction g.met.D.Domain.laws

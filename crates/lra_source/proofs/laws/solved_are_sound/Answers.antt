@@ -3,4 +3,4 @@ use Rattle.lra_source.proofs.Holding.{solved_holds}
 use Rattle.lra_source.proofs.laws.solved_are_sound.Goals as goal
 
 pub returns : goal.returns
-returns g c = solved_holds _ _ g.D.Domain.meaning g.met.D.Domain.laws
+returns g c = solved_holds _ _ g.D.Domain.abstraction g.met.D.Domain.laws

@@ -20,18 +20,18 @@ list-requires-clause-numbers g c =
 
 pub list-requires-clause-states : goal.list-requires-clause-states
 list-requires-clause-states g c =
-    rw c.as_slice-sites.ensures.value (states_handed g.D.Domain.meaning (tree_view c.args.front.now.tree) (node_view c.args.front.now.graph.tree)
+    rw c.as_slice-sites.ensures.value (states_handed g.D.Domain.abstraction (tree_view c.args.front.now.tree) (node_view c.args.front.now.graph.tree)
     (map site_view c.args.front.now.graph.sites.items) c.requires.graph (plan_of c.args.options c.args.front.now.constants.items)
     c.args.solution.now.values.items c.args.solution.now.verdicts.items c.args.solution.now.flagged
     c.requires.solved
     g.met.D.Domain.laws c.args.options.domain g.D.Show.shown
-    (shown_there g.D.Domain.meaning g.D.Show.shown c.args.options.domain g.D.Show.named c.args.solution.now.values.items _ c.requires.named
+    (shown_there g.D.Domain.abstraction g.D.Show.shown c.args.options.domain g.D.Show.named c.args.solution.now.values.items _ c.requires.named
     c.deref.ensures.value c.in_ok-states.ensures.told)
     _ (c.in_ok-states.ensures.shown ∙ ap (map _) c.deref.ensures.value))
 
 pub list-requires-clause-verdicts : goal.list-requires-clause-verdicts
 list-requires-clause-verdicts g c =
-    rw (c.as_slice-sites.ensures.value, c.deref-2.ensures.value) (verdicts_handed g.D.Domain.meaning (tree_view c.args.front.now.tree)
+    rw (c.as_slice-sites.ensures.value, c.deref-2.ensures.value) (verdicts_handed g.D.Domain.abstraction (tree_view c.args.front.now.tree)
     (node_view c.args.front.now.graph.tree) (map site_view c.args.front.now.graph.sites.items) c.requires.graph
     (plan_of c.args.options c.args.front.now.constants.items)
     c.args.solution.now.values.items c.args.solution.now.verdicts.items c.args.solution.now.flagged
@@ -39,7 +39,7 @@ list-requires-clause-verdicts g c =
 
 pub judge_solution-requires-clause-few : goal.judge_solution-requires-clause-few
 judge_solution-requires-clause-few g c =
-    few_dims g.D.Domain.meaning (tree_view c.args.front.now.tree) (node_view c.args.front.now.graph.tree)
+    few_dims g.D.Domain.abstraction (tree_view c.args.front.now.tree) (node_view c.args.front.now.graph.tree)
     (map site_view c.args.front.now.graph.sites.items) c.requires.graph
     (plan_of c.args.options c.args.front.now.constants.items) c.args.solution.now.values.items c.args.solution.now.verdicts.items
     c.args.solution.now.flagged
@@ -47,7 +47,7 @@ judge_solution-requires-clause-few g c =
 
 pub judge_solution-requires-clause-computing : goal.judge_solution-requires-clause-computing
 judge_solution-requires-clause-computing g c =
-    asked_handed g.D.Domain.meaning (tree_view c.args.front.now.tree) (node_view c.args.front.now.graph.tree)
+    asked_handed g.D.Domain.abstraction (tree_view c.args.front.now.tree) (node_view c.args.front.now.graph.tree)
     (map site_view c.args.front.now.graph.sites.items) c.requires.graph
     (plan_of c.args.options c.args.front.now.constants.items) c.args.solution.now.values.items c.args.solution.now.verdicts.items
     c.args.solution.now.flagged
@@ -55,7 +55,7 @@ judge_solution-requires-clause-computing g c =
 
 pub judge_solution-requires-clause-accessing : goal.judge_solution-requires-clause-accessing
 judge_solution-requires-clause-accessing g c =
-    accessed_handed g.D.Domain.meaning (tree_view c.args.front.now.tree) (node_view c.args.front.now.graph.tree)
+    accessed_handed g.D.Domain.abstraction (tree_view c.args.front.now.tree) (node_view c.args.front.now.graph.tree)
     (map site_view c.args.front.now.graph.sites.items) c.requires.graph
     (plan_of c.args.options c.args.front.now.constants.items) c.args.solution.now.values.items c.args.solution.now.verdicts.items
     c.args.solution.now.flagged
@@ -66,7 +66,7 @@ list-requires-clause-graph g c = (node_view c.args.front.now.graph.tree, c.requi
 
 pub list-requires-clause-fitting : goal.list-requires-clause-fitting
 list-requires-clause-fitting g c = λ h also.
-    rw (c.as_slice-sites.ensures.value, c.deref-3.ensures.value) (fitting_handed g.D.Domain.meaning (tree_view c.args.front.now.tree)
+    rw (c.as_slice-sites.ensures.value, c.deref-3.ensures.value) (fitting_handed g.D.Domain.abstraction (tree_view c.args.front.now.tree)
     (node_view c.args.front.now.graph.tree)
     (map site_view c.args.front.now.graph.sites.items) c.requires.graph
     (plan_of c.args.options c.args.front.now.constants.items) c.args.solution.now.values.items c.args.solution.now.verdicts.items
@@ -76,7 +76,7 @@ list-requires-clause-fitting g c = λ h also.
 
 pub list-requires-clause-inside : goal.list-requires-clause-inside
 list-requires-clause-inside g c = λ h also.
-    rw (c.as_slice-sites.ensures.value, c.deref-4.ensures.value) (inside_handed g.D.Domain.meaning (tree_view c.args.front.now.tree)
+    rw (c.as_slice-sites.ensures.value, c.deref-4.ensures.value) (inside_handed g.D.Domain.abstraction (tree_view c.args.front.now.tree)
     (node_view c.args.front.now.graph.tree)
     (map site_view c.args.front.now.graph.sites.items) c.requires.graph
     (plan_of c.args.options c.args.front.now.constants.items) c.args.solution.now.values.items c.args.solution.now.verdicts.items
@@ -87,7 +87,7 @@ list-requires-clause-inside g c = λ h also.
 
 pub list-requires-clause-flag : goal.list-requires-clause-flag
 list-requires-clause-flag g c = λ q is.
-    let low = last_handed g.D.Domain.meaning (tree_view c.args.front.now.tree) (node_view c.args.front.now.graph.tree)
+    let low = last_handed g.D.Domain.abstraction (tree_view c.args.front.now.tree) (node_view c.args.front.now.graph.tree)
     (map site_view c.args.front.now.graph.sites.items) c.requires.graph
     (plan_of c.args.options c.args.front.now.constants.items) c.args.solution.now.values.items c.args.solution.now.verdicts.items c.args.solution.now.flagged
     c.requires.solved
@@ -105,15 +105,15 @@ returns-clause-told g c =
     let judged = c.in_ok-judged.judged in
     let shown : map (λ x. x.items) c.in_ok-states.states.items ≡ map g.D.Show.shown values = c.in_ok-states.ensures.shown ∙ ap (map _) c.deref.ensures.value
     in
-    is_told g.D.Domain.meaning g.D.Show.shown o c.args.front.now.constants.items (tree_view c.args.front.now.tree) (node_view c.args.front.now.graph.tree) (map site_view c.args.front.now.graph.sites.items)
+    is_told g.D.Domain.abstraction g.D.Show.shown o c.args.front.now.constants.items (tree_view c.args.front.now.tree) (node_view c.args.front.now.graph.tree) (map site_view c.args.front.now.graph.sites.items)
     values c.args.solution.now.verdicts.items c.args.solution.now.flagged judged.fitting.verdicts.items judged.fitting.flagged
     (map told_view judged.inside.verdicts.items) judged.inside.flagged
     (map (λ x. x.items) c.in_ok-states.states.items) (report_of c.in_ok-report.report) c.requires.graph
     c.requires.solved
     c.in_ok-judged.ensures.fits c.in_ok-judged.ensures.accesses shown
-    (shown_there g.D.Domain.meaning g.D.Show.shown o.domain g.D.Show.named values _ c.requires.named c.deref.ensures.value c.in_ok-states.ensures.told)
+    (shown_there g.D.Domain.abstraction g.D.Show.shown o.domain g.D.Show.named values _ c.requires.named c.deref.ensures.value c.in_ok-states.ensures.told)
     c.in_ok-states.ensures.spelled g.met.D.Domain.laws
-    (canonical_there g.D.Domain.meaning.dims g.D.Show.shown o.domain g.D.Show.named values _ c.requires.named c.deref.ensures.value
+    (canonical_there g.D.Domain.abstraction.dims g.D.Show.shown o.domain g.D.Show.named values _ c.requires.named c.deref.ensures.value
     c.in_ok-states.ensures.canonical)
     c.in_ok-report.ensures.options c.in_ok-report.ensures.lists c.in_ok-report.ensures.states
     (told_so _ _ _ _ _ _ _ c.in_ok-report.ensures.verdicts c.deref-2.ensures.value c.deref-3.ensures.value (ap (map told_view) c.deref-4.ensures.value))
@@ -121,7 +121,7 @@ returns-clause-told g c =
 
 pub returns-clause-own : goal.returns-clause-own
 returns-clause-own g c =
-    tells_solution g.D.Domain.meaning g.D.Show.shown c.args.options.fits (node_view c.args.front.now.graph.tree) c.args.solution.now.values.items
+    tells_solution g.D.Domain.abstraction g.D.Show.shown c.args.options.fits (node_view c.args.front.now.graph.tree) c.args.solution.now.values.items
     c.args.solution.now.verdicts.items c.args.solution.now.flagged c.in_ok-judged.judged.fitting.verdicts.items c.in_ok-judged.judged.fitting.flagged
     (map told_view c.in_ok-judged.judged.inside.verdicts.items)
     (map (λ x. x.items) c.in_ok-states.states.items) (report_of c.in_ok-report.report) c.in_ok-judged.ensures.fits

@@ -10,7 +10,7 @@ use Rattle.lra_states.proofs.sets.states_in_turn.Given as goal
 abbrev pub invariant-values : goal.invariant-values
 invariant-values g l = record {
   shown : l.state.items ≡ flat_map g.D.Show.shown (take l.value-index l.values);
-  told : AllByRecursion (λ v. IsShown g.D.Domain.meaning g.D.Show.named v (g.D.Show.shown v)) (take l.value-index l.values);
+  told : AllByRecursion (λ v. IsShown g.D.Domain.abstraction g.D.Show.named v (g.D.Show.shown v)) (take l.value-index l.values);
   spelled : AllByRecursion IsSpelledPart l.state.items;
-  canonical : AreCanonicallyShown g.D.Show.named g.D.Domain.meaning.dims g.D.Show.shown (take l.value-index l.values);
+  canonical : AreCanonicallyShown g.D.Show.named g.D.Domain.abstraction.dims g.D.Show.shown (take l.value-index l.values);
 }

@@ -9,7 +9,7 @@ use Rattle.lra_states.proofs.states.states_of.Given as goal
 abbrev pub invariant-values : goal.invariant-values
 invariant-values g l = record {
   shown : map (λ s. s.items) l.states.items ≡ map g.D.Show.shown (take l.value-index l.values);
-  told : AllByRecursion (λ v. IsShown g.D.Domain.meaning g.D.Show.named v (g.D.Show.shown v)) (take l.value-index l.values);
+  told : AllByRecursion (λ v. IsShown g.D.Domain.abstraction g.D.Show.named v (g.D.Show.shown v)) (take l.value-index l.values);
   spelled : AllByRecursion (AllByRecursion IsSpelledPart) (map (λ s. s.items) l.states.items);
-  canonical : AreCanonicallyShown g.D.Show.named g.D.Domain.meaning.dims g.D.Show.shown (take l.value-index l.values);
+  canonical : AreCanonicallyShown g.D.Show.named g.D.Domain.abstraction.dims g.D.Show.shown (take l.value-index l.values);
 }

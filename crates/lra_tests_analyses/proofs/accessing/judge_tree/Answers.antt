@@ -17,7 +17,7 @@ judge_accesses-requires-clause-few g c =
     let values = c.in_ok-solution.solution.values.items in
     let many = as_many c.in_ok-graph.graph.sites.items values c.in_ok-graph.ensures.sites c.in_ok-solution.ensures.points in
     let wide = rw (c.in_ok-graph.ensures.tree, c.in_ok-graph.ensures.sites) at c.in_ok-solution.ensures.wide in
-    rw c.deref.ensures.value (steps_few (test 0 is_inside true) written refl refl g.D.Domain.meaning values many wide)
+    rw c.deref.ensures.value (steps_few (test 0 is_inside true) written refl refl g.D.Domain.abstraction values many wide)
 
 pub judge_accesses-requires-clause-below : goal.judge_accesses-requires-clause-below
 judge_accesses-requires-clause-below g c =

@@ -18,7 +18,7 @@ judge-requires-clause-few g c =
     let values = c.in_ok-solution.solution.values.items in
     let many = as_many c.in_ok-graph.graph.sites.items values c.in_ok-graph.ensures.sites c.in_ok-solution.ensures.points in
     let wide = rw (c.in_ok-graph.ensures.tree, c.in_ok-graph.ensures.sites) at c.in_ok-solution.ensures.wide in
-    rw c.deref.ensures.value (steps_few (stepped plus) (stepped minus) refl refl g.D.Domain.meaning values many wide)
+    rw c.deref.ensures.value (steps_few (stepped plus) (stepped minus) refl refl g.D.Domain.abstraction values many wide)
 
 pub judge-requires-clause-below : goal.judge-requires-clause-below
 judge-requires-clause-below g c =

@@ -27,12 +27,12 @@ come_from_all-requires-clause-fit g c =
     let x = get_or t.forward.now p c.index-self-point.result in
     let count = c.requires.task.count in
     let inside : p < length t.sources.items = omega (arith, count, c.requires.point) in
-    heads_fit g.D.Domain.meaning t p c.index.result.now x c.args.heads.now c.requires.task c.requires.heads
+    heads_fit g.D.Domain.abstraction t p c.index.result.now x c.args.heads.now c.requires.task c.requires.heads
     (read_at t.sources.items p c.index.result.now inside c.index.ensures) (slice_get-get_or t.forward.now p c.index-self-point.result c.requires.point)
 
 pub join_seed-requires : goal.join_seed-requires
 join_seed-requires g c here =
-    let m = g.D.Domain.meaning in
+    let m = g.D.Domain.abstraction in
     let t = c.args.self.now in
     let p = c.args.point in
     let x = get_or t.forward.now p c.index-self-point.result in
@@ -49,7 +49,7 @@ or_empty-requires-clause-few g c =
 
 pub or_empty-requires-clause-has : goal.or_empty-requires-clause-has
 or_empty-requires-clause-has g c =
-    let m = g.D.Domain.meaning in
+    let m = g.D.Domain.abstraction in
     let t = c.args.self.now in
     let p = c.args.point in
     let x = get_or t.forward.now p c.index-self-point.result in
@@ -59,7 +59,7 @@ or_empty-requires-clause-has g c =
 
 pub returns-clause-next : goal.returns-clause-next
 returns-clause-next g c =
-    let ops = dropping g.D.Domain.meaning g.D.Backward.retracing in
+    let ops = dropping g.D.Domain.abstraction g.D.Backward.backward_abstraction in
     let t = c.args.self.now in
     let p = c.args.point in
     let heads = c.args.heads.now in

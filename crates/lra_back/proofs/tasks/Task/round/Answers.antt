@@ -15,7 +15,7 @@ none_and false own is = refl
 
 pub points-preserved-then-all : goal.points-preserved-then-all
 points-preserved-then-all g c =
-    let m = g.D.Domain.meaning in
+    let m = g.D.Domain.abstraction in
     let first = c.args.going.now in
     let now = c.points.going in
     let later = c.turn_unsettled.new.going in
@@ -26,7 +26,7 @@ points-preserved-then-all g c =
     let both = all_and c.points.all own c.if-all.true in
     record {
       going = c.in_ok-own.ensures.going;
-      still = next_turn (dropping m g.D.Backward.retracing) (task_view c.args.self.now) c.args.mode (length c.args.self.now.forward.now) first.flag
+      still = next_turn (dropping m g.D.Backward.backward_abstraction) (task_view c.args.self.now) c.args.mode (length c.args.self.now.forward.now) first.flag
           first.heads.items i (i - 1) now.flag now.heads.items c.points.all later.flag own turns.0 later.heads.items own next c.points.invariant.still turns.1
           turns.2 both;
       falls = ranks_next m c.args.mode first.heads.items now.heads.items later.heads.items c.points.all own own c.points.invariant.falls
@@ -35,7 +35,7 @@ points-preserved-then-all g c =
 
 pub points-preserved : goal.points-preserved
 points-preserved g c =
-    let m = g.D.Domain.meaning in
+    let m = g.D.Domain.abstraction in
     let first = c.args.going.now in
     let now = c.points.going in
     let later = c.turn_unsettled.new.going in
@@ -46,7 +46,7 @@ points-preserved g c =
     let both = none_and c.points.all own c.if-all.false in
     record {
       going = c.in_ok-own.ensures.going;
-      still = next_turn (dropping m g.D.Backward.retracing) (task_view c.args.self.now) c.args.mode (length c.args.self.now.forward.now) first.flag
+      still = next_turn (dropping m g.D.Backward.backward_abstraction) (task_view c.args.self.now) c.args.mode (length c.args.self.now.forward.now) first.flag
           first.heads.items i (i - 1) now.flag now.heads.items c.points.all later.flag own turns.0 later.heads.items c.points.all next
           c.points.invariant.still turns.1 turns.2 both;
       falls = ranks_next m c.args.mode first.heads.items now.heads.items later.heads.items c.points.all own c.points.all c.points.invariant.falls
@@ -55,7 +55,7 @@ points-preserved g c =
 
 pub returns-clause-round : goal.returns-clause-round
 returns-clause-round g c =
-    let ops = dropping g.D.Domain.meaning g.D.Backward.retracing in
+    let ops = dropping g.D.Domain.abstraction g.D.Backward.backward_abstraction in
     let t = task_view c.args.self.now in
     let n = length c.args.self.now.forward.now in
     let first = c.args.going.now in

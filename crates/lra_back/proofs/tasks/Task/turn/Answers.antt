@@ -11,5 +11,5 @@ returns-clause-heads g c =
     let h = c.index_mut.result.now in
     let count = c.requires.heads.count in
     let inside : p < length heads = omega (arith, c.requires.point, count) in
-    heads_set g.D.Domain.meaning c.args.self.now.forward.now heads p h c.grow.new.head c.requires.heads (read_at heads p h inside c.index_mut.ensures.value)
+    heads_set g.D.Domain.abstraction c.args.self.now.forward.now heads p h c.grow.new.head c.requires.heads (read_at heads p h inside c.index_mut.ensures.value)
     c.grow.ensures.dims c.in_ok-growth.ensures.fits

@@ -10,7 +10,7 @@ returns-then-branch-clause-widens g c =
     let first = c.args.going.now in
     let now = c.rounds.going in
     let later = c.round.new.going in
-    last_round (dropping g.D.Domain.meaning g.D.Backward.retracing) (task_view c.args.self.now) (length c.args.self.now.forward.now) first.flag
+    last_round (dropping g.D.Domain.abstraction g.D.Backward.backward_abstraction) (task_view c.args.self.now) (length c.args.self.now.forward.now) first.flag
     first.heads.items now.flag now.heads.items later.flag later.heads.items c.in_ok-round.field-0 c.if-branch.true c.rounds.invariant.still
     c.in_ok-round.ensures.round
 
@@ -21,7 +21,8 @@ rounds-preserved g c =
     let later = c.round.new.going in
     record {
       going = c.in_ok-round.ensures.going;
-      still = next_round (dropping g.D.Domain.meaning g.D.Backward.retracing) (task_view c.args.self.now) (length c.args.self.now.forward.now) first.flag
+      still = next_round (dropping g.D.Domain.abstraction g.D.Backward.backward_abstraction) (task_view c.args.self.now) (length c.args.self.now.forward.now)
+          first.flag
           first.heads.items now.flag now.heads.items later.flag later.heads.items c.in_ok-round.field-0 c.if-branch.false c.rounds.invariant.still
           c.in_ok-round.ensures.round;
     }

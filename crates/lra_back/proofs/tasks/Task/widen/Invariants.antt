@@ -8,10 +8,10 @@ use Rattle.lra_back.proofs.tasks.Task.widen.Given as goal
 -- what comes of these heads comes of the first ones
 abbrev pub invariant-rounds : goal.invariant-rounds
 invariant-rounds g l = record {
-  going : IsGoing g.D.Domain.meaning g.D.Backward.retracing l.self l.going;
-  still : StillWidens (dropping g.D.Domain.meaning g.D.Backward.retracing) (task_view l.self) (length l.self.forward.now) l.fn.going.flag
+  going : IsGoing g.D.Domain.abstraction g.D.Backward.backward_abstraction l.self l.going;
+  still : StillWidens (dropping g.D.Domain.abstraction g.D.Backward.backward_abstraction) (task_view l.self) (length l.self.forward.now) l.fn.going.flag
       l.fn.going.heads.items l.going.flag l.going.heads.items;
 }
 
 abbrev pub decreases-rounds : goal.decreases-rounds
-decreases-rounds g l = ranks_of g.D.Domain.meaning l.going.heads.items
+decreases-rounds g l = ranks_of g.D.Domain.abstraction l.going.heads.items

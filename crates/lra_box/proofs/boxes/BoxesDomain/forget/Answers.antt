@@ -2,24 +2,24 @@
 use Rattle.std.proofs.Common.{refl, ◌∙◌, ℤ}
 use Rattle.std.proofs.Math.ListN.{length-set}
 use Rattle.lra_box.specs.Covering.{within_refl}
-use Rattle.lra_box.specs.Bounds.{open_interval}
+use Rattle.lra_box.specs.Bounds.{full_interval}
 use Rattle.lra_box.proofs.BoundLemmas.{has_forgotten}
 use Rattle.lra_box.proofs.StepLemmas.{set_fit, forgotten_sound}
-use Rattle.lra_box.specs.Content.{seen}
+use Rattle.lra_box.specs.Content.{bounds_view}
 use Rattle.lra_box.proofs.boxes.BoxesDomain.forget.Goals as goal
 
 pub invariant_of-self : goal.invariant_of-self
 invariant_of-self c = (
   c.self.invariant.0,
-  rw c.forget_in.ensures (set_fit c.self.inside.dims c.args.x open_interval (seen c.self.inside.bounds) c.self.invariant.1),
-  rw c.forget_in.ensures (forgotten_sound c.args.x (seen c.self.inside.bounds) c.self.invariant.2),
+  rw c.forget_in.ensures (set_fit c.self.inside.dims c.args.x full_interval (bounds_view c.self.inside.bounds) c.self.invariant.1),
+  rw c.forget_in.ensures (forgotten_sound c.args.x (bounds_view c.self.inside.bounds) c.self.invariant.2),
 )
 
 pub returns-clause-meets : goal.returns-clause-meets
 returns-clause-meets c = rw (c.forget_in.ensures, ← c.self.view_is) (record {
   formed = (
-    set_fit c.self.inside.dims c.args.x open_interval (seen c.self.inside.bounds) c.self.invariant.1,
-    forgotten_sound c.args.x (seen c.self.inside.bounds) c.self.invariant.2,
+    set_fit c.self.inside.dims c.args.x full_interval (bounds_view c.self.inside.bounds) c.self.invariant.1,
+    forgotten_sound c.args.x (bounds_view c.self.inside.bounds) c.self.invariant.2,
   );
   keeps = λ s t h k. rw k.1 (length-set {A = ℤ} s c.args.x k.0 ∙ h.0, has_forgotten c.args.x _ s k.0 h.1);
   exact = λ e. record { table = refl; extremes = tt };

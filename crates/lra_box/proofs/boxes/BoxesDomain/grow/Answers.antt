@@ -1,7 +1,7 @@
 -- Goals of `BoxesDomain::grow`.
 use Rattle.std.proofs.Common.{◌≡◌, refl, ap, sym, ◌∙◌, inr}
 use Rattle.std.proofs.lemmas.Bool.{false≢true}
-use Rattle.lra_box.specs.Content.{Content, BoundsFit, seen}
+use Rattle.lra_box.specs.Content.{BoxContent, BoundsFit, bounds_view}
 use Rattle.lra_box.proofs.BoundLemmas.{grown_fit, has_grown_old, has_grown_new, grown_falls, rank_fits}
 use Rattle.lra_box.specs.Covering.{within_refl}
 use Rattle.lra_box.proofs.SoundLemmas.{grown_sound}
@@ -9,7 +9,7 @@ use Rattle.lra_box.proofs.boxes.BoxesDomain.grow.Goals as goal
 
 pub returns-then-is_within-clause-stays : goal.returns-then-is_within-clause-stays
 returns-then-is_within-clause-stays c = λ e.
-    let same : c.next.inside.dims ≡ c.head.inside.dims = ap (λ (b : Content). b.dims) c.next.view_is ∙ sym c.requires ∙ sym (ap (λ (b : Content). b.dims) c.head.view_is) in
+    let same : c.next.inside.dims ≡ c.head.inside.dims = ap (λ (b : BoxContent). b.dims) c.next.view_is ∙ sym c.requires ∙ sym (ap (λ (b : BoxContent). b.dims) c.head.view_is) in
     rw (← c.head.view_is, ← c.next.view_is) (same, c.is_within.ensures.0 c.if-is_within.true)
 
 pub returns-then-is_within-clause-fits : goal.returns-then-is_within-clause-fits
@@ -17,21 +17,23 @@ returns-then-is_within-clause-fits c = rw (← c.head.view_is) (rank_fits _ c.he
 
 pub invariant_of-head : goal.invariant_of-head
 invariant_of-head c =
-    let same : c.next.inside.dims ≡ c.head.inside.dims = ap (λ (b : Content). b.dims) c.next.view_is ∙ sym c.requires ∙ sym (ap (λ (b : Content). b.dims) c.head.view_is) in (
+    let same : c.next.inside.dims ≡ c.head.inside.dims = ap (λ (b : BoxContent). b.dims) c.next.view_is ∙ sym c.requires ∙ sym (ap (λ (b : BoxContent). b.dims) c.head.view_is) in (
       c.head.invariant.0,
-      rw c.in_ok-grown.ensures (grown_fit c.args.mode c.head.inside.dims (seen c.head.inside.bounds) (seen c.next.inside.bounds) c.head.invariant.1
+      rw c.in_ok-grown.ensures
+          (grown_fit c.args.mode c.head.inside.dims (bounds_view c.head.inside.bounds) (bounds_view c.next.inside.bounds) c.head.invariant.1
           (rw (← same) c.next.invariant.1)),
-      rw c.in_ok-grown.ensures (grown_sound c.args.mode (seen c.head.inside.bounds) (seen c.next.inside.bounds) c.head.invariant.2 c.next.invariant.2),
+      rw c.in_ok-grown.ensures
+          (grown_sound c.args.mode (bounds_view c.head.inside.bounds) (bounds_view c.next.inside.bounds) c.head.invariant.2 c.next.invariant.2),
     )
 
 pub returns-clause-grew : goal.returns-clause-grew
 returns-clause-grew c = λ a e.
-    let same : c.next.inside.dims ≡ c.head.inside.dims = ap (λ (b : Content). b.dims) c.next.view_is ∙ sym c.requires ∙ sym (ap (λ (b : Content). b.dims) c.head.view_is) in
-    let fit : BoundsFit c.head.inside.dims (seen c.next.inside.bounds) = rw (← same) c.next.invariant.1 in
+    let same : c.next.inside.dims ≡ c.head.inside.dims = ap (λ (b : BoxContent). b.dims) c.next.view_is ∙ sym c.requires ∙ sym (ap (λ (b : BoxContent). b.dims) c.head.view_is) in
+    let fit : BoundsFit c.head.inside.dims (bounds_view c.next.inside.bounds) = rw (← same) c.next.invariant.1 in
     rw (c.in_ok-grown.ensures, ← c.head.view_is, ← c.next.view_is) (record {
       formed = (
-        grown_fit c.args.mode c.head.inside.dims (seen c.head.inside.bounds) (seen c.next.inside.bounds) c.head.invariant.1 fit,
-        grown_sound c.args.mode (seen c.head.inside.bounds) (seen c.next.inside.bounds) c.head.invariant.2 c.next.invariant.2,
+        grown_fit c.args.mode c.head.inside.dims (bounds_view c.head.inside.bounds) (bounds_view c.next.inside.bounds) c.head.invariant.1 fit,
+        grown_sound c.args.mode (bounds_view c.head.inside.bounds) (bounds_view c.next.inside.bounds) c.head.invariant.2 c.next.invariant.2,
       );
       both = (
         λ s h. (h.0, has_grown_old c.args.mode c.head.inside.dims _ _ s c.head.invariant.1 fit h.1),
@@ -46,18 +48,18 @@ returns-clause-grew c = λ a e.
 
 pub returns-clause-lower : goal.returns-clause-lower
 returns-clause-lower c = λ a e m.
-    let same : c.next.inside.dims ≡ c.head.inside.dims = ap (λ (b : Content). b.dims) c.next.view_is ∙ sym c.requires ∙ sym (ap (λ (b : Content). b.dims) c.head.view_is) in
-    let fit : BoundsFit c.head.inside.dims (seen c.next.inside.bounds) = rw (← same) c.next.invariant.1 in
+    let same : c.next.inside.dims ≡ c.head.inside.dims = ap (λ (b : BoxContent). b.dims) c.next.view_is ∙ sym c.requires ∙ sym (ap (λ (b : BoxContent). b.dims) c.head.view_is) in
+    let fit : BoundsFit c.head.inside.dims (bounds_view c.next.inside.bounds) = rw (← same) c.next.invariant.1 in
     rw (c.in_ok-grown.ensures, ← c.head.view_is) (inr (inr (inr (
       refl,
       refl,
       refl,
-      grown_falls c.args.mode c.head.inside.dims (seen c.head.inside.bounds)
-          (seen c.next.inside.bounds) m c.head.invariant.1 fit (λ w. absurd (false≢true (rw c.if-is_within.false at (c.is_within.ensures.1 w)))),
+      grown_falls c.args.mode c.head.inside.dims (bounds_view c.head.inside.bounds)
+          (bounds_view c.next.inside.bounds) m c.head.invariant.1 fit (λ w. absurd (false≢true (rw c.if-is_within.false at (c.is_within.ensures.1 w)))),
     ))))
 
 pub returns-clause-fits : goal.returns-clause-fits
 returns-clause-fits c =
-    let same : c.next.inside.dims ≡ c.head.inside.dims = ap (λ (b : Content). b.dims) c.next.view_is ∙ sym c.requires ∙ sym (ap (λ (b : Content). b.dims) c.head.view_is) in
-    rw c.in_ok-grown.ensures (rank_fits _ c.head.invariant.0 (grown_fit c.args.mode c.head.inside.dims (seen c.head.inside.bounds) (seen c.next.inside.bounds) c.head.invariant.1
+    let same : c.next.inside.dims ≡ c.head.inside.dims = ap (λ (b : BoxContent). b.dims) c.next.view_is ∙ sym c.requires ∙ sym (ap (λ (b : BoxContent). b.dims) c.head.view_is) in
+    rw c.in_ok-grown.ensures (rank_fits _ c.head.invariant.0 (grown_fit c.args.mode c.head.inside.dims (bounds_view c.head.inside.bounds) (bounds_view c.next.inside.bounds) c.head.invariant.1
     (rw (← same) c.next.invariant.1)))

@@ -8,10 +8,10 @@ use Rattle.lra_outcomes.proofs.memory.Memory.end.Goals as goal
 
 pub returns-then-self-eq0 : goal.returns-then-self-eq0
 returns-then-self-eq0 g c others plan loops all one =
-    subst (λ xs. All (IsRecalled (g.F.Disturb.others others) g.D.Domain.meaning plan loops c.args.outcome.now.flag) xs) (sym c.new.ensures.items)
+    subst (λ xs. All (IsRecalled (g.F.Interfere.interference others) g.D.Domain.abstraction plan loops c.args.outcome.now.flag) xs) (sym c.new.ensures.items)
     (λ k d below. absurd (omega (arith, below)))
 
 pub returns : goal.returns
 returns g c others plan loops all one = c.keep.ensures others plan loops c.args.outcome.now.flag all
-    (subst (λ (r : Result g.row.D.Denot). IsKept (g.F.Disturb.others others) g.D.Domain.meaning plan (loops c.args.point) c.args.outcome.now.flag
+    (subst (λ (r : Result g.row.D.Denot). IsKept (g.F.Interfere.interference others) g.D.Domain.abstraction plan (loops c.args.point) c.args.outcome.now.flag
     c.args.first r) (sym c.in_ok-outcome.ensures) one)

@@ -7,12 +7,12 @@ use Rattle.lra_outcomes.proofs.memory.Memory.keep.Goals as goal
 
 pub returns-in-Some : goal.returns-in-Some
 returns-in-Some g c others plan loops f all one =
-    All-set (IsRecalled (g.F.Disturb.others others) g.D.Domain.meaning plan loops f) c.args.self.now.kept.items c.in-Some.place c.args.one one all
+    All-set (IsRecalled (g.F.Interfere.interference others) g.D.Domain.abstraction plan loops f) c.args.self.now.kept.items c.in-Some.place c.args.one one all
 
 pub returns-in_ok-push-in-None : goal.returns-in_ok-push-in-None
 returns-in_ok-push-in-None g c others plan loops f all one =
-    subst (λ xs. All (IsRecalled (g.F.Disturb.others others) g.D.Domain.meaning plan loops f) xs) (sym c.in_ok-push-in-None.ensures.items)
-    (All-push (IsRecalled (g.F.Disturb.others others) g.D.Domain.meaning plan loops f) c.args.self.now.kept.items c.args.one all one)
+    subst (λ xs. All (IsRecalled (g.F.Interfere.interference others) g.D.Domain.abstraction plan loops f) xs) (sym c.in_ok-push-in-None.ensures.items)
+    (All-push (IsRecalled (g.F.Interfere.interference others) g.D.Domain.abstraction plan loops f) c.args.self.now.kept.items c.args.one all one)
 
 pub index_mut-requires : goal.index_mut-requires
 index_mut-requires g c = subst (λ n. c.in-Some.place < n) c.deref.ensures.len (c.find_kept.ensures.inside c.in-Some.place c.in-Some.is)

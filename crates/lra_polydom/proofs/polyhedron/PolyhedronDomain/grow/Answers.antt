@@ -1,7 +1,7 @@
 -- Goals of `PolyhedronDomain::grow`: grows by the join with next, or by the widening with that join; is given up
 -- where the inclusion is wide.
 use Rattle.lra_domain.specs.declared.Exactness.{Exactness}
-use Rattle.lra_domain.specs.Meaning.{Grew}
+use Rattle.lra_domain.specs.Abstraction.{Grew}
 use Rattle.lra_polydom.specs.Meaning.{polyhedron_meaning}
 use Rattle.lra_polydom.proofs.GrowthLemmas.{flagged_alone}
 use Rattle.lra_polydom.proofs.polyhedron.PolyhedronDomain.grow.Goals as goal

@@ -1,6 +1,6 @@
 -- Goals of `write`: note by note.
 use Rattle.std.proofs.Common.{◌∙◌, List, ap, length, map, refl}
-use Rattle.lra_box.specs.Content.{Content}
+use Rattle.lra_box.specs.Content.{BoxContent}
 use Rattle.lra_iter.specs.declared.tables.Note.{Note}
 use Rattle.lra_rounds.specs.Telling.{written_by}
 use Rattle.lra_threads.specs.Found.{gift_in}
@@ -20,4 +20,4 @@ notes-preserved c =
 pub returns : goal.returns
 returns c =
     taken_last c.notes.note-index c.deref-note-items.result.now c.notes.row _ c.notes-test.false c.notes.invariant
-    ∙ ap (λ (ns : List (Note Content)). written_by (length c.args.self.now.globals.now) (map gift_in ns)) c.deref-note-items.ensures.value
+    ∙ ap (λ (ns : List (Note BoxContent)). written_by (length c.args.self.now.globals.now) (map gift_in ns)) c.deref-note-items.ensures.value

@@ -1,7 +1,7 @@
 use Rattle.std.proofs.Common.{rules, ◌≡◌}
 use Rattle.guzhtarel.specs.Domains.Exactness.TheVariants.{Exact}
 use Rattle.guzhtarel.specs.EntryDomains.{of_entries}
-use Rattle.guzhtarel.proofs.Calls.UnstrainedCalls.{grew}
+use Rattle.guzhtarel.proofs.Calls.ExactCalls.{grew}
 use Rattle.guzhtarel.proofs.EntryDomains.{rank_falls}
 use Rattle.use_signs.specs.Signs.{sign}
 use Rattle.use_signs.specs.Laws.{sign_facts, signs_facts}

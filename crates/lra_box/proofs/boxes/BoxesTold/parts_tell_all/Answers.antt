@@ -1,7 +1,0 @@
--- Goals of `BoxesTold::parts_tell_all`: what its rows tell is all of a box.
-use Rattle.lra_box.specs.Content.{seen}
-use Rattle.lra_box.proofs.PartLemmas.{parts_mean}
-use Rattle.lra_box.proofs.boxes.BoxesTold.parts_tell_all.Goals as goal
-
-pub returns : goal.returns
-returns c = rw (← c.self.view_is) (λ s long h. (long, (parts_mean c.self.inside.dims (seen c.self.inside.bounds) s c.self.invariant.1 long).1 h))

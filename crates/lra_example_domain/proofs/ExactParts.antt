@@ -1,0 +1,13 @@
+-- What the parts of a gauge tell is all of it.
+use Rattle.std.proofs.Common.{ℕ, zero, suc, ◌<◌, ℤ, List, arith}
+use Rattle.lra_domain.specs.Laws.{PartsAreExact}
+use Rattle.lra_domain.specs.Parts.{SomePartHolds}
+use Rattle.lra_example_domain.specs.declared.example.ExampleDomain.{ExampleDomain}
+use Rattle.lra_example_domain.specs.Abstraction.{example_abstraction, example_parts}
+
+some_part : (n bound : ℕ) (s : List ℤ) → SomePartHolds (example_parts n bound) s → 0 < bound
+some_part n zero s h = absurd h
+some_part n (suc bound) s h = omega arith
+
+pub parts_tell : (v : ExampleDomain) → PartsAreExact example_abstraction v
+parts_tell v = λ s long h. (long, some_part v.dims v.bound s h)

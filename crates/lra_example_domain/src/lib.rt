@@ -1,0 +1,7 @@
+//! A small domain whose inclusion, join and heads strain: an instance of each answer of the trait.
+#![tactic(auto)]
+
+pub mod bounds;
+pub mod example;
+
+pub use example::ExampleDomain;

@@ -1,7 +1,0 @@
-//! A small domain whose inclusion, join and heads strain: an instance of each answer of the trait.
-#![tactic(auto)]
-
-pub mod bounds;
-pub mod gauge;
-
-pub use gauge::Gauge;

@@ -1,7 +1,0 @@
--- Goals of `OctagonDomain::is_empty`: yes exactly where there is no part; of a tight octagon, exactly where there
--- is no store.
-use Rattle.lra_oct.proofs.LeastLemmas.{no_store}
-use Rattle.lra_oct.proofs.octagon.OctagonDomain.is_empty.Goals as goal
-
-pub returns-clause-tight : goal.returns-clause-tight
-returns-clause-tight c = rw (← c.self.view_is) (no_store c.self.inside.dims c.self.inside.matrix c.is_none.result c.is_none.ensures c.self.invariant.2)

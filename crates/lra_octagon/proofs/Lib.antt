@@ -1,0 +1,17 @@
+pub mod FitLemmas
+pub mod ClosedLemmas
+pub mod StoreLemmas
+pub mod TransferLemmas
+pub mod EnterLemmas
+pub mod FormLemmas
+pub mod UnaryLemmas
+pub mod FormBoundLemmas
+pub mod TestLemmas
+pub mod OtherLemmas
+pub mod AssignLemmas
+pub mod TightLemmas
+pub mod MarkLemmas
+pub mod PartLemmas
+pub mod MeanLemmas
+pub mod RowLemmas
+pub mod LeastLemmas

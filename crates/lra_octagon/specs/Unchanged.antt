@@ -1,0 +1,20 @@
+-- Tests that lower no entry: of a tight matrix they are the matrix itself.
+use Rattle.std.specs.Prelude.{ℕ, ℤ, pos, ◌+ℤ◌, ◌≤ℤ◌, Some}
+use Rattle.lra_linear_forms.specs.Form.{Form}
+use Rattle.lra_dbm.specs.Entry.{◌⊑◌}
+use Rattle.lra_dbm.specs.Tight.{opposite}
+use Rattle.lra_dbm.specs.Cells.{Cells, entries}
+use Rattle.lra_octagon.specs.declared.forms.FormShape.{FormShape}
+use Rattle.lra_octagon.specs.declared.forms.FormShape.TheVariants.{Constant, One, Two, Other}
+use Rattle.lra_octagon.specs.Tables.{quotient}
+
+-- the entry that says `v_i + v_j + q >= 0` is at most q
+abbrev pub LowersNothing : ℕ → ℕ → ℕ → ℤ → Cells → Type 0
+LowersNothing n i j q cells = entries n cells i (opposite j) ⊑ Some q
+
+-- so is that of the test `e >= 0`; of other shapes that isn't told
+abbrev pub ShapeUnchanged : ℕ → Form → FormShape → Cells → Type 0
+ShapeUnchanged n e Constant cells = pos 0 ≤ℤ e.constant
+ShapeUnchanged n e (One m i) cells = LowersNothing n i i (quotient e m +ℤ quotient e m) cells
+ShapeUnchanged n e (Two m i j) cells = LowersNothing n i j (quotient e m) cells
+ShapeUnchanged n e Other cells = ⊥

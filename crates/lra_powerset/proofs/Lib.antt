@@ -1,0 +1,13 @@
+pub mod PartLists
+pub mod ReductionLemmas
+pub mod CollapseLemmas
+pub mod TellLemmas
+pub mod AntichainLemmas
+pub mod AnswerLemmas
+pub mod ChangeLemmas
+pub mod GrowthLemmas
+pub mod SetLemmas
+pub mod HeadLemmas
+pub mod ValueLemmas
+pub mod HeadSteps
+pub mod ReduceSteps

@@ -1,5 +1,0 @@
-use Rattle.std.proofs.Common.{length}
-use Rattle.lra_set.proofs.joins.+settle_untried.Given as goal
-
-abbrev pub decreases-settle_untried : goal.decreases-settle_untried
-decreases-settle_untried g l = length l.parts.items
