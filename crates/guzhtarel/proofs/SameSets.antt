@@ -5,7 +5,7 @@ use Rattle.lra_linear_spec.specs.Points.{IsPoint, PointSet, IsWithin, SameSet}
 use Rattle.lra_linear_spec.specs.Vectors.{product}
 use Rattle.lra_linear_spec.proofs.Products.{entry_set_other}
 use Rattle.lra_linear_spec.specs.SetOperations.{Meet, Union, Hull, Image, Preimage, Forget, Embed, RemoveLast, OnTheWay, TimeElapse, assigned}
-use Rattle.lra_lists.proofs.ListLemmas.{short_divisor}
+use Rattle.lra_mapped_systems.proofs.ListLemmas.{short_divisor}
 
 -- ---- by themselves
 pub within_refl : (n : ℕ) (P : PointSet) → IsWithin n P P

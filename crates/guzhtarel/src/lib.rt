@@ -16,29 +16,29 @@ pub use lra_domain::{
     change_all, worse,
 };
 pub use lra_duality::{Inclusion, Maximum};
-pub use lra_images as images;
-pub use lra_images::{forget, image, preimage};
 pub use lra_linear_forms as forms;
 pub use lra_linear_forms::{LinExpr, Test};
-pub use lra_maps as maps;
-pub use lra_maps::{embed, remove_last, time_elapse};
 pub use lra_octagon as octagons;
 pub use lra_octagon::Octagon;
 pub use lra_poly as poly;
 pub use lra_poly::{Outcome, Poly};
-pub use lra_polydom as polyhedra;
-pub use lra_polydom::Polyhedron;
-pub use lra_powerset as sets;
-pub use lra_powerset::PowerSet;
-pub use lra_queries as queries;
-pub use lra_queries::{
+pub use lra_poly_dimensions as maps;
+pub use lra_poly_dimensions::{embed, remove_last, time_elapse};
+pub use lra_poly_domain as polyhedra;
+pub use lra_poly_domain::Polyhedron;
+pub use lra_poly_images as images;
+pub use lra_poly_images::{forget, image, preimage};
+pub use lra_poly_queries as queries;
+pub use lra_poly_queries::{
     Extent, Fraction, Minimum, Relation, least_box, minimise, polyhedra_of, relate, simplify,
 };
+pub use lra_poly_widening as widening;
+pub use lra_poly_widening::{WidenError, limited, rank, standard};
+pub use lra_powerset as sets;
+pub use lra_powerset::PowerSet;
 pub use lra_row as numbers;
 pub use lra_row::{Row, RowError};
 pub use lra_show as texts;
 pub use lra_show::{Names, generator_text, generators_text, row_text, system_text, value_text};
 pub use lra_systems as lists;
 pub use lra_systems::{ConKind, ConSys, GenKind, GenSys, MembershipAnswer};
-pub use lra_widen as widening;
-pub use lra_widen::{WidenError, limited, rank, standard};

@@ -9,7 +9,7 @@ use Rattle.lra_linear_spec.proofs.LowestTerms.{same_multiple}
 use Rattle.lra_linear_spec.proofs.Ring.{mul_nonnegative, ring, v, ⊖, ◌⊕◌, ◌⊗◌}
 use Rattle.lra_linear_spec.proofs.Signs.{cancel_same, divide_nonnegative}
 use Rattle.lra_systems.specs.FirstPlaces.{FirstAt}
-use Rattle.lra_duality.specs.Inclusions.{Meets, Violates, Passes, MeetsAll, ViolatesFirst, IsInclusion}
+use Rattle.lra_duality.specs.Inclusions.{Satisfies, Violates, Passes, SatisfiesAll, ViolatesFirst, IsInclusion}
 use Rattle.lra_duality.specs.Maxima.{StaysInRange, PassesRange, Improves, DoesNotImprove, HasValue, IsAtMost, IsBelow, OfPoint, IsGreatest, IsMaximum}
 use Rattle.lra_duality.specs.declared.inclusion.Inclusion.{Inclusion}
 use Rattle.lra_duality.specs.declared.inclusion.Inclusion.TheVariants as inclusion
@@ -48,49 +48,52 @@ not_all : {A : Type 0} (P Q : A → Type 0) (list : List A) (i : ℕ) → ((x : 
 not_all P Q list i apart a f = apart f.member (at_first P Q P list i a f) f.here
 
 -- ---- inclusion
-violates_apart : (g r : LinearRow) → Meets g r → Violates g r → ⊥
+violates_apart : (g r : LinearRow) → Satisfies g r → Violates g r → ⊥
 violates_apart g r m x = let t = m.1 in let f = x.1 in cc
 
-passes_apart : (g r : LinearRow) → Meets g r → Passes g r → ⊥
+passes_apart : (g r : LinearRow) → Satisfies g r → Passes g r → ⊥
 passes_apart g r m x = never_both _ x m.0
 
-meets_all_apart : (rows : List LinearRow) (g : LinearRow) → MeetsAll rows g → ViolatesFirst rows g → ⊥
-meets_all_apart rows g m x = not_all (Meets g) (Violates g) rows x.place (violates_apart g) m x.first
+meets_all_apart : (rows : List LinearRow) (g : LinearRow) → SatisfiesAll rows g → ViolatesFirst rows g → ⊥
+meets_all_apart rows g m x = not_all (Satisfies g) (Violates g) rows x.place (violates_apart g) m x.first
 
-meets_all_passes : (rows : List LinearRow) (row : ℕ) (g : LinearRow) → MeetsAll rows g → FirstAt (Meets g) (Passes g) rows row → ⊥
-meets_all_passes rows row g m x = not_all (Meets g) (Passes g) rows row (passes_apart g) m x
+meets_all_passes : (rows : List LinearRow) (row : ℕ) (g : LinearRow) → SatisfiesAll rows g → FirstAt (Satisfies g) (Passes g) rows row → ⊥
+meets_all_passes rows row g m x = not_all (Satisfies g) (Passes g) rows row (passes_apart g) m x
 
-not_both : (rows : List LinearRow) (row : ℕ) (g : LinearRow) → ViolatesFirst rows g → FirstAt (Meets g) (Passes g) rows row → ⊥
+not_both : (rows : List LinearRow) (row : ℕ) (g : LinearRow) → ViolatesFirst rows g → FirstAt (Satisfies g) (Passes g) rows row → ⊥
 not_both rows row g x p =
-    let same = first_once (Meets g) (Violates g) (Passes g) rows x.place row (violates_apart g) (passes_apart g) x.first p in
+    let same = first_once (Satisfies g) (Violates g) (Passes g) rows x.place row (violates_apart g) (passes_apart g) x.first p in
     never_both _ p.here (subst (λ (r : LinearRow). Violates g r) same.1 x.first.here).0
 
 no_and_wide : (rows generators : List LinearRow) (i j row : ℕ) → IsInclusion rows generators (inclusion.No i) → IsInclusion rows generators (inclusion.Wide j row) → ⊥
 no_and_wide rows generators i j row a b =
-    let same = first_once (MeetsAll rows) (ViolatesFirst rows) (λ g. FirstAt (Meets g) (Passes g) rows row) generators i j (meets_all_apart rows) (meets_all_passes rows row) a b in
+    let same = first_once (SatisfiesAll rows) (ViolatesFirst rows) (λ g. FirstAt (Satisfies g) (Passes g) rows row) generators i j (meets_all_apart rows) (meets_all_passes rows row) a b in
     not_both rows row b.member (subst (ViolatesFirst rows) same.1 a.here) b.here
 
 wide_once : (rows generators : List LinearRow) (i row j other : ℕ) → IsInclusion rows generators (inclusion.Wide i row) → IsInclusion rows generators (inclusion.Wide j other) →
     inclusion.Wide i row ≡ inclusion.Wide j other
 wide_once rows generators i row j other a b =
-    let P : LinearRow → Type 0 = λ g. FirstAt (Meets g) (Passes g) rows row in
-    let Q : LinearRow → Type 0 = λ g. FirstAt (Meets g) (Passes g) rows other in
-    let same = first_once (MeetsAll rows) P Q generators i j (meets_all_passes rows row) (meets_all_passes rows other) a b in
+    let P : LinearRow → Type 0 = λ g. FirstAt (Satisfies g) (Passes g) rows row in
+    let Q : LinearRow → Type 0 = λ g. FirstAt (Satisfies g) (Passes g) rows other in
+    let same = first_once (SatisfiesAll rows) P Q generators i j (meets_all_passes rows row) (meets_all_passes rows other) a b in
     let g = b.member in
-    let rest = first_once (Meets g) (Passes g) (Passes g) rows row other (passes_apart g) (passes_apart g) (subst P same.1 a.here) b.here in
+    let rest = first_once (Satisfies g) (Passes g) (Passes g) rows row other (passes_apart g) (passes_apart g) (subst P same.1 a.here) b.here in
     ap (λ (k : ℕ). inclusion.Wide k row) same.0 ∙ ap (inclusion.Wide j) rest.0
 
 pub one_inclusion : (rows generators : List LinearRow) (a b : Inclusion) → IsInclusion rows generators a → IsInclusion rows generators b → a ≡ b
 one_inclusion rows generators inclusion.Yes inclusion.Yes h k = refl
-one_inclusion rows generators inclusion.Yes (inclusion.No j) h k = absurd (not_all (MeetsAll rows) (ViolatesFirst rows) generators j (meets_all_apart rows) h k)
+one_inclusion rows generators inclusion.Yes (inclusion.No j) h k =
+    absurd (not_all (SatisfiesAll rows) (ViolatesFirst rows) generators j (meets_all_apart rows) h k)
 one_inclusion rows generators inclusion.Yes (inclusion.Wide j row) h k =
-    absurd (not_all (MeetsAll rows) (λ g. FirstAt (Meets g) (Passes g) rows row) generators j (meets_all_passes rows row) h k)
-one_inclusion rows generators (inclusion.No i) inclusion.Yes h k = absurd (not_all (MeetsAll rows) (ViolatesFirst rows) generators i (meets_all_apart rows) k h)
+    absurd (not_all (SatisfiesAll rows) (λ g. FirstAt (Satisfies g) (Passes g) rows row) generators j (meets_all_passes rows row) h k)
+one_inclusion rows generators (inclusion.No i) inclusion.Yes h k =
+    absurd (not_all (SatisfiesAll rows) (ViolatesFirst rows) generators i (meets_all_apart rows) k h)
 one_inclusion rows generators (inclusion.No i) (inclusion.No j) h k =
-    ap inclusion.No (first_once (MeetsAll rows) (ViolatesFirst rows) (ViolatesFirst rows) generators i j (meets_all_apart rows) (meets_all_apart rows) h k).0
+    ap inclusion.No (first_once (SatisfiesAll rows) (ViolatesFirst rows) (ViolatesFirst rows) generators i j (meets_all_apart rows) (meets_all_apart rows) h
+    k).0
 one_inclusion rows generators (inclusion.No i) (inclusion.Wide j row) h k = absurd (no_and_wide rows generators i j row h k)
 one_inclusion rows generators (inclusion.Wide i row) inclusion.Yes h k =
-    absurd (not_all (MeetsAll rows) (λ g. FirstAt (Meets g) (Passes g) rows row) generators i (meets_all_passes rows row) k h)
+    absurd (not_all (SatisfiesAll rows) (λ g. FirstAt (Satisfies g) (Passes g) rows row) generators i (meets_all_passes rows row) k h)
 one_inclusion rows generators (inclusion.Wide i row) (inclusion.No j) h k = absurd (no_and_wide rows generators j i row k h)
 one_inclusion rows generators (inclusion.Wide i row) (inclusion.Wide j other) h k = wide_once rows generators i row j other h k
 
@@ -205,7 +208,7 @@ place_inside {A = A} P Q list i f =
 
 pub inclusion_placed : (rows generators : List LinearRow) (a : Inclusion) → IsInclusion rows generators a → IsPlacedInclusion (length generators) a
 inclusion_placed rows generators inclusion.Yes h = tt
-inclusion_placed rows generators (inclusion.No i) h = place_inside (MeetsAll rows) (ViolatesFirst rows) generators i h
+inclusion_placed rows generators (inclusion.No i) h = place_inside (SatisfiesAll rows) (ViolatesFirst rows) generators i h
 inclusion_placed rows generators (inclusion.Wide i row) h = tt
 
 pub maximum_placed : (form : List ℤ) (generators : List LinearRow) (a : Maximum) → IsMaximum form generators a → IsPlacedMaximum (length generators) a

@@ -9,9 +9,9 @@ use Rattle.lra_poly.specs.Outcomes.{Becomes, IfExact}
 use Rattle.lra_duality.specs.declared.inclusion.Inclusion.TheVariants as inclusion
 use Rattle.lra_poly.specs.declared.outcome.Outcome.{Outcome}
 use Rattle.lra_poly.specs.declared.outcome.Outcome.TheVariants.{Exact, Flagged}
-use Rattle.lra_widen.specs.Widenings.{IsRefusal, LiesOrIsGivenUp}
-use Rattle.lra_widen.specs.declared.error.WidenError.{WidenError}
-use Rattle.lra_widen.specs.declared.error.WidenError.TheVariants as widen_error
+use Rattle.lra_poly_widening.specs.Widenings.{IsRefusal, LiesOrIsGivenUp}
+use Rattle.lra_poly_widening.specs.declared.error.WidenError.{WidenError}
+use Rattle.lra_poly_widening.specs.declared.error.WidenError.TheVariants as widen_error
 use Rattle.lra_script.specs.LineForms as form
 use Rattle.lra_calc.specs.MadeSets.{IsMadeOf, IsAllFlagged, IsWidened, IsLimited}
 use Rattle.lra_calc.specs.Script as script

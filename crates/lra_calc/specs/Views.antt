@@ -12,8 +12,8 @@ use Rattle.lra_duality.specs.declared.inclusion.Inclusion.{Inclusion}
 use Rattle.lra_duality.specs.declared.inclusion.Inclusion.TheVariants as inclusion
 use Rattle.lra_duality.specs.declared.maximum.Maximum.{Maximum}
 use Rattle.lra_duality.specs.declared.maximum.Maximum.TheVariants as maximum
-use Rattle.lra_widen.specs.declared.error.WidenError.{WidenError}
-use Rattle.lra_widen.specs.declared.error.WidenError.TheVariants as widen_error
+use Rattle.lra_poly_widening.specs.declared.error.WidenError.{WidenError}
+use Rattle.lra_poly_widening.specs.declared.error.WidenError.TheVariants as widen_error
 use Rattle.lra_script.specs.LineForms.{greatest_dims}
 use Rattle.lra_calc.specs.ShownSets.{generator_at}
 use Rattle.lra_calc.specs.Script as script

@@ -14,10 +14,10 @@ ghost use Rattle.lra_calc.specs.Script as script;
 ghost use Rattle.lra_calc.specs.Views.{fault_of, is_flagged};
 
 use crate::refusal::Fault;
-use lra_images::{forget, image, preimage};
 use lra_linear_forms::LinExpr;
-use lra_maps::time_elapse;
 use lra_poly::{Outcome, Poly};
+use lra_poly_dimensions::time_elapse;
+use lra_poly_images::{forget, image, preimage};
 use lra_row::Row;
 use lra_script::{Combination, Constraint, Generator, Mapping};
 use lra_systems::{ConSys, GenKind, GenSys};

@@ -11,8 +11,8 @@ use crate::making::{Made, constraints_of_rows, make_with};
 use crate::refusal::{Fault, LineError};
 use crate::showing::generator_at;
 use lra_poly::Poly;
+use lra_poly_widening::{WidenError, limited, standard};
 use lra_script::Constraint;
-use lra_widen::{WidenError, limited, standard};
 use std::alloc::Global;
 
 /// Why the set was not widened, with its generator that is outside of the other.

@@ -19,8 +19,8 @@ use Rattle.lra_flow.specs.Operations.{dropping}
 use Rattle.lra_flow.specs.Plan.{plan_of}
 use Rattle.lra_iter.specs.Solved.{IsSolved}
 use Rattle.lra_iter.proofs.Counting.{iteration_fails_once}
-use Rattle.lra_polydom.specs.Laws.{polyhedron_laws}
-use Rattle.lra_polydom.specs.Meaning.{polyhedron_meaning}
+use Rattle.lra_poly_domain.specs.Laws.{polyhedron_laws}
+use Rattle.lra_poly_domain.specs.Abstraction.{polyhedron_abstraction}
 use Rattle.lra_states.specs.Polyhedra.{shown_polyhedron}
 use Rattle.lra_report.specs.Report.{Report}
 use Rattle.lra_front.specs.Stages.{HasTree, HasGraph, HasConstants}
@@ -69,18 +69,18 @@ sites_are t g sites P has is = has.points ∙ ap sites_of (sym is)
 -- ---- what the iteration hands over
 module _ (t : FileTree) (g : Node) (sites : List Site) (has : HasGraph t g sites) (constants : List ℤ) (values : List Polyhedron)
     (verdicts : List (ℕ × Bool)) (flagged : Option ℕ)
-    (solved : IsSolved polyhedron_meaning (plan_of certify_options constants) (resolve t) g values verdicts flagged) where
+    (solved : IsSolved polyhedron_abstraction (plan_of certify_options constants) (resolve t) g values verdicts flagged) where
   many : length values ≡ length (sites_of (resolve t))
-  many = as_many polyhedron_meaning (plan_of certify_options constants) (resolve t) g solved.result values verdicts flagged has.is_graph solved.derived
+  many = as_many polyhedron_abstraction (plan_of certify_options constants) (resolve t) g solved.result values verdicts flagged has.is_graph solved.derived
       solved.solves
 
-  wide : AreWide polyhedron_meaning (resolve t) values
+  wide : AreWide polyhedron_abstraction (resolve t) values
   wide p v there s site =
-      value_dims polyhedron_meaning (plan_of certify_options constants) (resolve t) g solved.result values verdicts flagged has.is_graph solved.derived
+      value_dims polyhedron_abstraction (plan_of certify_options constants) (resolve t) g solved.result values verdicts flagged has.is_graph solved.derived
       solved.solves polyhedron_laws p v s there site
 
   once : FailOnce solved.result
-  once = iteration_fails_once (dropping polyhedron_meaning) (plan_of certify_options constants) (resolve t) g solved.result
+  once = iteration_fails_once (dropping polyhedron_abstraction) (plan_of certify_options constants) (resolve t) g solved.result
       (numbered (resolve t) g has.is_graph) solved.derived
 
   closed : AreClosed rational_points (resolve t) g values verdicts
@@ -95,7 +95,7 @@ module _ (t : FileTree) (g : Node) (sites : List Site) (has : HasGraph t g sites
 
   pub listed : AreListable (sites_of (resolve t)) (proved_in verdicts)
   listed = listable (sites_of (resolve t)) verdicts solved.solves.in_order
-      (of_assertions polyhedron_meaning (plan_of certify_options constants) (resolve t) g solved.result values verdicts flagged has.is_graph solved.derived
+      (of_assertions polyhedron_abstraction (plan_of certify_options constants) (resolve t) g solved.result values verdicts flagged has.is_graph solved.derived
       solved.solves)
 
   pub stay : AllByRecursion IsPolyhedron values → PathsStay (resolve t) g (map state_by values) (proved_in verdicts)
@@ -144,10 +144,11 @@ module _ (source : List ℕ) (t : FileTree) (g : Node) (sites : List Site) (read
   abbrev program : IsProgram source
   program = record { tree = t; read = read; operations = g; sites = sites; graph = has }
 
-  pub answered : (constants : List ℤ) (r : Report) → HasConstants source constants → IsToldOf polyhedron_meaning shown_polyhedron certify_options constants t r
+  pub answered : (constants : List ℤ) (r : Report) → HasConstants source constants →
+      IsToldOf polyhedron_abstraction shown_polyhedron certify_options constants t r
       → IsAnswered certify_options source r
   answered constants r own told =
-      let a = is_answered polyhedron_meaning polyhedron_laws shown_polyhedron certify_options constants source t r read own told (omega arith) in
+      let a = is_answered polyhedron_abstraction polyhedron_laws shown_polyhedron certify_options constants source t r read own told (omega arith) in
       record { report = a.report; constants = a.constants; own = a.own; analysed = a.analysed; canonical = a.canonical; readable = a.readable }
 
   module _ (values : List Polyhedron) (verdicts : List (ℕ × Bool)) (r : Report) (tells : TellsSolution shown_polyhedron false values verdicts r) where

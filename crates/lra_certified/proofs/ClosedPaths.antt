@@ -14,7 +14,7 @@ use Rattle.lra_linear_spec.specs.Vectors.{entry, product}
 use Rattle.lra_linear_spec.proofs.Products.{entry_set_other}
 use Rattle.lra_linear_forms.specs.Form.{form_row}
 use Rattle.lra_domain.specs.Actions.{Action, dims_after, assign, forget, test, embed, remove_last}
-use Rattle.lra_polydom.specs.Meaning.{polyhedron_meaning}
+use Rattle.lra_poly_domain.specs.Abstraction.{polyhedron_abstraction}
 use Rattle.lra_program.specs.Program.{Program}
 use Rattle.lra_program.specs.Sites.{Site, sites_of}
 use Rattle.lra_operations.specs.Graph.{Node}
@@ -101,7 +101,7 @@ in_all (v ∷ vs) zero p all e = subst IsPolyhedron (same_Some v p e) all.0
 in_all (v ∷ vs) (suc q) p all e = in_all vs q p all.1 e
 
 module _ (P : Program) (g : Node) (values : List Polyhedron) (verdicts : List (ℕ × Bool)) (closed : AreClosed rational_points P g values verdicts)
-    (wide : AreWide polyhedron_meaning P values) (many : length values ≡ length (sites_of P)) (canonical : AllByRecursion IsPolyhedron values) where
+    (wide : AreWide polyhedron_abstraction P values) (many : length values ≡ length (sites_of P)) (canonical : AllByRecursion IsPolyhedron values) where
   abbrev states : List State
   states = map state_by values
 

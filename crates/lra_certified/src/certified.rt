@@ -9,7 +9,7 @@ ghost use Rattle.lra_program.specs.ProgramViews.{program_view};
 ghost use Rattle.lra_operations.specs.GraphViews.{node_view, site_view};
 ghost use Rattle.lra_flow.specs.Plan.{plan_of};
 ghost use Rattle.lra_iter.specs.Solved.{IsSolved};
-ghost use Rattle.lra_polydom.specs.Meaning.{polyhedron_meaning};
+ghost use Rattle.lra_poly_domain.specs.Abstraction.{polyhedron_abstraction};
 ghost use Rattle.lra_paths.specs.Paths.{AreFewPaths};
 ghost use Rattle.lra_certificate.specs.CertificateText.{text_line, numbered_text, head_text};
 ghost use Rattle.lra_certify.specs.Certified.{IsCertified, IsFailure};
@@ -28,7 +28,7 @@ use crate::taken::{proved_of, states_of};
 use lra_certify::{CertifyFailure, certify};
 use lra_front::{Front, read_source};
 use lra_iter::{Plan, Solution};
-use lra_polydom::Polyhedron;
+use lra_poly_domain::Polyhedron;
 use lra_report::{Report, Verdict, VerdictKind};
 use lra_source::{report_solution, solve_front};
 use std::alloc::{AllocError, Global};
@@ -95,7 +95,7 @@ fn certify_solution(
         (map site_view front.now.graph.sites.items) }
     requires program { program_view front.now.resolution.program ≡
         resolve (tree_view front.now.tree) }
-    requires solved { IsSolved polyhedron_meaning
+    requires solved { IsSolved polyhedron_abstraction
         (plan_of settings.certify_options front.now.constants.items)
         (resolve (tree_view front.now.tree)) (node_view front.now.graph.tree)
         solution.now.values.items solution.now.verdicts.items solution.now.flagged }
@@ -125,7 +125,7 @@ fn solve(alloc: Global, front: &Front) -> Result<Solution<Polyhedron>, AllocErro
         (map site_view front.now.graph.sites.items) }
     requires program { program_view front.now.resolution.program ≡
         resolve (tree_view front.now.tree) }
-    ensures { IfOk result (λ s. IsSolved polyhedron_meaning
+    ensures { IfOk result (λ s. IsSolved polyhedron_abstraction
         (plan_of settings.certify_options front.now.constants.items)
         (resolve (tree_view front.now.tree)) (node_view front.now.graph.tree)
         s.values.items s.verdicts.items s.flagged) }

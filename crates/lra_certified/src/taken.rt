@@ -6,7 +6,7 @@ ghost use Rattle.lra_linear_spec.specs.Polyhedra.{IsPolyhedron};
 ghost use Rattle.lra_verify.specs.PointViews.{state_view};
 ghost use Rattle.lra_certified.specs.Taken.{state_by, dims_by, dims_in, proved_in};
 
-use lra_polydom::Polyhedron;
+use lra_poly_domain::Polyhedron;
 use lra_systems::ConSys;
 use std::alloc::{AllocError, Global};
 

@@ -9,11 +9,11 @@ use Rattle.lra_linear_spec.specs.Descriptions.{Con, Holds}
 use Rattle.lra_linear_spec.specs.Points.{IsPoint, SamePoint}
 use Rattle.lra_linear_spec.specs.Polyhedra.{Polyhedron}
 use Rattle.lra_linear_spec.proofs.Descriptions.{con_none}
-use Rattle.lra_polydom.specs.Content.{HeadContent, Covered}
-use Rattle.lra_polydom.specs.Covering.{parts_empty}
-use Rattle.lra_polydom.specs.Laws.{polyhedron_laws}
-use Rattle.lra_polydom.specs.Meaning.{polyhedron_meaning}
-use Rattle.lra_polydom.specs.Sets.{KeepsPoints, reached}
+use Rattle.lra_poly_domain.specs.Content.{HeadContent, PolyhedronLeq}
+use Rattle.lra_poly_domain.specs.Covering.{parts_empty}
+use Rattle.lra_poly_domain.specs.Laws.{polyhedron_laws}
+use Rattle.lra_poly_domain.specs.Abstraction.{polyhedron_abstraction}
+use Rattle.lra_poly_domain.specs.Sets.{KeepsPoints, reached}
 use Rattle.lra_closed.specs.Points.{KeepPoints}
 use Rattle.lra_closed.specs.Closed.{ValuesAreClosed}
 use Rattle.lra_closed.specs.RationalPoints.{IsPointOf, LeadsPoint, Moves, dimension, rational_points}
@@ -52,15 +52,15 @@ change_keeps step p r keeps x y (point, inside) (there, led) =
       keeps.within y to (moved_reached step p x y keeps.fits point inside led),
     )
 
-covered_keeps : (p q : Polyhedron) → Covered p q → (x : List ℤ) → IsPointOf p x → IsPointOf q x
+covered_keeps : (p q : Polyhedron) → PolyhedronLeq p q → (x : List ℤ) → IsPointOf p x → IsPointOf q x
 covered_keeps p q covers x (point, inside) = (subst (λ (n : ℕ). IsPoint n x) covers.dims point, covers.within x point inside)
 
 -- the value of a head is its polyhedron
-value_is : (h : HeadContent) (e : Exactness) (p : Polyhedron) → Values polyhedron_meaning h e p → p ≡ h.value
+value_is : (h : HeadContent) (e : Exactness) (p : Polyhedron) → Values polyhedron_abstraction h e p → p ≡ h.value
 value_is h Exact p is = is.exact refl
 value_is h Flagged p is = absurd (is.flagged refl)
 
-pub keep_rational_points : KeepPoints polyhedron_meaning rational_points
+pub keep_rational_points : KeepPoints polyhedron_abstraction rational_points
 keep_rational_points = record {
   begun = λ cap p fine is x point. (subst (λ (n : ℕ). IsPoint n x) (sym is.dimensions) point, is.points.0 x point (con_none x));
   changed = λ step p r fine keeps x y h led. change_keeps step p r keeps x y h led;
@@ -74,5 +74,5 @@ keep_rational_points = record {
   partless = λ p none x h. parts_empty p p.dims none x h.0 h.1;
 }
 
-pub polyhedra_closed : ValuesAreClosed polyhedron_meaning rational_points
-polyhedra_closed = values_closed polyhedron_meaning rational_points polyhedron_laws keep_rational_points
+pub polyhedra_closed : ValuesAreClosed polyhedron_abstraction rational_points
+polyhedra_closed = values_closed polyhedron_abstraction rational_points polyhedron_laws keep_rational_points

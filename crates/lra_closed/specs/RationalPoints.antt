@@ -8,7 +8,7 @@ use Rattle.lra_linear_spec.specs.Points.{IsPoint, SamePoint}
 use Rattle.lra_linear_spec.specs.Polyhedra.{Polyhedron}
 use Rattle.lra_linear_spec.specs.SetOperations.{assigned, SameBut}
 use Rattle.lra_duality.specs.Rows.{test_row}
-use Rattle.lra_polydom.specs.Content.{HeadContent}
+use Rattle.lra_poly_domain.specs.Content.{HeadContent}
 use Rattle.lra_closed.specs.Points.{PointsOf}
 
 abbrev pub dimension : List ℤ → ℕ

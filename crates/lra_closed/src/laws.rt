@@ -1,6 +1,6 @@
 //! Laws: each of these does nothing, and its contract is the theorem.
 
-ghost use Rattle.lra_polydom.specs.Meaning.{polyhedron_meaning};
+ghost use Rattle.lra_poly_domain.specs.Abstraction.{polyhedron_abstraction};
 ghost use Rattle.lra_closed.specs.Closed.{ValuesAreClosed};
 ghost use Rattle.lra_closed.specs.RationalPoints.{rational_points};
 ghost use Rattle.lra_closed.specs.Stores.{stores};
@@ -9,7 +9,7 @@ use lra_domain::Domain;
 
 /// The polyhedra of an iteration that isn't narrowed, flagged or not, are closed along paths at rational points.
 pub fn polyhedra_are_closed()
-    ensures { ValuesAreClosed polyhedron_meaning rational_points }
+    ensures { ValuesAreClosed polyhedron_abstraction rational_points }
 {}
 
 /// Over any domain, what such an iteration finds is closed along paths at stores.

@@ -12,11 +12,11 @@ ghost use Rattle.lra_descriptions.specs.ShownLists.{AreGeneratorsOf, AreConstrai
 ghost use Rattle.lra_cone.specs.Cones.{ConeContent};
 ghost use Rattle.lra_cone.specs.Conversions.{AreTried, IsConversion};
 ghost use Rattle.lra_cone.specs.Losses.{IfLost};
-ghost use Rattle.lra_pair.specs.TakenPoints.{AreTaken};
+ghost use Rattle.lra_description_pair.specs.TakenPoints.{AreTaken};
 
 use lra_cone::{Cone, Conversion, Loss, positive_cone, take_rows};
+use lra_description_pair::valid_list;
 use lra_descriptions::{dual_rows, generator_list, has_point, nothing};
-use lra_pair::valid_list;
 use lra_systems::{ConSys, GenSys, TOO_MANY_DIMENSIONS};
 use std::alloc::{AllocError, Global};
 

@@ -6,7 +6,7 @@ use Rattle.lra_linear_spec.specs.Descriptions.{LinearRow, generator, line, inequ
 use Rattle.lra_linear_spec.proofs.LowestTerms.{primitive_at}
 use Rattle.lra_duality.specs.declared.inclusion.Inclusion.TheVariants.{No, Wide}
 use Rattle.lra_duality.specs.declared.maximum.Maximum.TheVariants.{At, Unbounded}
-use Rattle.lra_duality.specs.Inclusions.{Meets, MeetsAll, IsInclusion}
+use Rattle.lra_duality.specs.Inclusions.{Satisfies, SatisfiesAll, IsInclusion}
 use Rattle.lra_duality.specs.Maxima.{DoesNotImprove, IsAtMost, IsBelow, IsMaximum, OfPoint, StaysInRange}
 
 -- the points with x2 from 0 to 1
@@ -37,10 +37,10 @@ strip_not_in_line = record {
   later = line (pos 0 ∷ pos 1 ∷ pos 0 ∷ []) ∷ [];
   is = refl;
   at = refl;
-  before = All-cons (MeetsAll (level ∷ [])) (generator (pos 1 ∷ pos 0 ∷ pos 0 ∷ [])) []
-      (All-cons (Meets (generator (pos 1 ∷ pos 0 ∷ pos 0 ∷ []))) level [] (refl, refl)
-      (All-nil (Meets (generator (pos 1 ∷ pos 0 ∷ pos 0 ∷ [])))))
-      (All-nil (MeetsAll (level ∷ [])));
+  before = All-cons (SatisfiesAll (level ∷ [])) (generator (pos 1 ∷ pos 0 ∷ pos 0 ∷ [])) []
+      (All-cons (Satisfies (generator (pos 1 ∷ pos 0 ∷ pos 0 ∷ []))) level [] (refl, refl)
+      (All-nil (Satisfies (generator (pos 1 ∷ pos 0 ∷ pos 0 ∷ [])))))
+      (All-nil (SatisfiesAll (level ∷ [])));
   here = record {
     place = 0;
     first = record {
@@ -49,7 +49,7 @@ strip_not_in_line = record {
       later = [];
       is = refl;
       at = refl;
-      before = All-nil (Meets (generator (pos 1 ∷ pos 0 ∷ pos 1 ∷ [])));
+      before = All-nil (Satisfies (generator (pos 1 ∷ pos 0 ∷ pos 1 ∷ [])));
       here = (refl, refl);
     };
   };
@@ -67,10 +67,10 @@ line_not_in_half = record {
   later = [];
   is = refl;
   at = refl;
-  before = All-cons (MeetsAll (right_side ∷ [])) (generator (pos 1 ∷ pos 0 ∷ pos 0 ∷ [])) []
-      (All-cons (Meets (generator (pos 1 ∷ pos 0 ∷ pos 0 ∷ []))) right_side [] (refl, refl)
-      (All-nil (Meets (generator (pos 1 ∷ pos 0 ∷ pos 0 ∷ [])))))
-      (All-nil (MeetsAll (right_side ∷ [])));
+  before = All-cons (SatisfiesAll (right_side ∷ [])) (generator (pos 1 ∷ pos 0 ∷ pos 0 ∷ [])) []
+      (All-cons (Satisfies (generator (pos 1 ∷ pos 0 ∷ pos 0 ∷ []))) right_side [] (refl, refl)
+      (All-nil (Satisfies (generator (pos 1 ∷ pos 0 ∷ pos 0 ∷ [])))))
+      (All-nil (SatisfiesAll (right_side ∷ [])));
   here = record {
     place = 0;
     first = record {
@@ -79,7 +79,7 @@ line_not_in_half = record {
       later = [];
       is = refl;
       at = refl;
-      before = All-nil (Meets (line (pos 0 ∷ pos 1 ∷ pos 0 ∷ [])));
+      before = All-nil (Satisfies (line (pos 0 ∷ pos 1 ∷ pos 0 ∷ [])));
       here = (refl, refl);
     };
   };
@@ -99,14 +99,14 @@ far_point_passes = record {
   later = [];
   is = refl;
   at = refl;
-  before = All-nil (MeetsAll (twice ∷ []));
+  before = All-nil (SatisfiesAll (twice ∷ []));
   here = record {
     earlier = [];
     member = twice;
     later = [];
     is = refl;
     at = refl;
-    before = All-nil (Meets far_point);
+    before = All-nil (Satisfies far_point);
     here = refl;
   };
 }

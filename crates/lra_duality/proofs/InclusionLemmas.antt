@@ -17,7 +17,7 @@ use Rattle.lra_linear_spec.proofs.Widening.{holds_on_generators, valid_decides}
 use Rattle.lra_duality.specs.declared.inclusion.Inclusion.{Inclusion}
 use Rattle.lra_duality.specs.declared.inclusion.Inclusion.TheVariants.{Yes, No, Wide}
 use Rattle.lra_systems.specs.FirstPlaces.{FirstAt}
-use Rattle.lra_duality.specs.Inclusions.{Meets, MeetsAll, IsInclusion, IsReply, TellsInclusion}
+use Rattle.lra_duality.specs.Inclusions.{Satisfies, SatisfiesAll, IsInclusion, IsReply, TellsInclusion}
 use Rattle.lra_linear_spec.specs.Kinds.{is_equality, is_line}
 use Rattle.lra_linear_spec.specs.declared.ConKind.{ConKind}
 use Rattle.lra_systems.specs.declared.membership.MembershipAnswer as H
@@ -29,10 +29,10 @@ pub has_member : {A : Type 0} (Before Here : A → Type 0) (list : List A) (plac
 has_member {A = A} Before Here list place f = subst (λ (l : List A). Contains l f.member) (sym f.is)
     (Contains-append_right f.earlier (f.member ∷ f.later) f.member (contains_head f.member f.later))
 
-all_within : (p q : Polyhedron) → IsPolyhedron p → All (MeetsAll q.rows) p.generators → IsWithin p.dims (Con p.rows) (Con q.rows)
+all_within : (p q : Polyhedron) → IsPolyhedron p → All (SatisfiesAll q.rows) p.generators → IsWithin p.dims (Con p.rows) (Con q.rows)
 all_within p q h all x is_point c r k =
     holds_on_generators r p.generators
-    (list_all_from (holds_with r) p.generators (λ g m. (All-contains (Meets g) q.rows r (All-contains (MeetsAll q.rows) p.generators g all m) k).1))
+    (list_all_from (holds_with r) p.generators (λ g m. (All-contains (Satisfies g) q.rows r (All-contains (SatisfiesAll q.rows) p.generators g all m) k).1))
     x ((con_gen p h).0 x is_point c)
 
 not_within : (p q : Polyhedron) → IsPolyhedron p → (g r : LinearRow) → Contains p.generators g → Contains q.rows r → holds_with r g ≡ false → ¬ (IsWithin p.dims (Con p.rows) (Con q.rows))

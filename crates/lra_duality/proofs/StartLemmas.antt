@@ -15,7 +15,7 @@ use Rattle.lra_linear_spec.specs.Kinds.{is_line}
 use Rattle.lra_systems.specs.Dimensions.{too_many_dimensions}
 use Rattle.lra_systems.specs.LinearSystems.{rows_by_kind}
 use Rattle.lra_linear_spec.specs.declared.GenKind.{GenKind}
-use Rattle.lra_duality.specs.Onward.{MayGoOn, MayTurn}
+use Rattle.lra_duality.specs.Incremental.{MayGoOn, MayTurn}
 use Rattle.lra_duality.specs.Saturations.{column, saturated, saturation_of}
 use Rattle.lra_duality.proofs.SaturationLemmas.{given_length}
 use Rattle.lra_systems.proofs.FirstMembers.{front, front_length, given_more, given_split, member}

@@ -17,8 +17,8 @@ use Rattle.lra_systems.specs.FirstPlaces.{FirstAt}
 
 -- ---- a generator and a row
 -- the product stays in the range, and the row holds with the generator
-abbrev pub Meets : LinearRow → LinearRow → Type 0
-Meets g r = IsOk (checked_product r.row g.row) × IsTrue (holds_with r g)
+abbrev pub Satisfies : LinearRow → LinearRow → Type 0
+Satisfies g r = IsOk (checked_product r.row g.row) × IsTrue (holds_with r g)
 
 -- it stays in the range, and the row doesn't hold
 abbrev pub Violates : LinearRow → LinearRow → Type 0
@@ -29,26 +29,26 @@ abbrev pub Passes : LinearRow → LinearRow → Type 0
 Passes g r = IsErr (checked_product r.row g.row)
 
 -- ---- a generator and a list of rows
-abbrev pub MeetsAll : List LinearRow → LinearRow → Type 0
-MeetsAll rows g = All (Meets g) rows
+abbrev pub SatisfiesAll : List LinearRow → LinearRow → Type 0
+SatisfiesAll rows g = All (Satisfies g) rows
 
 abbrev pub IsReply : List LinearRow → LinearRow → H.MembershipAnswer → Type 0
-IsReply rows g holds.Yes = MeetsAll rows g
-IsReply rows g (holds.No place) = FirstAt (Meets g) (Violates g) rows place
-IsReply rows g (holds.Wide place) = FirstAt (Meets g) (Passes g) rows place
+IsReply rows g holds.Yes = SatisfiesAll rows g
+IsReply rows g (holds.No place) = FirstAt (Satisfies g) (Violates g) rows place
+IsReply rows g (holds.Wide place) = FirstAt (Satisfies g) (Passes g) rows place
 
 -- some row is violated, and those before it are met
 pub record ViolatesFirst (rows : List LinearRow) (g : LinearRow) : Type 0 where
   pub place : ℕ
-  pub first : FirstAt (Meets g) (Violates g) rows place
+  pub first : FirstAt (Satisfies g) (Violates g) rows place
 
 -- ---- two lists
 -- the answer of the first pair that decides
 abbrev pub IsInclusion : List LinearRow → List LinearRow → Inclusion → Type 0
-IsInclusion rows generators Yes = All (MeetsAll rows) generators
-IsInclusion rows generators (No place) = FirstAt (MeetsAll rows) (ViolatesFirst rows) generators place
+IsInclusion rows generators Yes = All (SatisfiesAll rows) generators
+IsInclusion rows generators (No place) = FirstAt (SatisfiesAll rows) (ViolatesFirst rows) generators place
 IsInclusion rows generators (Wide place row) =
-    FirstAt (MeetsAll rows) (λ g. FirstAt (Meets g) (Passes g) rows row) generators place
+    FirstAt (SatisfiesAll rows) (λ g. FirstAt (Satisfies g) (Passes g) rows row) generators place
 
 -- what the answer says of the sets of points
 abbrev pub TellsInclusion : Polyhedron → Polyhedron → Inclusion → Type 0

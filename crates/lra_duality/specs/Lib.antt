@@ -5,6 +5,6 @@ pub mod Residues
 -- Which constraints are tight at which generators.
 pub mod Saturations
 -- Cones of the two lists.
-pub mod Onward
+pub mod Incremental
 -- The constraints of tests.
 pub mod Rows

@@ -8,7 +8,7 @@ ghost use Rattle.lra_linear_spec.specs.Polyhedra.{IsPolyhedron};
 ghost use Rattle.lra_cone.specs.Cones.{IsCone, cone_saturation as by_rays};
 ghost use Rattle.lra_systems.specs.Dimensions.{too_many_dimensions};
 ghost use Rattle.lra_systems.specs.LinearSystems.{constraints, generators};
-ghost use Rattle.lra_duality.specs.Onward.{MayTurn};
+ghost use Rattle.lra_duality.specs.Incremental.{MayTurn};
 ghost use Rattle.lra_duality.specs.Saturations.{saturation_of, IsCovered, IsCoveredAt};
 
 use crate::saturation::mark_saturated;

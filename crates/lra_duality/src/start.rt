@@ -10,7 +10,7 @@ ghost use Rattle.lra_bits.specs.TruthValues.{value_at};
 ghost use Rattle.lra_cone.specs.Cones.{cone_saturation as by_rays};
 ghost use Rattle.lra_systems.specs.Dimensions.{too_many_dimensions};
 ghost use Rattle.lra_systems.specs.LinearSystems.{constraints, generators};
-ghost use Rattle.lra_duality.specs.Onward.{MayGoOn};
+ghost use Rattle.lra_duality.specs.Incremental.{MayGoOn};
 ghost use Rattle.lra_duality.specs.Saturations.{column, saturation_of};
 
 use crate::lists::join_rows;

@@ -12,7 +12,7 @@ use Rattle.lra_linear_spec.specs.declared.ConKind.{ConKind}
 use Rattle.lra_linear_spec.specs.declared.ConKind.TheVariants.{Ge, Eq}
 use Rattle.lra_systems.specs.LinearSystems.{LinearSystem, constraints, rows_by_kind}
 use Rattle.lra_systems.proofs.LinearRows.{constraints_pushed}
-use Rattle.lra_pair.proofs.OwnRows.{rows_of_given}
+use Rattle.lra_description_pair.proofs.OwnRows.{rows_of_given}
 use Rattle.lra_multipliers.specs.Columns.{first_of}
 use Rattle.lra_farkas.specs.MultiplierRows.{balance_row, inequality_columns, multiplier_dims, sign_row, multiplier_rows}
 use Rattle.lra_farkas.specs.RowsByKinds.{columns_by_kinds}

@@ -9,13 +9,13 @@ use Rattle.lra_linear_spec.specs.Strain.{Loss, Strains}
 use Rattle.lra_linear_spec.proofs.Membership.{contains_cases, contains_head, contains_none, contains_tail}
 use Rattle.lra_cone.specs.Cones.{ConeContent}
 use Rattle.lra_cone.specs.Conversions.{AreTried, IsConversion}
-use Rattle.lra_duality.specs.Onward.{MayGoOn}
-use Rattle.lra_pair.specs.TriedRows.{IsOfTried, OwnListStrains}
-use Rattle.lra_pair.proofs.PairLosses.{own_strain}
+use Rattle.lra_duality.specs.Incremental.{MayGoOn}
+use Rattle.lra_description_pair.specs.TriedRows.{IsOfTried, OwnListStrains}
+use Rattle.lra_description_pair.proofs.PairLosses.{own_strain}
 use Rattle.lra_poly.specs.declared.outcome.Outcome.TheVariants.{Exact, Flagged}
-use Rattle.lra_poly.specs.Narrowed.{IsNarrowed, IsTried}
+use Rattle.lra_poly.specs.Restricted.{IsRestricted, IsTried}
 use Rattle.lra_poly.specs.Outcomes.{first_loss}
-use Rattle.lra_poly.specs.StrainsBehind.{StrainsBehind}
+use Rattle.lra_poly.specs.StrainsAfter.{StrainsAfter}
 
 same_head : {A : Type 0} {x y : A} {xs ys : List A} → x ∷ xs ≡ y ∷ ys → x ≡ y
 same_head e = cc
@@ -25,7 +25,7 @@ nothing_told e = cc
 
 -- the first that was left out
 first_left : (n : ℕ) (taken all kept : List LinearRow) (left later : List Loss) (loss : Loss) → AreTried (suc n) taken all kept left → left ≡ loss ∷ later →
-    StrainsBehind n taken all loss
+    StrainsAfter n taken all loss
 first_left n taken [] kept left later loss t e = absurd (nothing_told (sym t.1 ∙ e))
 first_left n taken (g ∷ all) kept left later loss (inl t) e =
     let h = first_left n (taken ++ g ∷ []) all t.0 left later loss t.2 e in
@@ -52,7 +52,7 @@ first_left n taken (g ∷ all) kept left later loss (inr t) e =
     }
 
 own_strains : (n : ℕ) (first all kept : List LinearRow) (s : ConeContent) (left losses later : List Loss) (loss : Loss) → IsConversion first all kept s left → s.dims ≡ n →
-    AreTried (suc n) first all kept left → OwnListStrains s left losses → losses ≡ loss ∷ later → StrainsBehind n first all loss
+    AreTried (suc n) first all kept left → OwnListStrains s left losses → losses ≡ loss ∷ later → StrainsAfter n first all loss
 own_strains n first all kept s [] losses later loss c d t o e =
     let told : Loss = o.told.loss in
     let is : told ≡ loss = same_head (sym o.told.told ∙ e) in
@@ -68,7 +68,7 @@ own_strains n first all kept s (x ∷ left) losses later loss c d t o e =
     let is : x ≡ loss = same_head (sym o.told.told ∙ e) in first_left n first all kept (x ∷ left) left loss t (ap (λ (l : Loss). l ∷ left) is)
 
 tried_strains : (n : ℕ) (first all : List LinearRow) (made : Polyhedron) (losses later : List Loss) (loss : Loss) → IsOfTried n first all made losses → losses ≡ loss ∷ later →
-    StrainsBehind n first all loss
+    StrainsAfter n first all loss
 tried_strains n first all made losses later loss t e =
     let tried : AreTried (suc n) first all t.kept t.left = subst (λ (d : ℕ). AreTried (suc d) first all t.kept t.left) t.dims t.conversion.tried in
     elim t.made [
@@ -82,15 +82,15 @@ same_loss e = cc
 never_exact : {x : Loss} → Flagged x ≡ Exact → ⊥
 never_exact e = cc
 
-told_strains : (n : ℕ) (first all : List LinearRow) (made : Polyhedron) (loss : Loss) → IsTried n first all made (Flagged loss) → StrainsBehind n first all loss
+told_strains : (n : ℕ) (first all : List LinearRow) (made : Polyhedron) (loss : Loss) → IsTried n first all made (Flagged loss) → StrainsAfter n first all loss
 told_strains n first all made loss t = by_losses t.losses t.told t.of
   where
-    by_losses : (losses : List Loss) → Flagged loss ≡ first_loss losses → IsOfTried n first all made losses → StrainsBehind n first all loss
+    by_losses : (losses : List Loss) → Flagged loss ≡ first_loss losses → IsOfTried n first all made losses → StrainsAfter n first all loss
     by_losses [] e of = absurd (never_exact e)
     by_losses (x ∷ later) e of = tried_strains n first all made (x ∷ later) later loss of (ap (λ (l : Loss). l ∷ later) (same_loss (sym e)))
 
-pub flagged_onward : (p q : Polyhedron) (more : List LinearRow) (loss : Loss) → MayGoOn p.dims p.generators → IsNarrowed p more q (Flagged loss) →
-    StrainsBehind p.dims (with_positivity p.dims p.rows) more loss
+pub flagged_onward : (p q : Polyhedron) (more : List LinearRow) (loss : Loss) → MayGoOn p.dims p.generators → IsRestricted p more q (Flagged loss) →
+    StrainsAfter p.dims (with_positivity p.dims p.rows) more loss
 flagged_onward p q more loss may (inl same) = absurd (never_exact same.2)
 flagged_onward p q more loss may (inr n) = elim n.is_met [
   | inl m ↦ told_strains p.dims (with_positivity p.dims p.rows) more n.made loss m.1

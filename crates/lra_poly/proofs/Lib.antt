@@ -1,7 +1,7 @@
 pub mod OutcomeLemmas
 pub mod SameLemmas
 pub mod PolyLemmas
-pub mod FormedLemmas
+pub mod RepresentableLemmas
 pub mod MetRows
 pub mod UnitedLists
 pub mod FlaggedMeets

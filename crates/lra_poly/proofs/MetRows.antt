@@ -8,15 +8,15 @@ use Rattle.lra_linear_spec.specs.Polyhedra.{Polyhedron, positivity}
 use Rattle.lra_linear_spec.specs.Strain.{Loss}
 use Rattle.lra_linear_spec.proofs.Membership.{contains_head}
 use Rattle.lra_systems.specs.FirstPlaces.{FirstAt}
-use Rattle.lra_duality.specs.Inclusions.{IsInclusion, Meets, MeetsAll, Passes, ViolatesFirst, Violates}
+use Rattle.lra_duality.specs.Inclusions.{IsInclusion, Satisfies, SatisfiesAll, Passes, ViolatesFirst, Violates}
 use Rattle.lra_duality.specs.declared.inclusion.Inclusion.{Inclusion}
 use Rattle.lra_duality.specs.declared.inclusion.Inclusion.TheVariants.{Yes, No, Wide}
 use Rattle.lra_duality.proofs.MaximumLemmas.{never_both}
-use Rattle.lra_duality.specs.Onward.{MayGoOn}
-use Rattle.lra_pair.specs.OwnLists.{IsPositive}
-use Rattle.lra_pair.specs.TriedRows.{IsOfTried}
-use Rattle.lra_pair.proofs.MadeLemmas.{tried_is_made}
-use Rattle.lra_poly.specs.Narrowed.{IsMetWith, IsSeenWithin, IsSettled, IsTried}
+use Rattle.lra_duality.specs.Incremental.{MayGoOn}
+use Rattle.lra_description_pair.specs.OwnLists.{IsPositive}
+use Rattle.lra_description_pair.specs.TriedRows.{IsOfTried}
+use Rattle.lra_description_pair.proofs.MadeLemmas.{tried_is_made}
+use Rattle.lra_poly.specs.Restricted.{IsMetWith, IsSeenWithin, IsSettled, IsTried}
 use Rattle.lra_poly.specs.Outcomes.{IsOfRows, first_loss}
 use Rattle.lra_poly.proofs.PolyLemmas.{becomes_told}
 use Rattle.lra_poly.specs.declared.outcome.Outcome.{Outcome}
@@ -29,17 +29,19 @@ pub only_yes : (rows generators : List LinearRow) (answer : Inclusion) → IsInc
 only_yes rows generators Yes told seen = refl
 only_yes rows generators (No place) told seen =
     let g = told.member in
-    let meets : MeetsAll rows g = at_place (MeetsAll rows) (ViolatesFirst rows) (MeetsAll rows) generators place told (λ x has. All-contains (MeetsAll rows) generators x seen has) in
+    let meets : SatisfiesAll rows g = at_place (SatisfiesAll rows) (ViolatesFirst rows) (SatisfiesAll rows) generators place told (λ x has. All-contains (SatisfiesAll rows) generators x seen has) in
     let first = told.here.first in
-    let met : Meets g first.member = at_place (Meets g) (Violates g) (Meets g) rows told.here.place first (λ x has. All-contains (Meets g) rows x meets has) in
+    let met : Satisfies g first.member =
+    at_place (Satisfies g) (Violates g) (Satisfies g) rows told.here.place first (λ x has. All-contains (Satisfies g) rows x meets has) in
     let holds = met.1 in
     let refuted = first.here.1 in
     let wrong : ⊥ = cc in absurd wrong
 only_yes rows generators (Wide place row) told seen =
     let g = told.member in
-    let meets : MeetsAll rows g = at_place (MeetsAll rows) (λ x. FirstAt (Meets x) (Passes x) rows row) (MeetsAll rows) generators place told
-    (λ x has. All-contains (MeetsAll rows) generators x seen has) in
-    let met : Meets g told.here.member = at_place (Meets g) (Passes g) (Meets g) rows row told.here (λ x has. All-contains (Meets g) rows x meets has) in
+    let meets : SatisfiesAll rows g = at_place (SatisfiesAll rows) (λ x. FirstAt (Satisfies x) (Passes x) rows row) (SatisfiesAll rows) generators place told
+    (λ x has. All-contains (SatisfiesAll rows) generators x seen has) in
+    let met : Satisfies g told.here.member =
+    at_place (Satisfies g) (Passes g) (Satisfies g) rows row told.here (λ x has. All-contains (Satisfies g) rows x meets has) in
     absurd (never_both _ told.here.here met.0)
 
 pub never : (b : Bool) → b ≡ false → IsTrue b → ⊥

@@ -20,9 +20,9 @@ use Rattle.lra_poly.specs.declared.outcome.Outcome.TheVariants.{Exact, Flagged}
 use Rattle.lra_poly.specs.Outcomes.{Becomes, IfExact, IfFlagged, IsOfGenerators, IsOfRows, first_loss}
 use Rattle.lra_duality.proofs.PolyhedronLemmas.{empty_where_none, none_where_empty, rows_width}
 use Rattle.lra_cone.specs.Losses.{IfLost}
-use Rattle.lra_pair.specs.Made.{IsMadeFor}
-use Rattle.lra_pair.specs.OwnLists.{IsPositive}
-use Rattle.lra_pair.proofs.OwnRows.{none_of}
+use Rattle.lra_description_pair.specs.Made.{IsMadeFor}
+use Rattle.lra_description_pair.specs.OwnLists.{IsPositive}
+use Rattle.lra_description_pair.proofs.OwnRows.{none_of}
 use Rattle.lra_linear_spec.specs.Kinds.{is_line}
 use Rattle.lra_systems.specs.LinearSystems.{LinearSystem, generators, rows_by_kind}
 use Rattle.lra_linear_spec.specs.declared.GenKind.{GenKind}

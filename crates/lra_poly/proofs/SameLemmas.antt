@@ -9,7 +9,7 @@ use Rattle.lra_linear_spec.specs.declared.ConKind.{ConKind}
 use Rattle.lra_systems.specs.LinearSystems.{LinearSystem, constraints}
 use Rattle.lra_linear_spec.proofs.OneSpelling.{same_points_same_lists}
 use Rattle.lra_linear_spec.specs.Kinds.{is_equality}
-use Rattle.lra_pair.proofs.OwnRows.{rows_of_given}
+use Rattle.lra_description_pair.proofs.OwnRows.{rows_of_given}
 use Rattle.lra_poly.specs.Equality.{polyhedron_Decides, polyhedron_eq}
 
 pub same_rows_same : (p q : Polyhedron) → IsPolyhedron p → IsPolyhedron q → q.dims ≡ p.dims → p.rows ≡ q.rows → p ≡ q

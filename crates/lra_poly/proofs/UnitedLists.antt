@@ -5,13 +5,13 @@ use Rattle.lra_linear_spec.specs.Polyhedra.{Polyhedron}
 use Rattle.lra_linear_spec.specs.Strain.{Loss}
 use Rattle.lra_linear_spec.specs.declared.GenKind.{GenKind}
 use Rattle.lra_systems.specs.LinearSystems.{LinearSystem, generators}
-use Rattle.lra_duality.specs.Onward.{MayTurn}
-use Rattle.lra_pair.specs.TakenPoints.{IsOfPoints}
-use Rattle.lra_pair.specs.TriedRows.{StrainsWhenTried}
+use Rattle.lra_duality.specs.Incremental.{MayTurn}
+use Rattle.lra_description_pair.specs.TakenPoints.{IsOfPoints}
+use Rattle.lra_description_pair.specs.TriedRows.{StrainsWhenTried}
 use Rattle.lra_poly.specs.declared.outcome.Outcome.{Outcome}
 use Rattle.lra_poly.specs.declared.outcome.Outcome.TheVariants.{Exact, Flagged}
 use Rattle.lra_poly.specs.Outcomes.{IfFlagged, first_loss}
-use Rattle.lra_poly.specs.United.{AreTriedPoints, StopsBehind, UnitesAnew}
+use Rattle.lra_poly.specs.United.{AreTriedPoints, CannotExtend, UnitesAnew}
 
 some_told : (l : Loss) (losses : List Loss) → l ∷ losses ≢ []
 some_told l losses e = cc
@@ -28,13 +28,13 @@ tried_points n given made pair o losses em e h = subst (λ (x : Outcome). IfFlag
       of = subst (λ (p : Polyhedron). IsOfPoints n given p (l ∷ later)) (sym em) (h (some_told l later));
     }
 
-pub no_cone : (p view : Polyhedron) (more : List LinearRow) → view ≡ p → ¬ (MayTurn view.dims view.rows view.generators) → StopsBehind p more
+pub no_cone : (p view : Polyhedron) (more : List LinearRow) → view ≡ p → ¬ (MayTurn view.dims view.rows view.generators) → CannotExtend p more
 no_cone p view more e fails = inl (subst (λ (x : Polyhedron). ¬ (MayTurn x.dims x.rows x.generators)) e fails)
 
-pub strains_behind : (p : Polyhedron) (d : ℕ) (taken listed more : List LinearRow) → d ≡ p.dims → taken ≡ listed → listed ≡ p.generators → StrainsWhenTried d taken more → StopsBehind p more
+pub strains_behind : (p : Polyhedron) (d : ℕ) (taken listed more : List LinearRow) → d ≡ p.dims → taken ≡ listed → listed ≡ p.generators → StrainsWhenTried d taken more → CannotExtend p more
 strains_behind p d taken listed more ed et el h = inr (subst (λ (n : ℕ). StrainsWhenTried n p.generators more) ed (subst (λ (l : List LinearRow). StrainsWhenTried d l more) (et ∙ el) h))
 
-pub unites_anew : (p made : Polyhedron) (more : List LinearRow) (o : Outcome) → StopsBehind p more → IfFlagged (λ _. AreTriedPoints p.dims (p.generators ++ more) made o) o →
+pub unites_anew : (p made : Polyhedron) (more : List LinearRow) (o : Outcome) → CannotExtend p more → IfFlagged (λ _. AreTriedPoints p.dims (p.generators ++ more) made o) o →
     IfFlagged (λ _. UnitesAnew p more made o) o
 unites_anew p made more o stops h = by_outcome o h
   where

@@ -1,6 +1,6 @@
 -- Operations on closed polyhedra.
 pub mod Equality
 pub mod Outcomes
-pub mod Narrowed
+pub mod Restricted
 pub mod United
-pub mod StrainsBehind
+pub mod StrainsAfter

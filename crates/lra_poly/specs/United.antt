@@ -3,9 +3,9 @@ use Rattle.std.specs.Prelude.{◌≡◌, ◌⊎◌, ℕ, List, ◌++◌}
 use Rattle.lra_linear_spec.specs.Descriptions.{LinearRow}
 use Rattle.lra_linear_spec.specs.Polyhedra.{Polyhedron}
 use Rattle.lra_linear_spec.specs.Strain.{Loss}
-use Rattle.lra_pair.specs.TakenPoints.{IsOfPoints}
-use Rattle.lra_pair.specs.TriedRows.{StrainsWhenTried}
-use Rattle.lra_duality.specs.Onward.{MayTurn}
+use Rattle.lra_description_pair.specs.TakenPoints.{IsOfPoints}
+use Rattle.lra_description_pair.specs.TriedRows.{StrainsWhenTried}
+use Rattle.lra_duality.specs.Incremental.{MayTurn}
 use Rattle.lra_poly.specs.declared.outcome.Outcome.{Outcome}
 use Rattle.lra_poly.specs.Outcomes.{first_loss}
 
@@ -16,10 +16,10 @@ pub record AreTriedPoints (n : ℕ) (given : List LinearRow) (made : Polyhedron)
   pub of : IsOfPoints n given made losses
 
 -- its lists make no cone, or behind that these generators strain
-abbrev pub StopsBehind : Polyhedron → List LinearRow → Type 0
-StopsBehind p more = (¬ (MayTurn p.dims p.rows p.generators)) ⊎ StrainsWhenTried p.dims p.generators more
+abbrev pub CannotExtend : Polyhedron → List LinearRow → Type 0
+CannotExtend p more = (¬ (MayTurn p.dims p.rows p.generators)) ⊎ StrainsWhenTried p.dims p.generators more
 
 -- only then its own and these are converted from nothing, which alone is flagged
 pub record UnitesAnew (p : Polyhedron) (more : List LinearRow) (made : Polyhedron) (o : Outcome) : Type 0 where
-  pub stops : StopsBehind p more
+  pub stops : CannotExtend p more
   pub tried : AreTriedPoints p.dims (p.generators ++ more) made o

@@ -6,10 +6,10 @@ ghost use Rattle.lra_linear_spec.specs.OperationStrain.{with_positivity};
 ghost use Rattle.lra_linear_spec.specs.Points.{SameSet};
 ghost use Rattle.lra_linear_spec.specs.Polyhedra.{Polyhedron, IsPolyhedron};
 ghost use Rattle.lra_linear_spec.specs.Strain as strain;
-ghost use Rattle.lra_duality.specs.Onward.{MayGoOn};
+ghost use Rattle.lra_duality.specs.Incremental.{MayGoOn};
 ghost use Rattle.lra_poly.specs.declared.outcome.Outcome.TheVariants.{Flagged};
-ghost use Rattle.lra_poly.specs.Narrowed.{IsNarrowed};
-ghost use Rattle.lra_poly.specs.StrainsBehind.{StrainsBehind};
+ghost use Rattle.lra_poly.specs.Restricted.{IsRestricted};
+ghost use Rattle.lra_poly.specs.StrainsAfter.{StrainsAfter};
 
 /// Two polyhedra with the same points have the same constraints and the same generators, whatever made them; and the
 /// constraints of a polyhedron have the points that its generators have.
@@ -27,5 +27,5 @@ pub fn polyhedra_have_one_spelling()
 /// Does nothing: its contract is the theorem.
 pub fn flagged_meets_go_on()
     ensures { (p q : Polyhedron) (more : List LinearRow) (loss : strain.Loss) → MayGoOn p.dims p.generators →
-        IsNarrowed p more q (Flagged loss) → StrainsBehind p.dims (with_positivity p.dims p.rows) more loss }
+        IsRestricted p more q (Flagged loss) → StrainsAfter p.dims (with_positivity p.dims p.rows) more loss }
 {}

@@ -11,14 +11,14 @@ ghost use Rattle.lra_linear_spec.specs.SetOperations.{Meet, Union, Hull};
 ghost use Rattle.lra_linear_spec.specs.Vectors.{negated};
 ghost use Rattle.lra_systems.specs.Dimensions.{too_many_dimensions};
 ghost use Rattle.lra_systems.specs.LinearSystems.{constraints, generators, FitKinds};
-ghost use Rattle.lra_pair.specs.KeptRows.{IsOfSome};
-ghost use Rattle.lra_pair.specs.OwnLists.{IsPositive};
-ghost use Rattle.lra_pair.specs.TriedRows.{StrainsWhenTried};
+ghost use Rattle.lra_description_pair.specs.KeptRows.{IsOfSome};
+ghost use Rattle.lra_description_pair.specs.OwnLists.{IsPositive};
+ghost use Rattle.lra_description_pair.specs.TriedRows.{StrainsWhenTried};
 ghost use Rattle.lra_duality.specs.Inclusions.{IsInclusion, TellsInclusion};
 ghost use Rattle.lra_duality.specs.Maxima.{IsMaximum, TellsMaximum, ValueInRange};
 ghost use Rattle.lra_poly.specs.Outcomes.{Becomes, IfFlagged, IsOfGenerators, IsOfRows};
-ghost use Rattle.lra_poly.specs.Narrowed.{IsMetWith, IsNarrowed, IsSeenWithin, IsTried};
-ghost use Rattle.lra_poly.specs.United.{AreTriedPoints, StopsBehind, UnitesAnew};
+ghost use Rattle.lra_poly.specs.Restricted.{IsMetWith, IsRestricted, IsSeenWithin, IsTried};
+ghost use Rattle.lra_poly.specs.United.{AreTriedPoints, CannotExtend, UnitesAnew};
 ghost use Rattle.lra_poly.specs.declared.outcome.Outcome.TheVariants.{Exact};
 ghost use Rattle.lra_linear_forms.specs.Form.{form_row};
 ghost use Rattle.lra_duality.specs.Rows.{test_row};
@@ -27,13 +27,13 @@ ghost use Rattle.lra_duality.specs.Saturations.{saturation_of};
 use crate::outcome::{Outcome, outcome_of};
 use lra_bits::SatMatrix;
 use lra_cone::Cone;
+use lra_description_pair::DescriptionPair;
 use lra_descriptions::nothing;
 use lra_duality::{
     Inclusion, Maximum, cone_of, facet_cone, inclusion_of, join_generators, join_rows, list_test,
     maximum_of, saturation_matrix,
 };
 use lra_linear_forms::{LinExpr, Test};
-use lra_pair::Pair;
 use lra_systems::{ConSys, GenSys, are_same};
 use std::alloc::{AllocError, Global};
 use std::marker::Model;
@@ -79,7 +79,7 @@ impl Model for Poly {
 }
 
 // The polyhedron of the pair.
-fn of_pair(alloc: Global, pair: Pair) -> Poly
+fn of_pair(alloc: Global, pair: DescriptionPair) -> Poly
     ensures { result ≡ pair }
 {
     let (rows, by_generators, saturation) = pair.into_parts();
@@ -98,7 +98,7 @@ fn of_cone(alloc: Global, cone: Cone, more: &ConSys) -> Result<(Poly, Outcome), 
     requires positive { IsPositive more.now.dims cone.taken }
     ensures { IfOk result (λ r. IsTried more.now.dims cone.taken (constraints more.now) r.0 r.1) }
 {
-    let (pair, losses) = lra_pair::from_cone(alloc, cone, more)?;
+    let (pair, losses) = lra_description_pair::from_cone(alloc, cone, more)?;
     let made = of_pair(alloc, pair);
     Ok((made, outcome_of(losses)))
 }
@@ -115,7 +115,7 @@ fn of_facets(alloc: Global, cone: Cone, more: &GenSys) -> Result<Option<Poly>, A
     ensures none { IfOk result (λ made. IfNone made
         (StrainsWhenTried more.now.dims cone.taken (generators more.now))) }
 {
-    match lra_pair::with_generators(alloc, cone, more)? {
+    match lra_description_pair::with_generators(alloc, cone, more)? {
         Some(pair) => {
             let made = of_pair(alloc, pair);
             Ok(Some(made))
@@ -130,7 +130,7 @@ impl Poly {
         requires { n < too_many_dimensions }
         ensures { IfOk result (IsPolyhedronOf n (Con [])) }
     {
-        let pair = lra_pair::universe(alloc, n)?;
+        let pair = lra_description_pair::universe(alloc, n)?;
         let all = of_pair(alloc, pair);
         Ok(all)
     }
@@ -160,7 +160,7 @@ impl Poly {
         ensures tried { IfOk result (λ r.
             IsTried rows.now.dims (with_positivity rows.now.dims []) (constraints rows.now) r.0 r.1) }
     {
-        let (pair, losses) = lra_pair::from_rows(alloc, rows)?;
+        let (pair, losses) = lra_description_pair::from_rows(alloc, rows)?;
         let made = of_pair(alloc, pair);
         Ok((made, outcome_of(losses)))
     }
@@ -172,7 +172,7 @@ impl Poly {
         ensures tried { IfOk result (λ r.
             IfFlagged (λ _. AreTriedPoints given.now.dims (generators given.now) r.0 r.1) r.1) }
     {
-        let (pair, losses) = lra_pair::from_generators(alloc, given)?;
+        let (pair, losses) = lra_description_pair::from_generators(alloc, given)?;
         let made = of_pair(alloc, pair);
         Ok((made, outcome_of(losses)))
     }
@@ -410,7 +410,7 @@ impl Poly {
         ensures unchanged { OnErr result (self.new ≡ self.old) }
         ensures met { IsSeenWithin self.old (constraints more.now) →
             (self.new ≡ self.old) × IfOk result (λ o. o ≡ Exact) }
-        ensures kept { IfOk result (IsNarrowed self.old (constraints more.now) self.new) }
+        ensures kept { IfOk result (IsRestricted self.old (constraints more.now) self.new) }
     {
         if self.meets(more) {
             return Ok(Outcome::Exact);
@@ -439,7 +439,7 @@ impl Poly {
         ensures unchanged { OnErr result (self.new ≡ self.old) }
         ensures met { IsSeenWithin self.old other.now.rows →
             (self.new ≡ self.old) × IfOk result (λ o. o ≡ Exact) }
-        ensures kept { IfOk result (IsNarrowed self.old other.now.rows self.new) }
+        ensures kept { IfOk result (IsRestricted self.old other.now.rows self.new) }
     {
         let rows = other.rows();
         let outcome = self.add_rows(rows)?;
@@ -458,7 +458,7 @@ impl Poly {
         ensures unchanged { OnErr result (self.new ≡ self.old) }
         ensures met { IsSeenWithin self.old (test_row test.now.kind test.now.expr ∷ []) →
             (self.new ≡ self.old) × IfOk result (λ o. o ≡ Exact) }
-        ensures kept { IfOk result (IsNarrowed self.old (test_row test.now.kind test.now.expr ∷ []) self.new) }
+        ensures kept { IfOk result (IsRestricted self.old (test_row test.now.kind test.now.expr ∷ []) self.new) }
     {
         let row = list_test(self.alloc, test)?;
         let outcome = self.add_rows(&row)?;
@@ -473,7 +473,7 @@ impl Poly {
         requires kinds { FitKinds more.now.rows more.now.kinds }
         ensures made { IfOk result (λ made. IfSome made
             (IsPolyhedronOf self.now.dims (Gen (self.now.generators ++ generators more.now)))) }
-        ensures none { IfOk result (λ made. IfNone made (StopsBehind self.now (generators more.now))) }
+        ensures none { IfOk result (λ made. IfNone made (CannotExtend self.now (generators more.now))) }
     {
         match facet_cone(
             self.alloc,

@@ -15,8 +15,8 @@ use Rattle.lra_report.specs.BackText.{BackReport}
 use Rattle.lra_front.specs.Stages.{HasTree, HasGraph, HasConstants}
 use Rattle.lra_paths.specs.Paths.{AreFewIn, HasTooManyIn}
 use Rattle.lra_certificate.specs.Claims.{IsProgram}
-use Rattle.lra_polydom.specs.Meaning.{polyhedron_meaning}
-use Rattle.lra_polydom.specs.Retracing.{polyhedron_retracing}
+use Rattle.lra_poly_domain.specs.Abstraction.{polyhedron_abstraction}
+use Rattle.lra_poly_domain.specs.Backward.{polyhedron_backward}
 use Rattle.lra_source.proofs.ReportSteps.{few_points}
 use Rattle.lra_back.specs.Operations.{dropping}
 use Rattle.lra_back.specs.Traced.{AreWide, IsAssertion, IsTraced, NothingLeftAtStart}
@@ -32,22 +32,22 @@ use Rattle.lra_retraced.proofs.Forward.{taken}
 module _ (t : FileTree) (g : Node) (sites : List Site) (has : HasGraph t g sites) (globals : List GlobalVariable) (is : (resolve t).globals ≡ globals)
     (constants : List ℤ) (p : ℕ) where
   module _ (forward values : List Polyhedron) (flagged last : Option ℕ) (holds : Bool)
-      (traced : IsTraced polyhedron_meaning polyhedron_retracing globals sites g forward flagged p values last) where
+      (traced : IsTraced polyhedron_abstraction polyhedron_backward globals sites g forward flagged p values last) where
     pub retraced : IsForward constants (resolve t) g forward flagged → IsAssertion sites p → AreFewIn globals sites g
-        → ((holds ≡ true) ↔ NothingLeftAtStart polyhedron_meaning globals sites g values) → IsRetraced constants (resolve t) g p values last holds
+        → ((holds ≡ true) ↔ NothingLeftAtStart polyhedron_abstraction globals sites g values) → IsRetraced constants (resolve t) g p values last holds
     retraced ahead asserts few proved = record {
       asserts = subst (λ (T : List Site). IsAssertion T p) has.points asserts;
       few = taken t g sites has globals is (λ gs T. AreFewIn gs T g) few;
       forward = forward;
       flagged = flagged;
       ahead = ahead;
-      traced = taken t g sites has globals is (λ gs T. IsTraced polyhedron_meaning polyhedron_retracing gs T g forward flagged p values last) traced;
-      proved = taken t g sites has globals is (λ gs T. (holds ≡ true) ↔ NothingLeftAtStart polyhedron_meaning gs T g values) proved;
+      traced = taken t g sites has globals is (λ gs T. IsTraced polyhedron_abstraction polyhedron_backward gs T g forward flagged p values last) traced;
+      proved = taken t g sites has globals is (λ gs T. (holds ≡ true) ↔ NothingLeftAtStart polyhedron_abstraction gs T g values) proved;
     }
 
-    pub flag_at : AreWide polyhedron_meaning sites forward → ((q : ℕ) → flagged ≡ Some q → q < length sites) → (q : ℕ) → last ≡ Some q → q < length sites
+    pub flag_at : AreWide polyhedron_abstraction sites forward → ((q : ℕ) → flagged ≡ Some q → q < length sites) → (q : ℕ) → last ≡ Some q → q < length sites
     flag_at wide low =
-        flag_below (dropping polyhedron_meaning polyhedron_retracing) globals sites g forward flagged p values last (length sites) wide.0 traced.drops low
+        flag_below (dropping polyhedron_abstraction polyhedron_backward) globals sites g forward flagged p values last (length sites) wide.0 traced.drops low
 
   pub fails_so : (failure : BackFailure) → (failure ≡ of_back.NoAssertion → IsAssertion sites p → ⊥)
       → ((q : ℕ) → failure ≡ of_back.TooMany q → IsAssertion sites p × HasTooManyIn globals sites g q) → IsFailure (resolve t) g p failure

@@ -15,8 +15,8 @@ use Rattle.lra_flow.specs.Room.{most_live}
 use Rattle.lra_flow.proofs.OneAccess.{accesses_written, accesses_strained}
 use Rattle.lra_iter.specs.Solved.{IsSolved}
 use Rattle.lra_front.specs.Stages.{HasGraph}
-use Rattle.lra_polydom.specs.Laws.{polyhedron_laws}
-use Rattle.lra_polydom.specs.Meaning.{polyhedron_meaning}
+use Rattle.lra_poly_domain.specs.Laws.{polyhedron_laws}
+use Rattle.lra_poly_domain.specs.Abstraction.{polyhedron_abstraction}
 use Rattle.lra_source.proofs.Fitting.{few_globals, tree_fits}
 use Rattle.lra_source.proofs.Found.{none_before}
 use Rattle.lra_source.proofs.Handing.{as_many, value_dims}
@@ -30,40 +30,40 @@ use Rattle.lra_retraced.specs.Forward.{IsForward, forward_plan}
 -- ---- what is found
 module _ (t : FileTree) (g : Node) (sites : List Site) (has : HasGraph t g sites) (constants : List ℤ) (values : List Polyhedron)
     (verdicts : List (ℕ × Bool)) (behind : Option ℕ)
-    (solved : IsSolved polyhedron_meaning (forward_plan constants) (resolve t) g values verdicts behind) where
-  pub wide_at : AreWide polyhedron_meaning (sites_of (resolve t)) values
+    (solved : IsSolved polyhedron_abstraction (forward_plan constants) (resolve t) g values verdicts behind) where
+  pub wide_at : AreWide polyhedron_abstraction (sites_of (resolve t)) values
   wide_at = (
-    as_many polyhedron_meaning (forward_plan constants) (resolve t) g solved.result values verdicts behind has.is_graph solved.derived solved.solves,
+    as_many polyhedron_abstraction (forward_plan constants) (resolve t) g solved.result values verdicts behind has.is_graph solved.derived solved.solves,
     at,
   )
     where
       at : (p : ℕ) (s : Site) (v : Polyhedron) → slice_get (sites_of (resolve t)) p ≡ Some s → slice_get values p ≡ Some v
-          → (polyhedron_meaning.dims v ≡ s.live) × (s.live ≤ most_live)
+          → (polyhedron_abstraction.dims v ≡ s.live) × (s.live ≤ most_live)
       at p s v site there =
           let few = has.few p s site in (
-            value_dims polyhedron_meaning (forward_plan constants) (resolve t) g solved.result values verdicts behind has.is_graph solved.derived
+            value_dims polyhedron_abstraction (forward_plan constants) (resolve t) g solved.result values verdicts behind has.is_graph solved.derived
                 solved.solves polyhedron_laws p v s there site,
             omega (arith, few),
           )
 
-  pub are_wide : AreWide polyhedron_meaning sites values
-  are_wide = subst (λ (T : List Site). AreWide polyhedron_meaning T values) (sym has.points) wide_at
+  pub are_wide : AreWide polyhedron_abstraction sites values
+  are_wide = subst (λ (T : List Site). AreWide polyhedron_abstraction T values) (sym has.points) wide_at
 
   module _ (inside : List (ℕ × List (Place × Bool))) (flagged : Option ℕ)
-      (judges : JudgesAccesses polyhedron_meaning (dropping polyhedron_meaning) g values behind inside flagged) where
+      (judges : JudgesAccesses polyhedron_abstraction (dropping polyhedron_abstraction) g values behind inside flagged) where
     pub flag_there : (q : ℕ) → flagged ≡ Some q → q < length sites
     flag_there q is =
-        let low = last_handed polyhedron_meaning t g sites has (forward_plan constants) values verdicts behind solved false [] inside behind flagged
+        let low = last_handed polyhedron_abstraction t g sites has (forward_plan constants) values verdicts behind solved false [] inside behind flagged
         (refl, refl) judges q is in
         subst (λ (n : ℕ). q < n) (sym (ap length has.points)) low
 
-    written_if : flagged ≡ None → JudgesAccesses polyhedron_meaning (defined polyhedron_meaning) g values None inside None
+    written_if : flagged ≡ None → JudgesAccesses polyhedron_abstraction (defined polyhedron_abstraction) g values None inside None
     written_if none =
-        let so = accesses_written polyhedron_meaning polyhedron_laws g values behind inside flagged none judges in
-        let first : behind ≡ None = none_before (dropping polyhedron_meaning) (OpInside polyhedron_meaning (dropping polyhedron_meaning))
+        let so = accesses_written polyhedron_abstraction polyhedron_laws g values behind inside flagged none judges in
+        let first : behind ≡ None = none_before (dropping polyhedron_abstraction) (OpInside polyhedron_abstraction (dropping polyhedron_abstraction))
         (accessed_in None g) values behind inside flagged judges none in
-        subst (λ (f : Option ℕ). JudgesAccesses polyhedron_meaning (defined polyhedron_meaning) g values None inside f) none
-        (subst (λ (f : Option ℕ). JudgesAccesses polyhedron_meaning (defined polyhedron_meaning) g values f inside flagged) first so)
+        subst (λ (f : Option ℕ). JudgesAccesses polyhedron_abstraction (defined polyhedron_abstraction) g values None inside f) none
+        (subst (λ (f : Option ℕ). JudgesAccesses polyhedron_abstraction (defined polyhedron_abstraction) g values f inside flagged) first so)
 
     pub is_forward : IsForward constants (resolve t) g values flagged
     is_forward = record {
@@ -74,9 +74,9 @@ module _ (t : FileTree) (g : Node) (sites : List Site) (has : HasGraph t g sites
       accessed = judges;
       accessed_written = written_if;
       accessed_strained = λ q none some.
-          subst (λ (f : Option ℕ). JudgesAccesses polyhedron_meaning (straining polyhedron_meaning) g values f inside (Some q)) none
-          (subst (λ (f : Option ℕ). JudgesAccesses polyhedron_meaning (straining polyhedron_meaning) g values behind inside f) some
-          (accesses_strained polyhedron_meaning polyhedron_laws g values behind inside flagged judges));
+          subst (λ (f : Option ℕ). JudgesAccesses polyhedron_abstraction (straining polyhedron_abstraction) g values f inside (Some q)) none
+          (subst (λ (f : Option ℕ). JudgesAccesses polyhedron_abstraction (straining polyhedron_abstraction) g values behind inside f) some
+          (accesses_strained polyhedron_abstraction polyhedron_laws g values behind inside flagged judges));
     }
 
 -- ---- what going back asks

@@ -18,7 +18,7 @@ use Rattle.lra_report.specs.Parts.{HasSamePoints, Tells}
 use Rattle.lra_report.specs.Report.{Invariant, PointReport}
 use Rattle.lra_formed.proofs.Named.{shown_as_many}
 use Rattle.lra_listing.specs.Given.{AreInvariants, state_of}
-use Rattle.lra_polydom.specs.Meaning.{polyhedron_meaning}
+use Rattle.lra_poly_domain.specs.Abstraction.{polyhedron_abstraction}
 use Rattle.lra_states.specs.Polyhedra.{shown_polyhedron}
 use Rattle.lra_states.specs.Shown.{AreShown}
 use Rattle.lra_source.proofs.Handing.{contained, image_of}
@@ -27,8 +27,8 @@ use Rattle.lra_back.specs.Traced.{AreWide}
 use Rattle.lra_retraced.specs.Retraced.{BacksHaveSamePoints, HasSamePointsAt, ShowsAtPoints}
 
 -- the states that are listed
-pub states_listed : (sites : List Site) (values : List Polyhedron) (states : List Invariant) → AreWide polyhedron_meaning sites values
-    → AreShown polyhedron_meaning Poly shown_polyhedron values → states ≡ map shown_polyhedron values → AreInvariants sites states
+pub states_listed : (sites : List Site) (values : List Polyhedron) (states : List Invariant) → AreWide polyhedron_abstraction sites values
+    → AreShown polyhedron_abstraction Poly shown_polyhedron values → states ≡ map shown_polyhedron values → AreInvariants sites states
 states_listed sites values states wide shown are = record {
   as_many = ap length are ∙ length-map values shown_polyhedron ∙ wide.0;
   wide = λ q s state site there.
@@ -67,11 +67,11 @@ backs_same_points source p r x = same_points x.program.tree x.values r.points x.
 
 -- the points of a source as they are listed
 pub shows_points : (t : FileTree) (g : Node) (sites : List Site) → HasGraph t g sites → (values : List Polyhedron) (states : List Invariant)
-    (points : List PointReport) (names : List (List ℕ)) (labels : List Labelled) → AreWide polyhedron_meaning sites values
-    → AreShown polyhedron_meaning Poly shown_polyhedron values → states ≡ map shown_polyhedron values → names ≡ globals_named t.parts
+    (points : List PointReport) (names : List (List ℕ)) (labels : List Labelled) → AreWide polyhedron_abstraction sites values
+    → AreShown polyhedron_abstraction Poly shown_polyhedron values → states ≡ map shown_polyhedron values → names ≡ globals_named t.parts
     → labels ≡ labels_of t → AreListed names labels 1 sites points → map state_of points ≡ states → ShowsAtPoints t values points
 shows_points t g sites has values states points names labels wide shown are named labelled listed same = record {
-  wide = subst (λ (T : List Site). AreWide polyhedron_meaning T values) has.points wide;
+  wide = subst (λ (T : List Site). AreWide polyhedron_abstraction T values) has.points wide;
   listed = subst (λ (ns : List (List ℕ)). AreListed ns (labels_of t) 1 (sites_of (resolve t)) points) named
       (subst (λ (ls : List Labelled). AreListed names ls 1 (sites_of (resolve t)) points) labelled
       (subst (λ (T : List Site). AreListed names labels 1 T points) has.points listed));

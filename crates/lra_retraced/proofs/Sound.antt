@@ -10,9 +10,9 @@ use Rattle.lra_operations.specs.Agree.{point_of}
 use Rattle.lra_report.specs.BackText.{BackReport}
 use Rattle.lra_report.specs.Report.{Holds, Invariant}
 use Rattle.lra_certificate.specs.Claims.{program_of}
-use Rattle.lra_polydom.specs.Laws.{polyhedron_laws}
-use Rattle.lra_polydom.specs.Meaning.{polyhedron_meaning}
-use Rattle.lra_polydom.specs.Retracing.{polyhedron_retracing}
+use Rattle.lra_poly_domain.specs.Laws.{polyhedron_laws}
+use Rattle.lra_poly_domain.specs.Abstraction.{polyhedron_abstraction}
+use Rattle.lra_poly_domain.specs.Backward.{polyhedron_backward}
 use Rattle.lra_states.specs.Polyhedra.{shown_polyhedron}
 use Rattle.lra_source.proofs.Handing.{contained}
 use Rattle.lra_source.proofs.Sound.{held_there, listed_all}
@@ -27,16 +27,16 @@ use Rattle.lra_retraced.proofs.Showing.{value_shown}
 
 module _ (source : List ℕ) (p : ℕ) (r : BackReport) (x : IsBackOf source p r) where
   -- whenever a run is at a point, its store is one of the forward value there
-  forward_holds : HoldsAtPoints polyhedron_meaning (program_of x.program) x.found.forward
+  forward_holds : HoldsAtPoints polyhedron_abstraction (program_of x.program) x.found.forward
   forward_holds q s store site at =
       let solved = x.found.ahead.solved in
-      let held = held_there _ _ polyhedron_meaning polyhedron_laws (forward_plan x.constants) (program_of x.program) x.program.graph.well.globals
+      let held = held_there _ _ polyhedron_abstraction polyhedron_laws (forward_plan x.constants) (program_of x.program) x.program.graph.well.globals
       x.program.operations solved.result solved.derived x.program.graph.agrees x.found.forward x.found.ahead.verdicts x.found.ahead.behind solved.solves q s
       store site at in
       (held.0, held.1, held.2)
 
-  found : HoldWhereRunsFail polyhedron_meaning (program_of x.program) x.program.operations p x.values
-  found = traced_sound polyhedron_meaning polyhedron_retracing polyhedron_laws (program_of x.program) x.program.operations x.found.forward x.values
+  found : HoldWhereRunsFail polyhedron_abstraction (program_of x.program) x.program.operations p x.values
+  found = traced_sound polyhedron_abstraction polyhedron_backward polyhedron_laws (program_of x.program) x.program.operations x.found.forward x.values
       x.found.flagged x.last p x.program.graph.well x.program.graph.is_graph
       (paths_at x.program.tree x.program.operations x.program.sites x.program.graph)
       (wide_at x.program.tree x.program.operations x.program.sites x.program.graph x.constants x.found.forward x.found.ahead.verdicts x.found.ahead.behind
@@ -73,9 +73,9 @@ proved_at_first source p r x =
       is_first = first.1;
       exactly = λ y there.
           let (v, value, state) = value_shown x.values r.points first.0 y x.shows.states there in
-          let left = nothing_left polyhedron_meaning (program_of x.program) x.program.operations first.0 x.values v first.1 value in
+          let left = nothing_left polyhedron_abstraction (program_of x.program) x.program.operations first.0 x.values v first.1 value in
           let many = (x.shows.are_shown v (contained x.values first.0 v value)).as_many in (
-            λ proved. sym state ∙ none_beside (shown_polyhedron v) (polyhedron_meaning.parts v) many (left.0 (x.found.proved.0 proved)),
-            λ none. x.found.proved.1 (left.1 (none_beside (polyhedron_meaning.parts v) (shown_polyhedron v) (sym many) (state ∙ none))),
+            λ proved. sym state ∙ none_beside (shown_polyhedron v) (polyhedron_abstraction.parts v) many (left.0 (x.found.proved.0 proved)),
+            λ none. x.found.proved.1 (left.1 (none_beside (polyhedron_abstraction.parts v) (shown_polyhedron v) (sym many) (state ∙ none))),
           );
     }

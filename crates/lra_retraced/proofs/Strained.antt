@@ -10,8 +10,8 @@ use Rattle.lra_flow.specs.Analysis.{Solves}
 use Rattle.lra_flow.specs.Judging.{Finding, first_flagged}
 use Rattle.lra_flow.specs.Operations as iteration
 use Rattle.lra_certificate.specs.Claims.{program_of}
-use Rattle.lra_polydom.specs.Meaning.{polyhedron_meaning}
-use Rattle.lra_polydom.specs.Retracing.{polyhedron_retracing}
+use Rattle.lra_poly_domain.specs.Abstraction.{polyhedron_abstraction}
+use Rattle.lra_poly_domain.specs.Backward.{polyhedron_backward}
 use Rattle.lra_source.proofs.Found.{none_before}
 use Rattle.lra_back.specs.Operations.{defined, dropping, straining}
 use Rattle.lra_back.specs.Traced.{Backs}
@@ -39,16 +39,16 @@ module _ (source : List ℕ) (p : ℕ) (r : BackReport) (x : IsBackOf source p r
     result = x.found.ahead.solved.result;
     written = x.found.ahead.solved.written none;
     verdicts = x.found.ahead.verdicts;
-    solves = subst (λ (f : Option ℕ). Solves polyhedron_meaning x.found.ahead.solved.result x.found.forward x.found.ahead.verdicts f) none
+    solves = subst (λ (f : Option ℕ). Solves polyhedron_abstraction x.found.ahead.solved.result x.found.forward x.found.ahead.verdicts f) none
         x.found.ahead.solved.solves;
   }
 
   none_behind : x.found.flagged ≡ None → x.found.ahead.behind ≡ None
-  none_behind none = none_before (iteration.dropping polyhedron_meaning) (OpInside polyhedron_meaning (iteration.dropping polyhedron_meaning))
+  none_behind none = none_before (iteration.dropping polyhedron_abstraction) (OpInside polyhedron_abstraction (iteration.dropping polyhedron_abstraction))
       (accessed_in None x.program.operations) x.found.forward x.found.ahead.behind x.found.ahead.inside x.found.flagged x.found.ahead.accessed none
 
   none_forward : x.last ≡ None → x.found.flagged ≡ None
-  none_forward = none_first (dropping polyhedron_meaning polyhedron_retracing) (program_of x.program).globals (sites_of (program_of x.program))
+  none_forward = none_first (dropping polyhedron_abstraction polyhedron_backward) (program_of x.program).globals (sites_of (program_of x.program))
       x.program.operations x.found.forward x.found.flagged p x.values x.last x.found.traced.drops
 
   pub is_defined : r.flagged ≡ None → IsDefinedBack x.constants (program_of x.program) x.program.operations p r
@@ -59,16 +59,16 @@ module _ (source : List ℕ) (p : ℕ) (r : BackReport) (x : IsBackOf source p r
         forward = x.found.forward;
         written = written (none_behind first);
         values = x.values;
-        back = subst (λ (f : Option ℕ). Backs (defined polyhedron_meaning polyhedron_retracing) (program_of x.program).globals
+        back = subst (λ (f : Option ℕ). Backs (defined polyhedron_abstraction polyhedron_backward) (program_of x.program).globals
             (sites_of (program_of x.program)) x.program.operations x.found.forward f p x.values None) first
-            (subst (λ (f : Option ℕ). Backs (defined polyhedron_meaning polyhedron_retracing) (program_of x.program).globals
+            (subst (λ (f : Option ℕ). Backs (defined polyhedron_abstraction polyhedron_backward) (program_of x.program).globals
             (sites_of (program_of x.program)) x.program.operations x.found.forward x.found.flagged p x.values f) none (x.found.traced.written none));
         states = x.shows.states;
       }
 
   -- a flag of the forward analysis is the last one
   last_is : (k : ℕ) → x.found.flagged ≡ Some k → x.last ≡ Some k
-  last_is = first_stays (dropping polyhedron_meaning polyhedron_retracing) (program_of x.program).globals (sites_of (program_of x.program))
+  last_is = first_stays (dropping polyhedron_abstraction polyhedron_backward) (program_of x.program).globals (sites_of (program_of x.program))
       x.program.operations x.found.forward x.found.flagged p x.values x.last x.found.traced.drops
 
   behind_is : (k : ℕ) → x.found.ahead.behind ≡ Some k → x.found.flagged ≡ Some k
@@ -95,9 +95,9 @@ module _ (source : List ℕ) (p : ℕ) (r : BackReport) (x : IsBackOf source p r
         forward = x.found.forward;
         written = written none;
         values = x.values;
-        back = subst (λ (f : Option ℕ). Backs (straining polyhedron_meaning polyhedron_retracing) (program_of x.program).globals
+        back = subst (λ (f : Option ℕ). Backs (straining polyhedron_abstraction polyhedron_backward) (program_of x.program).globals
             (sites_of (program_of x.program)) x.program.operations x.found.forward f p x.values (Some q)) no_flag
-            (subst (λ (f : Option ℕ). Backs (straining polyhedron_meaning polyhedron_retracing) (program_of x.program).globals
+            (subst (λ (f : Option ℕ). Backs (straining polyhedron_abstraction polyhedron_backward) (program_of x.program).globals
             (sites_of (program_of x.program)) x.program.operations x.found.forward x.found.flagged p x.values f) at x.found.traced.strained);
       }))
 

@@ -10,7 +10,7 @@ use Rattle.lra_flow.specs.Accesses.{JudgesAccesses}
 use Rattle.lra_flow.specs.Operations.{defined, dropping, straining}
 use Rattle.lra_flow.specs.Plan.{Plan, plan_of}
 use Rattle.lra_iter.specs.Solved.{IsSolved}
-use Rattle.lra_polydom.specs.Meaning.{polyhedron_meaning}
+use Rattle.lra_poly_domain.specs.Abstraction.{polyhedron_abstraction}
 
 -- of a program with these constants
 abbrev pub forward_plan : List ℤ → Plan
@@ -23,10 +23,10 @@ pub record IsForward (constants : List ℤ) (P : Program) (g : Node) (values : L
     : Type 0 where
   pub verdicts : List (ℕ × Bool)
   pub behind : Option ℕ
-  pub solved : IsSolved polyhedron_meaning (forward_plan constants) P g values verdicts behind
+  pub solved : IsSolved polyhedron_abstraction (forward_plan constants) P g values verdicts behind
   pub inside : List (ℕ × List (Place × Bool))
-  pub accessed : JudgesAccesses polyhedron_meaning (dropping polyhedron_meaning) g values behind inside flagged
+  pub accessed : JudgesAccesses polyhedron_abstraction (dropping polyhedron_abstraction) g values behind inside flagged
   pub accessed_written : flagged ≡ None →
-      JudgesAccesses polyhedron_meaning (defined polyhedron_meaning) g values None inside None
+      JudgesAccesses polyhedron_abstraction (defined polyhedron_abstraction) g values None inside None
   pub accessed_strained : (q : ℕ) → behind ≡ None → flagged ≡ Some q →
-      JudgesAccesses polyhedron_meaning (straining polyhedron_meaning) g values None inside (Some q)
+      JudgesAccesses polyhedron_abstraction (straining polyhedron_abstraction) g values None inside (Some q)

@@ -31,8 +31,8 @@ use Rattle.lra_flow.specs.Operations as iteration
 use Rattle.lra_flow.specs.Pass.{Result}
 use Rattle.lra_paths.specs.Paths.{AreFewPaths, HasTooMany}
 use Rattle.lra_certificate.specs.Claims.{IsProgram, program_of}
-use Rattle.lra_polydom.specs.Meaning.{polyhedron_meaning}
-use Rattle.lra_polydom.specs.Retracing.{polyhedron_retracing}
+use Rattle.lra_poly_domain.specs.Abstraction.{polyhedron_abstraction}
+use Rattle.lra_poly_domain.specs.Backward.{polyhedron_backward}
 use Rattle.lra_back.specs.Operations.{defined, straining}
 use Rattle.lra_back.specs.Traced.{AreWide, Backs, FailsFrom, IsAssertion, IsTraced, NothingLeftAtStart}
 use Rattle.lra_failing.specs.Fitting.{IsFirst}
@@ -45,10 +45,10 @@ use Rattle.lra_retraced.specs.Forward.{IsForward, forward_plan}
 -- all points of a source with this tree are listed, each with the state that shows the value there, which has a
 -- dimension for each variable that lives there
 pub record ShowsAtPoints (t : FileTree) (values : List Polyhedron) (points : List PointReport) : Type 0 where
-  pub wide : AreWide polyhedron_meaning (sites_of (resolve t)) values
+  pub wide : AreWide polyhedron_abstraction (sites_of (resolve t)) values
   pub listed : AreListed (globals_named t.parts) (labels_of t) 1 (sites_of (resolve t)) points
   pub states : map (λ (x : PointReport). x.state) points ≡ map shown_polyhedron values
-  pub are_shown : AreShown polyhedron_meaning Poly shown_polyhedron values
+  pub are_shown : AreShown polyhedron_abstraction Poly shown_polyhedron values
 
 -- The point is an assertion of a program with few paths; what the forward analysis finds is gone back over from there,
 -- behind its flags. Proved the assertion is exactly where nothing is left at the points to which paths from the start
@@ -60,8 +60,9 @@ pub record IsRetraced (constants : List ℤ) (P : Program) (g : Node) (p : ℕ) 
   pub forward : List Polyhedron
   pub flagged : Option ℕ
   pub ahead : IsForward constants P g forward flagged
-  pub traced : IsTraced polyhedron_meaning polyhedron_retracing P.globals (sites_of P) g forward flagged p values last
-  pub proved : (holds ≡ true) ↔ NothingLeftAtStart polyhedron_meaning P.globals (sites_of P) g values
+  pub traced : IsTraced polyhedron_abstraction polyhedron_backward P.globals (sites_of P) g forward flagged p values
+      last
+  pub proved : (holds ≡ true) ↔ NothingLeftAtStart polyhedron_abstraction P.globals (sites_of P) g values
 
 -- and so it is told of a source
 pub record IsBackOf (source : List ℕ) (p : ℕ) (r : BackReport) : Type 0 where
@@ -96,16 +97,17 @@ pub record IsProvedAtFirst (P : Program) (g : Node) (r : BackReport) : Type 0 wh
 -- the values of the written iteration, in which nothing strains
 pub record IsWrittenForward (constants : List ℤ) (P : Program) (g : Node) (forward : List Polyhedron) : Type 0 where
   pub result : Result Polyhedron
-  pub written : Written polyhedron_meaning (forward_plan constants) P g result
+  pub written : Written polyhedron_abstraction (forward_plan constants) P g result
   pub verdicts : List (ℕ × Bool)
-  pub solves : Solves polyhedron_meaning result forward verdicts None
+  pub solves : Solves polyhedron_abstraction result forward verdicts None
 
 -- without a flag what is shown is what is defined, over the values of the written iteration
 pub record IsDefinedBack (constants : List ℤ) (P : Program) (g : Node) (p : ℕ) (r : BackReport) : Type 0 where
   pub forward : List Polyhedron
   pub written : IsWrittenForward constants P g forward
   pub values : List Polyhedron
-  pub back : Backs (defined polyhedron_meaning polyhedron_retracing) P.globals (sites_of P) g forward None p values None
+  pub back : Backs (defined polyhedron_abstraction polyhedron_backward) P.globals (sites_of P) g forward None p values
+      None
   pub states : map (λ (x : PointReport). x.state) r.points ≡ map shown_polyhedron values
 
 -- an access of an array that is judged by these values strains at the point q
@@ -113,20 +115,21 @@ pub record StrainsInAccess (constants : List ℤ) (P : Program) (g : Node) (q : 
   pub forward : List Polyhedron
   pub written : IsWrittenForward constants P g forward
   pub inside : List (ℕ × List (Place × Bool))
-  pub judged : JudgesAccesses polyhedron_meaning (iteration.straining polyhedron_meaning) g forward None inside (Some q)
+  pub judged : JudgesAccesses polyhedron_abstraction (iteration.straining polyhedron_abstraction) g forward None inside
+      (Some q)
 
 -- and so does an operation with which these are gone back over
 pub record StrainsBack (constants : List ℤ) (P : Program) (g : Node) (p q : ℕ) : Type 0 where
   pub forward : List Polyhedron
   pub written : IsWrittenForward constants P g forward
   pub values : List Polyhedron
-  pub back : Backs (straining polyhedron_meaning polyhedron_retracing) P.globals (sites_of P) g forward None p values
+  pub back : Backs (straining polyhedron_abstraction polyhedron_backward) P.globals (sites_of P) g forward None p values
       (Some q)
 
 -- an operation of the point q strains, and all before it is exact: of the written iteration, of what is judged of
 -- accesses behind it, or of going back behind these
 abbrev pub StrainsAt : List ℤ → Program → Node → ℕ → ℕ → Type 0
-StrainsAt constants P g p q = Strains polyhedron_meaning (forward_plan constants) P g q ⊎
+StrainsAt constants P g p q = Strains polyhedron_abstraction (forward_plan constants) P g q ⊎
     (StrainsInAccess constants P g q ⊎ StrainsBack constants P g p q)
 
 -- rows and generators of each state tell the same points

@@ -8,7 +8,7 @@ ghost use Rattle.lra_program.specs.ProgramViews.{program_view};
 ghost use Rattle.lra_operations.specs.GraphViews.{node_view, site_view};
 ghost use Rattle.lra_front.specs.Stages.{HasGraph};
 ghost use Rattle.lra_iter.specs.Solved.{IsSolved};
-ghost use Rattle.lra_polydom.specs.Meaning.{polyhedron_meaning};
+ghost use Rattle.lra_poly_domain.specs.Abstraction.{polyhedron_abstraction};
 ghost use Rattle.lra_report.specs.View.{back_report_of, point_report_of};
 ghost use Rattle.lra_back.specs.Traced.{AreWide};
 ghost use Rattle.lra_retraced.specs.Forward.{IsForward, forward_plan};
@@ -22,7 +22,7 @@ use lra_inside::judge_accesses;
 use lra_iter::{Plan, Solution};
 use lra_listing::{list_points, names_of_globals, number_of};
 use lra_options::default_options;
-use lra_polydom::Polyhedron;
+use lra_poly_domain::Polyhedron;
 use lra_report::{BackReport, PointReport};
 use lra_source::solve_front;
 use lra_states::states_of;
@@ -41,7 +41,7 @@ fn solve(alloc: Global, front: &Front) -> Result<Solution<Polyhedron>, AllocErro
         (map site_view front.now.graph.sites.items) }
     requires program { program_view front.now.resolution.program ≡
         resolve (tree_view front.now.tree) }
-    ensures { IfOk result (λ s. IsSolved polyhedron_meaning
+    ensures { IfOk result (λ s. IsSolved polyhedron_abstraction
         (forward_plan front.now.constants.items) (resolve (tree_view front.now.tree))
         (node_view front.now.graph.tree) s.values.items s.verdicts.items s.flagged) }
 {
@@ -59,7 +59,7 @@ fn look_forward(alloc: Global, front: &Front) -> Result<Forward, AllocError>
     ensures forward { IfOk result (λ f. IsForward front.now.constants.items
         (resolve (tree_view front.now.tree)) (node_view front.now.graph.tree) f.values.items
         f.flagged) }
-    ensures wide { IfOk result (λ f. AreWide polyhedron_meaning
+    ensures wide { IfOk result (λ f. AreWide polyhedron_abstraction
         (map site_view front.now.graph.sites.items) f.values.items) }
     ensures flag { IfOk result (λ f. (q : ℕ) → f.flagged ≡ Some q →
         q < length front.now.graph.sites.items) }
@@ -86,7 +86,7 @@ fn retrace(alloc: Global, front: &Front, point: usize) -> Result<Backs<Polyhedro
     ensures found { IfOk result (λ b. IsRetraced front.now.constants.items
         (resolve (tree_view front.now.tree)) (node_view front.now.graph.tree) point b.values.items
         b.flagged b.is_proved) }
-    ensures wide { IfOk result (λ b. AreWide polyhedron_meaning
+    ensures wide { IfOk result (λ b. AreWide polyhedron_abstraction
         (map site_view front.now.graph.sites.items) b.values.items) }
     ensures flag { IfOk result (λ b. (q : ℕ) → b.flagged ≡ Some q →
         q < length front.now.graph.sites.items) }
@@ -114,7 +114,7 @@ fn list_states(
     requires graph { HasGraph (tree_view front.now.tree) (node_view front.now.graph.tree)
         (map site_view front.now.graph.sites.items) }
     requires labels { front.now.resolution.labels.labels ≡ labels_of (tree_view front.now.tree) }
-    requires wide { AreWide polyhedron_meaning (map site_view front.now.graph.sites.items)
+    requires wide { AreWide polyhedron_abstraction (map site_view front.now.graph.sites.items)
         values.now }
     ensures { IfOk result (λ points. ShowsAtPoints (tree_view front.now.tree) values.now
         (map point_report_of points.items)) }

@@ -8,7 +8,7 @@ use Rattle.lra_domain.specs.Laws.{SingleLaws, BaseLaws}
 use Rattle.lra_box.specs.Laws.{box_single, box_base}
 use Rattle.lra_octagon.specs.Single.{octagon_single}
 use Rattle.lra_octagon.specs.Laws.{octagon_base}
-use Rattle.lra_polydom.specs.Laws.{polyhedron_single, polyhedron_plain}
+use Rattle.lra_poly_domain.specs.Laws.{polyhedron_single, polyhedron_base}
 use Rattle.lra_powerset.specs.Content.{SetContent, SetHead}
 use Rattle.lra_powerset.specs.Abstraction.{set_abstraction}
 use Rattle.lra_powerset.specs.Single.{set_single}
@@ -255,7 +255,7 @@ module _ (a b : Saying) (X : Type 0) (follows : (V H : Type 0) (m : Abstraction 
   by_number (suc (suc n)) V H m shown l p h k = follows (SetContent V) (SetHead V H) (set_abstraction m) (shown_set shown) (set_single m l p) h k
 
   by_domain : (d : Domain) (n : ℕ) → OverDomain d (AloneOrSets n a) → OverDomain d (AloneOrSets n b) → X
-  by_domain Poly n h k = by_number n _ _ _ _ polyhedron_single polyhedron_plain h k
+  by_domain Poly n h k = by_number n _ _ _ _ polyhedron_single polyhedron_base h k
   by_domain Box n h k = by_number n _ _ _ _ box_single box_base h k
   by_domain Oct n h k = by_number n _ _ _ _ octagon_single octagon_base h k
 

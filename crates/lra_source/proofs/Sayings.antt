@@ -9,7 +9,7 @@ use Rattle.lra_meaning.specs.Resolve.{resolve}
 use Rattle.lra_program.specs.Program.{Program}
 use Rattle.lra_box.specs.Abstraction.{box_abstraction}
 use Rattle.lra_octagon.specs.Abstraction.{octagon_abstraction}
-use Rattle.lra_polydom.specs.Meaning.{polyhedron_meaning}
+use Rattle.lra_poly_domain.specs.Abstraction.{polyhedron_abstraction}
 use Rattle.lra_states.specs.Polyhedra.{shown_polyhedron}
 use Rattle.lra_states.specs.Shown.{shown_state}
 use Rattle.lra_powerset.specs.Content.{SetContent, SetHead}
@@ -52,7 +52,7 @@ module _ (X : Type 0) where
   same_number (suc (suc n)) V H m shown h = h
 
   same_domain : (d : Domain) (n : ℕ) → OverDomain d (AloneOrSets n (λ V H m shown. X)) → X
-  same_domain Poly n h = same_number n _ _ polyhedron_meaning shown_polyhedron h
+  same_domain Poly n h = same_number n _ _ polyhedron_abstraction shown_polyhedron h
   same_domain Box n h = same_number n _ _ box_abstraction (shown_state box_abstraction) h
   same_domain Oct n h = same_number n _ _ octagon_abstraction (shown_state octagon_abstraction) h
 

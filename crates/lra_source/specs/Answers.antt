@@ -13,7 +13,7 @@ use Rattle.lra_report.specs.Spelled.{IsReadable}
 use Rattle.lra_domain.specs.Abstraction.{Abstraction}
 use Rattle.lra_box.specs.Abstraction.{box_abstraction}
 use Rattle.lra_octagon.specs.Abstraction.{octagon_abstraction}
-use Rattle.lra_polydom.specs.Meaning.{polyhedron_meaning}
+use Rattle.lra_poly_domain.specs.Abstraction.{polyhedron_abstraction}
 use Rattle.lra_powerset.specs.Content.{SetContent, SetHead}
 use Rattle.lra_powerset.specs.Abstraction.{set_abstraction}
 use Rattle.lra_states.specs.Polyhedra.{shown_polyhedron}
@@ -50,7 +50,7 @@ AloneOrSets n say V H m shown = say V H m shown
 
 -- it is said of this domain
 abbrev pub OverDomain : Domain → Saying → Type 0
-OverDomain Poly say = say _ _ polyhedron_meaning shown_polyhedron
+OverDomain Poly say = say _ _ polyhedron_abstraction shown_polyhedron
 OverDomain Box say = say _ _ box_abstraction (shown_state box_abstraction)
 OverDomain Oct say = say _ _ octagon_abstraction (shown_state octagon_abstraction)
 

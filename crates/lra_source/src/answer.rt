@@ -23,7 +23,7 @@ use lra_front::{Front, read_source};
 use lra_iter::Plan;
 use lra_octagon::Octagon;
 use lra_options::{Domain, Options};
-use lra_polydom::Polyhedron;
+use lra_poly_domain::Polyhedron;
 use lra_powerset::PowerSet;
 use lra_report::Report;
 use lra_states::Show;

@@ -12,9 +12,9 @@ use Rattle.lra_linear_spec.proofs.Membership.{contains_head}
 use Rattle.lra_linear_spec.proofs.OneSpelling.{falsity_never}
 use Rattle.lra_linear_spec.specs.declared.GenKind.{GenKind}
 use Rattle.lra_systems.specs.LinearSystems.{LinearSystem, constraints, generators}
-use Rattle.lra_polydom.specs.Content.{is_absurd, listed, polyhedron_parts}
-use Rattle.lra_polydom.specs.Covering.{empty_parts, parts_empty}
-use Rattle.lra_polydom.specs.Meaning.{polyhedron_meaning}
+use Rattle.lra_poly_domain.specs.Content.{is_absurd, listed, polyhedron_parts}
+use Rattle.lra_poly_domain.specs.Covering.{empty_parts, parts_empty}
+use Rattle.lra_poly_domain.specs.Abstraction.{polyhedron_abstraction}
 use Rattle.lra_show.specs.Part.{Part}
 use Rattle.lra_report.specs.Report.{Invariant}
 use Rattle.lra_states.specs.Shown.{IsShown}
@@ -49,7 +49,8 @@ as_many p (inr h) =
     ap length (one_part p h (part_of p))
     ∙ kept (list_any is_absurd p.rows) (listed p) (λ e. not_empty p h (parts_empty p p.dims (ap (λ (b : Bool). cond b [] (listed p ∷ [])) e)))
 
-shown_so : (p : Polyhedron) → IsPolyhedron p → (state : Invariant) → state ≡ shown_polyhedron p → TellsPolyhedron p state → IsShown polyhedron_meaning Poly p
+shown_so : (p : Polyhedron) → IsPolyhedron p → (state : Invariant) → state ≡ shown_polyhedron p → TellsPolyhedron p state →
+    IsShown polyhedron_abstraction Poly p
     state
 shown_so p is state e t = record {
   as_many = ap length e ∙ as_many p is;
@@ -65,7 +66,7 @@ module _ {E : Type 0} (p q : Polyhedron) (same : q ≡ p) where
   state_is (Err e) is = tt
 
   pub state_told : IsPolyhedron p → (x : Result (Vec Part Global) E) → IfOk x (λ s. s.items ≡ shown_polyhedron q) → IfOk x (λ s. TellsPolyhedron q s.items)
-      → IfOk x (λ s. IsShown polyhedron_meaning Poly p s.items)
+      → IfOk x (λ s. IsShown polyhedron_abstraction Poly p s.items)
   state_told canonical (Ok s) is t = shown_so p canonical s.items (is ∙ ap shown_polyhedron same) (subst (λ (r : Polyhedron). TellsPolyhedron r s.items) same t)
   state_told canonical (Err e) is t = tt
 

@@ -22,7 +22,7 @@ use Rattle.lra_linear_spec.proofs.Polyhedra.{con_gen, cone_gen, generators_are_g
 use Rattle.lra_linear_spec.specs.declared.GenKind.{GenKind}
 use Rattle.lra_linear_spec.specs.declared.GenKind.TheVariants.{Point, Ray, Line}
 use Rattle.lra_systems.specs.LinearSystems.{LinearSystem, rows_by_kind, constraints, generators, FitsKind, FitKinds}
-use Rattle.lra_polydom.proofs.PartLemmas.{kind_back}
+use Rattle.lra_poly_domain.proofs.PartLemmas.{kind_back}
 use Rattle.lra_show.specs.Rows.{Row, RowHolds}
 use Rattle.lra_show.specs.Shown.{report_row, report_generator}
 use Rattle.lra_show.specs.ShownDescriptions.{generator_kind, shown_constraint, shown_generator}

@@ -11,7 +11,7 @@ ghost use Rattle.lra_states.specs.Canonical.{IsCanonicalState};
 ghost use Rattle.lra_states.specs.Polyhedra.{shown_polyhedron, TellsPolyhedron, polyhedron_of};
 
 use crate::show::Show;
-use lra_polydom::Polyhedron;
+use lra_poly_domain::Polyhedron;
 use lra_report::Part;
 use lra_systems::{ConSys, GenSys};
 use std::alloc::{AllocError, Global};

@@ -7,7 +7,7 @@ use lra_box::Boxes;
 use lra_domain::{Change, Domain, change_all};
 use lra_linear_forms::LinExpr;
 use lra_poly::Poly;
-use lra_polydom::Polyhedron;
+use lra_poly_domain::Polyhedron;
 use lra_row::Row;
 use lra_systems::{ConKind, ConSys, GenKind, GenSys};
 use std::alloc::{AllocError, Global};

@@ -2,9 +2,9 @@
 
 use crate::shapes::{Constraint, Unfit, list_of, set_of, shows};
 use lra_poly::Poly;
+use lra_poly_widening::{WidenError, limited, rank, standard};
 use lra_row::Row;
 use lra_systems::{ConKind, ConSys};
-use lra_widen::{WidenError, limited, rank, standard};
 use std::alloc::{AllocError, Global};
 use std::process::Abort;
 

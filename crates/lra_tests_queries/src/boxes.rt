@@ -6,8 +6,8 @@ use crate::shapes::{Constraint, FAR, NOWHERE, RIGHT, Unfit, set_of};
 use lra_box::Boxes;
 use lra_domain::Domain;
 use lra_linear_forms::{LinExpr, Test};
+use lra_poly_queries::{Extent, Fraction, least_box, polyhedra_of};
 use lra_powerset::PowerSet;
-use lra_queries::{Extent, Fraction, least_box, polyhedra_of};
 use lra_systems::ConKind;
 use std::alloc::{AllocError, Global};
 

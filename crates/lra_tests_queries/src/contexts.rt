@@ -1,7 +1,7 @@
 //! Constraints without those that a context gives.
 
 use crate::shapes::{Constraint, FAR, NONE, NOWHERE, RIGHT, RIGHT_OF_ONE, Unfit, list_of, set_of};
-use lra_queries::simplify;
+use lra_poly_queries::simplify;
 use lra_systems::{ConKind, ConSys, are_same};
 use std::alloc::Global;
 

@@ -2,7 +2,7 @@
 
 use crate::shapes::{Constraint, NOWHERE, RIGHT, RIGHT_OF_ONE, Unfit, list_of, set_of};
 use lra_poly::Poly;
-use lra_queries::{concatenate, expand, fold_dims, image_relation, map_dims, relate, tighten};
+use lra_poly_queries::{concatenate, expand, fold_dims, image_relation, map_dims, relate, tighten};
 use lra_row::Row;
 use lra_systems::{ConKind, GenKind, GenSys, are_same};
 use std::alloc::Global;

@@ -1,7 +1,7 @@
 //! How constraints stand to polyhedra.
 
 use crate::shapes::{Constraint, FAR, NONE, NOWHERE, RIGHT, RIGHT_OF_ONE, Unfit, row_of, set_of};
-use lra_queries::{Relation, relate};
+use lra_poly_queries::{Relation, relate};
 use lra_systems::ConKind;
 use std::alloc::Global;
 

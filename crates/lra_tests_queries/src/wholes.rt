@@ -1,7 +1,7 @@
 //! What polyhedra are as a whole.
 
 use crate::shapes::{Constraint, NONE, NOWHERE, RIGHT, RIGHT_OF_ONE, Unfit, set_of};
-use lra_queries::{dimension, is_bounded, is_universe, same};
+use lra_poly_queries::{dimension, is_bounded, is_universe, same};
 use lra_systems::ConKind;
 use std::alloc::Global;
 

@@ -8,7 +8,7 @@ use lra_domain::Domain;
 use lra_example_domain::ExampleDomain;
 use lra_linear_forms::LinExpr;
 use lra_octagon::Octagon;
-use lra_polydom::Polyhedron;
+use lra_poly_domain::Polyhedron;
 use lra_powerset::PowerSet;
 use std::alloc::{AllocError, Global};
 

@@ -4,7 +4,7 @@ ghost use Rattle.std.specs.Prelude.{◌≡◌, IfOk};
 
 use crate::boxes::{VALUE, answers_by, has_rows, head_by, keep_by, set_by, value_by};
 use lra_domain::{Domain, Exactness, Grown, Mode};
-use lra_polydom::{Polyhedron, PolyhedronHead};
+use lra_poly_domain::{Polyhedron, PolyhedronHead};
 use lra_row::Row;
 use lra_systems::{ConKind, ConSys};
 use std::alloc::{AllocError, Global};
@@ -129,7 +129,7 @@ fn grows(alloc: Global, head: &mut PolyhedronHead, turn: &Turn) -> Result<bool, 
     }
     let next = up_to(alloc, turn.most)?;
     let answer = <Polyhedron as Domain>::grow(head, &next, turn.mode)?;
-    let kept = head.given().rows().len();
+    let kept = head.thresholds().rows().len();
     let rows = are_rows(head.value().rows().rows(), turn.rows);
     Ok(answer == turn.answer && kept == turn.given && rows)
 }

@@ -6,9 +6,9 @@ use Rattle.lra_linear_spec.specs.Vectors.{negated}
 use Rattle.lra_systems.specs.LinearSystems.{constraints}
 use Rattle.lra_linear_spec.specs.declared.GenKind.{GenKind}
 use Rattle.lra_linear_spec.specs.declared.GenKind.TheVariants.{Point}
-use Rattle.lra_pair.proofs.ConstraintLists.{nothing_constrained, constrained}
+use Rattle.lra_description_pair.proofs.ConstraintLists.{nothing_constrained, constrained}
 use Rattle.lra_cone.specs.Cones.{whole_space}
-use Rattle.lra_pair.proofs.GeneratorPairs.{taken}
+use Rattle.lra_description_pair.proofs.GeneratorPairs.{taken}
 use Rattle.lra_conversions.proofs.conversions.constrain.Goals as goal
 
 subst_none : {xs ys : List GenKind} → xs ≡ ys → ¬ (Contains xs Point) → ¬ (Contains ys Point)

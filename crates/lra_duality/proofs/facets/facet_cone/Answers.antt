@@ -5,7 +5,7 @@ use Rattle.lra_linear_spec.specs.Descriptions.{LinearRow}
 use Rattle.lra_cone.specs.Cones.{ConeContent, cone_saturation as by_rays}
 use Rattle.lra_linear_spec.specs.Kinds.{is_equality, is_line}
 use Rattle.lra_systems.specs.LinearSystems.{constraints, generators}
-use Rattle.lra_duality.specs.Onward.{MayGoOn}
+use Rattle.lra_duality.specs.Incremental.{MayGoOn}
 use Rattle.lra_duality.proofs.FacetLemmas.{seen, taken_generators}
 use Rattle.lra_duality.proofs.StartLemmas.{given_count, no_room, not_fitting, not_turning, some_given}
 use Rattle.lra_duality.proofs.facets.facet_cone.Goals as goal

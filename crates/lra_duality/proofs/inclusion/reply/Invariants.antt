@@ -1,8 +1,8 @@
 use Rattle.std.specs.List.{All}
 use Rattle.lra_linear_spec.specs.Kinds.{is_equality}
-use Rattle.lra_duality.specs.Inclusions.{Meets}
+use Rattle.lra_duality.specs.Inclusions.{Satisfies}
 use Rattle.lra_systems.proofs.FirstMembers.{front}
 use Rattle.lra_duality.proofs.inclusion.reply.Given as goal
 
 abbrev pub invariant-loop-place : goal.invariant-loop-place
-invariant-loop-place l = All (Meets (record { row = l.generator; equal = l.line })) (front is_equality l.rows l.kinds l.place)
+invariant-loop-place l = All (Satisfies (record { row = l.generator; equal = l.line })) (front is_equality l.rows l.kinds l.place)

@@ -4,7 +4,7 @@ use Rattle.std.proofs.Common.{ℕ, subst}
 use Rattle.lra_linear_spec.specs.ConeStrain.{row_limit}
 use Rattle.lra_linear_spec.specs.Kinds.{is_line}
 use Rattle.lra_systems.specs.LinearSystems.{constraints, generators}
-use Rattle.lra_duality.specs.Onward.{MayGoOn}
+use Rattle.lra_duality.specs.Incremental.{MayGoOn}
 use Rattle.lra_duality.proofs.KeptCones.{start_cone}
 use Rattle.lra_duality.proofs.StartLemmas.{few_given, fitting, given_count, matrix_width, not_fitting, some_given, start_matrix}
 use Rattle.lra_duality.proofs.start.cone_of.Goals as goal

@@ -1,7 +1,7 @@
 -- Goals of `of_pair`: the polyhedron of the pair.
 use Rattle.std.proofs.Common.{subst, sym}
 use Rattle.lra_bits.specs.Matrix.{Matrix}
-use Rattle.lra_poly.proofs.FormedLemmas.{AreKept, taken_over}
+use Rattle.lra_poly.proofs.RepresentableLemmas.{AreKept, taken_over}
 use Rattle.lra_poly.proofs.poly.of_pair.Goals as goal
 
 pub invariant_of-result : goal.invariant_of-result

@@ -3,8 +3,8 @@ use Rattle.std.proofs.Common.{map}
 use Rattle.lra_tree.specs.Views.{tree_view}
 use Rattle.lra_operations.specs.GraphViews.{node_view, site_view}
 use Rattle.lra_inside.specs.Inside.{told_view}
-use Rattle.lra_polydom.specs.Laws.{polyhedron_laws}
-use Rattle.lra_polydom.specs.Meaning.{polyhedron_meaning}
+use Rattle.lra_poly_domain.specs.Laws.{polyhedron_laws}
+use Rattle.lra_poly_domain.specs.Abstraction.{polyhedron_abstraction}
 use Rattle.lra_source.proofs.ReportSteps.{accessed_handed, few_dims}
 use Rattle.lra_retraced.specs.Forward.{forward_plan}
 use Rattle.lra_retraced.proofs.Answered.{listed_number}
@@ -14,14 +14,14 @@ use Rattle.lra_retraced.proofs.retraced.look_forward.Goals as goal
 pub judge_accesses-requires-clause-few : goal.judge_accesses-requires-clause-few
 judge_accesses-requires-clause-few c =
     let solution = c.in_ok-solution.solution in
-    rw c.deref.ensures.value (few_dims polyhedron_meaning (tree_view c.args.front.now.tree) (node_view c.args.front.now.graph.tree)
+    rw c.deref.ensures.value (few_dims polyhedron_abstraction (tree_view c.args.front.now.tree) (node_view c.args.front.now.graph.tree)
     (map site_view c.args.front.now.graph.sites.items) c.requires.graph (forward_plan c.args.front.now.constants.items) solution.values.items
     solution.verdicts.items solution.flagged c.in_ok-solution.ensures polyhedron_laws)
 
 pub judge_accesses-requires-clause-below : goal.judge_accesses-requires-clause-below
 judge_accesses-requires-clause-below c =
     let solution = c.in_ok-solution.solution in
-    rw c.deref.ensures.value (accessed_handed polyhedron_meaning (tree_view c.args.front.now.tree) (node_view c.args.front.now.graph.tree)
+    rw c.deref.ensures.value (accessed_handed polyhedron_abstraction (tree_view c.args.front.now.tree) (node_view c.args.front.now.graph.tree)
     (map site_view c.args.front.now.graph.sites.items) c.requires.graph (forward_plan c.args.front.now.constants.items) solution.values.items
     solution.verdicts.items solution.flagged c.in_ok-solution.ensures)
 

@@ -4,7 +4,7 @@ use Rattle.std.proofs.lemmas.Result.{IfOk-weaker}
 use Rattle.lra_options.specs.declared.options.Domain.TheVariants.{Poly, Box, Oct}
 use Rattle.lra_box.specs.Abstraction.{box_abstraction}
 use Rattle.lra_octagon.specs.Abstraction.{octagon_abstraction}
-use Rattle.lra_polydom.specs.Meaning.{polyhedron_meaning}
+use Rattle.lra_poly_domain.specs.Abstraction.{polyhedron_abstraction}
 use Rattle.lra_report.specs.View.{report_of}
 use Rattle.lra_states.specs.Polyhedra.{shown_polyhedron}
 use Rattle.lra_states.specs.Shown.{shown_state}
@@ -13,7 +13,7 @@ use Rattle.lra_source.proofs.answer.analyse_source.Goals as goal
 
 pub returns-in-Poly-clause-answered : goal.returns-in-Poly-clause-answered
 returns-in-Poly-clause-answered c =
-    IfOk-weaker c.analyse_parts.result _ _ (λ r. over_domain Poly c.args.options c.args.bytes.now polyhedron_meaning shown_polyhedron c.in-Poly.is (λ say h. h) (report_of r))
+    IfOk-weaker c.analyse_parts.result _ _ (λ r. over_domain Poly c.args.options c.args.bytes.now polyhedron_abstraction shown_polyhedron c.in-Poly.is (λ say h. h) (report_of r))
     c.analyse_parts.ensures.answered
 
 pub returns-in-Box-clause-answered : goal.returns-in-Box-clause-answered

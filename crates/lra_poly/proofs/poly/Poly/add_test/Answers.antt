@@ -3,7 +3,7 @@ use Rattle.std.proofs.Common.{◌≡◌, ◌++◌, ◌∷◌, [], List, ap, subs
 use Rattle.lra_linear_spec.specs.Descriptions.{LinearRow}
 use Rattle.lra_systems.specs.LinearSystems.{constraints}
 use Rattle.lra_duality.specs.Rows.{test_row}
-use Rattle.lra_poly.specs.Narrowed.{IsNarrowed, IsSeenWithin}
+use Rattle.lra_poly.specs.Restricted.{IsRestricted, IsSeenWithin}
 use Rattle.lra_poly.proofs.PolyLemmas.{test_becomes}
 use Rattle.lra_poly.proofs.poly.Poly.add_test.Goals as goal
 
@@ -19,4 +19,4 @@ pub returns-clause-met : goal.returns-clause-met
 returns-clause-met c = λ seen. c.in_ok-outcome.ensures.met (subst (IsSeenWithin c.args.self.now) (sym c.in_ok-row.ensures.rows) seen)
 
 pub returns-clause-kept : goal.returns-clause-kept
-returns-clause-kept c = subst (λ (l : List LinearRow). IsNarrowed c.args.self.now l c.add_rows.new.self c.in_ok-outcome.outcome) c.in_ok-row.ensures.rows c.in_ok-outcome.ensures.kept
+returns-clause-kept c = subst (λ (l : List LinearRow). IsRestricted c.args.self.now l c.add_rows.new.self c.in_ok-outcome.outcome) c.in_ok-row.ensures.rows c.in_ok-outcome.ensures.kept

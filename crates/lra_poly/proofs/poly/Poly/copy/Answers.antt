@@ -1,5 +1,5 @@
 -- Goals of `Poly::copy`: the same polyhedron again.
-use Rattle.lra_poly.proofs.FormedLemmas.{copied}
+use Rattle.lra_poly.proofs.RepresentableLemmas.{copied}
 use Rattle.lra_poly.proofs.poly.Poly.copy.Goals as goal
 
 pub invariant_of-result : goal.invariant_of-result

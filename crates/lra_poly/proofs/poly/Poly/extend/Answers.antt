@@ -6,7 +6,7 @@ use Rattle.lra_linear_spec.specs.Polyhedra.{IsPolyhedron, Polyhedron}
 use Rattle.lra_systems.specs.LinearSystems.{constraints, generators}
 use Rattle.lra_systems.proofs.Generators.{fitting_are_generators}
 use Rattle.lra_poly.proofs.PolyLemmas.{some_more}
-use Rattle.lra_pair.proofs.PairLosses.{if_none}
+use Rattle.lra_description_pair.proofs.PairLosses.{if_none}
 use Rattle.lra_poly.proofs.UnitedLists.{no_cone, strains_behind}
 use Rattle.lra_poly.proofs.poly.Poly.extend.Goals as goal
 

@@ -1,5 +1,5 @@
 -- Goals of `Poly::generators`: the points, rays and lines.
-use Rattle.lra_poly.proofs.FormedLemmas.{formed_lists}
+use Rattle.lra_poly.proofs.RepresentableLemmas.{formed_lists}
 use Rattle.lra_poly.proofs.poly.Poly.generators.Goals as goal
 
 pub returns-clause-formed : goal.returns-clause-formed

@@ -2,7 +2,7 @@
 use Rattle.std.proofs.Common.{◌≡◌, ◌++◌, List, ap, subst, sym}
 use Rattle.lra_linear_spec.specs.Descriptions.{LinearRow}
 use Rattle.lra_systems.specs.LinearSystems.{constraints}
-use Rattle.lra_poly.specs.Narrowed.{IsNarrowed, IsSeenWithin}
+use Rattle.lra_poly.specs.Restricted.{IsRestricted, IsSeenWithin}
 use Rattle.lra_poly.proofs.PolyLemmas.{meet_becomes}
 use Rattle.lra_poly.proofs.poly.Poly.meet.Goals as goal
 
@@ -18,4 +18,4 @@ pub returns-clause-met : goal.returns-clause-met
 returns-clause-met c = λ seen. c.in_ok-outcome.ensures.met (subst (IsSeenWithin c.args.self.now) (sym c.rows-rows.ensures.rows) seen)
 
 pub returns-clause-kept : goal.returns-clause-kept
-returns-clause-kept c = subst (λ (l : List LinearRow). IsNarrowed c.args.self.now l c.add_rows.new.self c.in_ok-outcome.outcome) c.rows-rows.ensures.rows c.in_ok-outcome.ensures.kept
+returns-clause-kept c = subst (λ (l : List LinearRow). IsRestricted c.args.self.now l c.add_rows.new.self c.in_ok-outcome.outcome) c.rows-rows.ensures.rows c.in_ok-outcome.ensures.kept

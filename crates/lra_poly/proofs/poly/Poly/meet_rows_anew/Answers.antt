@@ -4,7 +4,7 @@ use Rattle.lra_linear_spec.specs.Descriptions.{LinearRow}
 use Rattle.lra_linear_spec.specs.OperationStrain.{with_positivity}
 use Rattle.lra_linear_spec.specs.Polyhedra.{Polyhedron}
 use Rattle.lra_systems.specs.LinearSystems.{constraints}
-use Rattle.lra_poly.specs.Narrowed.{IsTried}
+use Rattle.lra_poly.specs.Restricted.{IsTried}
 use Rattle.lra_poly.proofs.poly.Poly.meet_rows_anew.Goals as goal
 
 pub returns : goal.returns

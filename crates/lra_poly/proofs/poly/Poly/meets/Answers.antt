@@ -4,7 +4,7 @@ use Rattle.lra_linear_spec.specs.Polyhedra.{Polyhedron}
 use Rattle.lra_systems.specs.LinearSystems.{constraints, generators}
 use Rattle.lra_duality.specs.declared.inclusion.Inclusion.TheVariants.{No, Wide}
 use Rattle.lra_duality.proofs.InclusionLemmas.{yes_within}
-use Rattle.lra_poly.specs.Narrowed.{IsSeenWithin}
+use Rattle.lra_poly.specs.Restricted.{IsSeenWithin}
 use Rattle.lra_poly.proofs.MetRows.{is_other, is_yes, no_is_not_yes, wide_is_not_yes}
 use Rattle.lra_poly.proofs.poly.Poly.meets.Goals as goal
 

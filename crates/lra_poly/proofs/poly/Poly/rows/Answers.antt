@@ -1,5 +1,5 @@
 -- Goals of `Poly::rows`: the constraints, in canonical order.
-use Rattle.lra_poly.proofs.FormedLemmas.{formed_lists}
+use Rattle.lra_poly.proofs.RepresentableLemmas.{formed_lists}
 use Rattle.lra_poly.proofs.poly.Poly.rows.Goals as goal
 
 pub returns-clause-formed : goal.returns-clause-formed

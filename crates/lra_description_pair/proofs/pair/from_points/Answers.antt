@@ -1,0 +1,46 @@
+-- Goals of `from_points`: the polyhedron of generators, some of them points, and what was lost.
+use Rattle.std.proofs.Common.{◌≡◌, ◌≢◌, arith, sym, subst, length, ℕ, []}
+use Rattle.std.specs.Vec.{vec_len}
+use Rattle.std.proofs.lemmas.Grind.{common_steps}
+use Rattle.std.proofs.lemmas.Result.{IfOk-weaker}
+use Rattle.lra_linear_spec.specs.Descriptions.{Gen}
+use Rattle.lra_linear_spec.specs.Points.{IsEmptySet}
+use Rattle.lra_systems.specs.LinearSystems.{generators}
+use Rattle.lra_description_pair.proofs.OwnRows.{none_of, some_of}
+use Rattle.lra_description_pair.proofs.GeneratorPairs.{all_taken, if_both, some_lost}
+use Rattle.lra_description_pair.proofs.pair.from_points.Goals as goal
+
+pub of_taken_generators-requires-clause-columns : goal.of_taken_generators-requires-clause-columns
+of_taken_generators-requires-clause-columns c =
+    let losses = c.in_ok-conversion.conversion.losses.items in
+    let same : length losses ≡ vec_len c.in_ok-conversion.conversion.losses = grind (arith, common_steps) in
+    let none : losses ≡ [] = none_of losses (vec_len c.in_ok-conversion.conversion.losses) c.is_empty.result same c.is_empty.ensures c.if-is_empty.true in
+    c.in_ok-conversion.ensures.columns none
+
+pub of_taken_generators-requires-clause-some : goal.of_taken_generators-requires-clause-some
+of_taken_generators-requires-clause-some c =
+    let cone = c.in_ok-conversion.conversion.cone in
+    let losses = c.in_ok-conversion.conversion.losses.items in
+    let same : length losses ≡ vec_len c.in_ok-conversion.conversion.losses = grind (arith, common_steps) in
+    let none : losses ≡ [] = none_of losses (vec_len c.in_ok-conversion.conversion.losses) c.is_empty.result same c.is_empty.ensures c.if-is_empty.true in
+    subst (λ (n : ℕ). ¬ (IsEmptySet n (Gen cone.taken))) (sym c.dims-n.ensures) (c.in_ok-conversion.ensures.some none)
+
+pub returns-then-is_empty : goal.returns-then-is_empty
+returns-then-is_empty c =
+    let cone = c.in_ok-conversion.conversion.cone in
+    let losses = c.in_ok-conversion.conversion.losses.items in
+    let same : length losses ≡ vec_len c.in_ok-conversion.conversion.losses = grind (arith, common_steps) in
+    let none : losses ≡ [] = none_of losses (vec_len c.in_ok-conversion.conversion.losses) c.is_empty.result same c.is_empty.ensures c.if-is_empty.true in
+    IfOk-weaker c.of_taken_generators.result _ _
+    (λ r h. all_taken c.args.given.now.dims c.dims-n.result (generators c.args.given.now) c.in_ok-conversion.list cone losses r.1.items r.0 c.in_ok-conversion.ensures none c.dims-n.ensures h)
+    c.of_taken_generators.ensures
+
+pub returns : goal.returns
+returns c =
+    let cone = c.in_ok-conversion.conversion.cone in
+    let losses = c.in_ok-conversion.conversion.losses.items in
+    let same : length losses ≡ vec_len c.in_ok-conversion.conversion.losses = grind (arith, common_steps) in
+    let lost : losses ≢ [] = some_of losses (vec_len c.in_ok-conversion.conversion.losses) c.is_empty.result same c.is_empty.ensures c.if-is_empty.false in
+    if_both c.enclose_points.result _ _ _
+    (λ r e h. some_lost c.args.given.now.dims (generators c.args.given.now) c.in_ok-conversion.list cone losses r.1.items r.0 c.in_ok-conversion.ensures lost e h)
+    c.enclose_points.ensures.losses c.enclose_points.ensures.first

@@ -1,9 +1,0 @@
-use Rattle.std.proofs.Common.{◌≡◌, map, suc, take}
-use Rattle.lra_lists.proofs.lists.shorten.Given as goal
-
-abbrev pub invariant-loop-place : goal.invariant-loop-place
-invariant-loop-place l = record {
-  dims : l.all.dims ≡ l.n;
-  rows : l.all.rows ≡ map (take (suc l.n)) (take l.place l.rows);
-  kinds : l.all.kinds ≡ take l.place l.kinds;
-}

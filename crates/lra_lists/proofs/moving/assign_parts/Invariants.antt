@@ -1,7 +1,0 @@
-use Rattle.lra_linear_spec.specs.SetOperations.{assigned}
-use Rattle.lra_linear_spec.specs.Kinds.{is_line}
-use Rattle.lra_lists.proofs.MovedLists.{ArePartsOf}
-use Rattle.lra_lists.proofs.moving.assign_parts.Given as goal
-
-abbrev pub invariant-loop-place : goal.invariant-loop-place
-invariant-loop-place l = ArePartsOf (assigned l.column l.form) is_line l.rows l.kinds l.place l.parts.lines.items l.parts.rays.items

@@ -1,7 +1,0 @@
-use Rattle.lra_linear_spec.specs.Kinds.{is_equality}
-use Rattle.lra_linear_spec.specs.Vectors.{substituted}
-use Rattle.lra_lists.proofs.MovedLists.{ArePartsOf}
-use Rattle.lra_lists.proofs.moving.substitute_parts.Given as goal
-
-abbrev pub invariant-loop-place : goal.invariant-loop-place
-invariant-loop-place l = ArePartsOf (substituted l.column l.form) is_equality l.rows l.kinds l.place l.parts.lines.items l.parts.rays.items

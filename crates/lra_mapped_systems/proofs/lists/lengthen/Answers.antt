@@ -1,0 +1,17 @@
+-- Goals of `lengthen`: the row with k zeros behind it.
+use Rattle.std.proofs.Common.{◌≡◌, ◌++◌, ◌∷◌, [], arith, pos, subst, sym}
+use Rattle.std.specs.List.{All}
+use Rattle.std.proofs.lemmas.List.Elements.{All-push}
+use Rattle.lra_linear_spec.specs.Range.{InRange}
+use Rattle.lra_mapped_systems.proofs.PushedLists.{zero_pushed}
+use Rattle.lra_mapped_systems.proofs.lists.lengthen.Goals as goal
+
+pub loop-preserved : goal.loop-preserved
+loop-preserved c =
+    let items = c.loop.numbers.items in
+    let more = c.push.new.self.items in
+    let e : more ≡ items ++ pos 0 ∷ [] = c.in_ok-push.ensures.items in
+    record {
+      items = zero_pushed c.args.row.now items more c.loop.counter c.loop.invariant.items e;
+      range = subst (All InRange) (sym e) (All-push InRange items (pos 0) c.loop.invariant.range (omega arith));
+    }

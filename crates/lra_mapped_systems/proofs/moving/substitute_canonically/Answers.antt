@@ -1,0 +1,55 @@
+-- Goals of `substitute_canonically`: the constraints with the form put in for the column, as a canonical list.
+use Rattle.std.proofs.Common.{◌+◌, arith, sym, ◌∙◌}
+use Rattle.std.proofs.lemmas.Result.{err_from_is_err_and}
+use Rattle.lra_linear_spec.specs.Kinds.{is_equality}
+use Rattle.lra_linear_spec.specs.Vectors.{substituted}
+use Rattle.lra_systems.specs.LinearSystems.{constraints}
+use Rattle.lra_mapped_systems.proofs.MovedLists.{KeepsWidth, lines_wide, rays_wide}
+use Rattle.lra_mapped_systems.proofs.TakenBack.{substituted_width}
+use Rattle.lra_mapped_systems.proofs.MovingLosses.{substitution_canonical, substitution_forms}
+use Rattle.lra_mapped_systems.proofs.moving.substitute_canonically.Goals as goal
+
+pub remake-requires-clause-lines : goal.remake-requires-clause-lines
+remake-requires-clause-lines c =
+    let k = c.args.column in
+    let form = c.args.form.now in
+    let list = c.args.list.now in
+    let seen = c.rows-rows.result.now in
+    let keeps : KeepsWidth (substituted k form) (c.dims-n.result + 1) list seen = record {
+      width = omega arith;
+      are = c.rows-rows.ensures.rows;
+      widths = c.rows-rows.ensures.widths;
+      keeps = λ r l. substituted_width k form r (l ∙ sym c.requires.width) ∙ l;
+    } in
+    lines_wide (substituted k form) is_equality (c.dims-n.result + 1) list seen c.in_ok-parts.parts.lines.items keeps
+    c.in_ok-parts.ensures.lines
+
+pub remake-requires-clause-rays : goal.remake-requires-clause-rays
+remake-requires-clause-rays c =
+    let k = c.args.column in
+    let form = c.args.form.now in
+    let list = c.args.list.now in
+    let seen = c.rows-rows.result.now in
+    let keeps : KeepsWidth (substituted k form) (c.dims-n.result + 1) list seen = record {
+      width = omega arith;
+      are = c.rows-rows.ensures.rows;
+      widths = c.rows-rows.ensures.widths;
+      keeps = λ r l. substituted_width k form r (l ∙ sym c.requires.width) ∙ l;
+    } in
+    rays_wide (substituted k form) is_equality (c.dims-n.result + 1) list seen c.in_ok-parts.parts.rays.items keeps
+    c.in_ok-parts.ensures.rays
+
+pub returns-in_err-parts-clause-excess : goal.returns-in_err-parts-clause-excess
+returns-in_err-parts-clause-excess c =
+    let p = err_from_is_err_and c.from_residual.result c.from_residual.ensures.1 in
+    let f = substitution_forms c.args.column c.args.form.now (constraints c.args.list.now) c.in_err-parts.field-0.0 c.in_err-parts.ensures.excess in
+    rw (p.1, p.2) f
+
+pub returns-in_err-own-clause-excess : goal.returns-in_err-own-clause-excess
+returns-in_err-own-clause-excess c =
+    let parts = c.in_ok-parts.parts in
+    let p = err_from_is_err_and c.from_residual-in_err-own.result c.from_residual-in_err-own.ensures.1 in
+    let f = substitution_canonical c.args.column c.args.form.now (constraints c.args.list.now) parts.lines.items parts.rays.items c.in_err-own.field-0.0 c.in_ok-parts.ensures.lines
+    c.in_ok-parts.ensures.rays
+    c.in_err-own.ensures.excess in
+    rw (p.1, p.2) f

@@ -1,5 +1,0 @@
-use Rattle.lra_pair.proofs.RowsReduced.{ArePartlyReduced}
-use Rattle.lra_pair.proofs.own.reduce_all.Given as goal
-
-abbrev pub invariant-loop-row : goal.invariant-loop-row
-invariant-loop-row l = ArePartlyReduced l.fn.width l.form l.fn.rows.items l.row-index l.row-items

@@ -1,5 +1,0 @@
--- Goals of `Pair::generators`: the points, rays and lines, in canonical order.
-use Rattle.lra_pair.proofs.pair.Pair.generators.Goals as goal
-
-pub returns-clause-limit : goal.returns-clause-limit
-returns-clause-limit c = rw (← c.self.view_is) c.self.invariant.3

@@ -1,5 +1,0 @@
--- Goals of `Pair::rows`: the constraints, in canonical order.
-use Rattle.lra_pair.proofs.pair.Pair.rows.Goals as goal
-
-pub returns-clause-limit : goal.returns-clause-limit
-returns-clause-limit c = rw (← c.self.view_is) c.self.invariant.3

@@ -1,0 +1,10 @@
+-- Goals of `PolyhedronDomain::test`.
+use Rattle.lra_domain.specs.Actions as action
+use Rattle.lra_poly_domain.proofs.ChangeLemmas.{changes}
+use Rattle.lra_poly_domain.proofs.polyhedron.PolyhedronDomain.test.Goals as goal
+
+pub returns-clause-meets : goal.returns-clause-meets
+returns-clause-meets c =
+    rw (← c.self.view_is, c.exactness_of.ensures)
+    (changes (action.test c.args.t.now.kind c.args.t.now.expr) c.self.inside.poly c.add_test.new.self c.in_ok-outcome.outcome
+    (rw (← c.self.view_is) at c.requires) c.rows-formed.ensures.formed c.in_ok-outcome.ensures.becomes)

@@ -1,0 +1,39 @@
+-- Goals of `missed_by`: which signs the form misses with each of the generators.
+use Rattle.std.proofs.Common.{◌≡◌, ◌∙◌, ◌∷◌, [], ap, length, sym, List}
+use Rattle.std.proofs.lemmas.Result.{err_from_is_err_and}
+use Rattle.lra_linear_spec.specs.Descriptions.{LinearRow, inequality}
+use Rattle.lra_linear_spec.specs.Kinds.{is_line}
+use Rattle.lra_linear_spec.specs.OperationStrain.{ProductsPass}
+use Rattle.lra_linear_spec.specs.declared.GenKind.TheVariants.{Point}
+use Rattle.lra_duality.specs.Maxima.{StaysInRange}
+use Rattle.lra_duality.proofs.InclusionLemmas.{seen_generators}
+use Rattle.lra_systems.proofs.FirstMembers.{one_more}
+use Rattle.lra_poly_queries.proofs.MissedLists.{one_missed_more, one_passes}
+use Rattle.lra_poly_queries.proofs.relation.missed_by.Goals as goal
+
+pub returns-in_err-here-clause-wide : goal.returns-in_err-here-clause-wide
+returns-in_err-here-clause-wide c =
+    let rows = c.rows-rows.result.now in
+    let kinds = c.kinds-kinds.result.now in
+    let n : length kinds ≡ length rows = c.kinds-kinds.ensures.len ∙ ap length (sym c.rows-rows.ensures.rows) in
+    let p = err_from_is_err_and c.from_residual.result c.from_residual.ensures.1 in
+    let excess = c.in_err-here.field-0.0 in
+    rw (p.1, p.2)
+    (seen_generators (λ (l : List LinearRow). ProductsPass (inequality c.args.form.now ∷ []) l excess) c.args.list.now rows
+    kinds c.rows-rows.ensures.rows c.kinds-kinds.ensures.kinds
+    (one_passes c.args.form.now rows kinds c.loop-place.place c.index-rows-place.result Point excess n
+    c.loop-place-test.true c.index-rows-place.is c.in_err-here.ensures.wide))
+
+pub loop-place-preserved : goal.loop-place-preserved
+loop-place-preserved c =
+    let rows = c.rows-rows.result.now in
+    let kinds = c.kinds-kinds.result.now in
+    let n : length kinds ≡ length rows = c.kinds-kinds.ensures.len ∙ ap length (sym c.rows-rows.ensures.rows) in (
+      one_more (StaysInRange c.args.form.now) is_line rows kinds c.loop-place.place c.index-rows-place.result Point n
+          c.loop-place-test.true c.index-rows-place.is c.loop-place.invariant.0 c.in_ok-here.ensures.product,
+      one_missed_more c.args.form.now rows kinds c.loop-place.place c.index-rows-place.result Point
+          c.loop-place.missed c.in_ok-here.here c.and-missed.result n c.loop-place-test.true c.index-rows-place.is
+          c.loop-place.invariant.1
+          (λ g e l. c.in_ok-here.ensures.misses g e (l ∙ sym c.goes_both_ways.ensures))
+          c.and-missed.ensures.below c.and-missed.ensures.zero c.and-missed.ensures.above,
+    )

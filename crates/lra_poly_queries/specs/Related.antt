@@ -1,0 +1,37 @@
+-- A coordinate whose new values stand to the old point as a constraint tells.
+use Rattle.std.specs.Prelude.{◌⊎◌, ℕ, ◌+◌, List, [], ◌∷◌, ◌++◌, slice_set}
+use Rattle.lra_linear_spec.specs.Descriptions.{Con, LinearRow, Holds}
+use Rattle.lra_linear_spec.specs.OperationStrain.{ConstraintsStrain}
+use Rattle.lra_linear_spec.specs.Points.{PointSet}
+use Rattle.lra_linear_spec.specs.Polyhedra.{IsPolyhedronOf, Polyhedron}
+use Rattle.lra_linear_spec.specs.SetOperations.{Embed, Meet}
+use Rattle.lra_linear_spec.specs.Strain.{Loss}
+use Rattle.lra_poly_queries.specs.Joined.{counted}
+use Rattle.lra_poly_queries.specs.Moved.{MapDimsStrains, Moved, moved}
+
+-- the points of P with one further coordinate that meet the constraint
+abbrev pub Extended : ℕ → LinearRow → PointSet → PointSet
+Extended n g P = Meet (Embed n P) (Holds g)
+
+-- the same with that coordinate in place of the one along k: the constraint's last column is the new value's
+abbrev pub replaced : ℕ → ℕ → List ℕ
+replaced n k = slice_set (counted n 0) k n
+
+abbrev pub Related : ℕ → ℕ → LinearRow → PointSet → PointSet
+Related n k g P = Moved (n + 1) (replaced n k) (Extended n g P)
+
+-- ---- the constraints taken in
+abbrev pub extended : LinearRow → Polyhedron → List LinearRow
+extended g p = moved (counted (p.dims + 1) 0) p.rows ++ g ∷ []
+
+abbrev pub ExtendStrains : LinearRow → Polyhedron → Loss → Type 0
+ExtendStrains g p = ConstraintsStrain (p.dims + 1) (Extended p.dims g (Con p.rows)) (extended g p)
+
+-- the exact one strains as its dimensions are moved
+pub record ExtendedMoveStrains (k : ℕ) (g : LinearRow) (p : Polyhedron) (loss : Loss) : Type 0 where
+  pub longer : Polyhedron
+  pub is_longer : IsPolyhedronOf (p.dims + 1) (Extended p.dims g (Con p.rows)) longer
+  pub strains : MapDimsStrains (replaced p.dims k) longer loss
+
+abbrev pub ImageRelationStrains : ℕ → LinearRow → Polyhedron → Loss → Type 0
+ImageRelationStrains k g p loss = ExtendStrains g p loss ⊎ ExtendedMoveStrains k g p loss

@@ -1,0 +1,24 @@
+-- What a widening keeps where it is flagged.
+use Rattle.std.proofs.Common.{◌≡◌, ◌++◌, ℕ, List, [], inr, subst}
+use Rattle.lra_linear_spec.specs.Descriptions.{LinearRow}
+use Rattle.lra_linear_spec.specs.OperationStrain.{tight_on, with_positivity}
+use Rattle.lra_linear_spec.specs.Polyhedra.{Polyhedron}
+use Rattle.lra_linear_spec.specs.declared.ConKind.{ConKind}
+use Rattle.lra_systems.specs.LinearSystems.{LinearSystem, constraints}
+use Rattle.lra_poly.specs.declared.outcome.Outcome.{Outcome}
+use Rattle.lra_poly.specs.declared.outcome.Outcome.TheVariants.{Exact, Flagged}
+use Rattle.lra_poly.specs.Restricted.{IsTried}
+use Rattle.lra_poly_widening.specs.Rank.{kept_thresholds}
+use Rattle.lra_poly_widening.specs.StayingRows.{IsOfStaying, StaysOrIsGivenUp}
+
+pub of_staying : (p q r : Polyhedron) (given : List LinearRow) (list : LinearSystem ConKind) (o : Outcome) → list.dims ≡ p.dims → constraints list ≡ tight_on p q ++ kept_thresholds p q given →
+    IsTried list.dims (with_positivity list.dims []) (constraints list) r o → IsOfStaying p q given r
+of_staying p q r given list o ed er tried = record {
+  outcome = o;
+  tried = subst (λ (l : List LinearRow). IsTried p.dims (with_positivity p.dims []) l r o) er
+      (subst (λ (n : ℕ). IsTried n (with_positivity n []) (constraints list) r o) ed tried);
+}
+
+pub staying : (p q r : Polyhedron) (given : List LinearRow) (o : Outcome) → IsOfStaying p q given r → StaysOrIsGivenUp p q given r o
+staying p q r given Exact h = tt
+staying p q r given (Flagged loss) h = inr h

@@ -1,0 +1,19 @@
+-- What a widening keeps where it is flagged.
+use Rattle.std.specs.Prelude.{◌⊎◌, List, [], ◌++◌}
+use Rattle.lra_linear_spec.specs.Descriptions.{LinearRow}
+use Rattle.lra_linear_spec.specs.OperationStrain.{tight_on, with_positivity}
+use Rattle.lra_linear_spec.specs.Polyhedra.{Polyhedron}
+use Rattle.lra_poly.specs.declared.outcome.Outcome.{Outcome}
+use Rattle.lra_poly.specs.Restricted.{IsTried}
+use Rattle.lra_poly.specs.Outcomes.{IfFlagged}
+use Rattle.lra_poly_widening.specs.Rank.{kept_thresholds}
+use Rattle.lra_poly_widening.specs.Widenings.{IsGivenUp}
+
+-- the rows of Q that are tight on P, and the given ones that hold in the range on both, were tried from nothing
+pub record IsOfStaying (p q : Polyhedron) (given : List LinearRow) (r : Polyhedron) : Type 0 where
+  pub outcome : Outcome
+  pub tried : IsTried p.dims (with_positivity p.dims []) (tight_on p q ++ kept_thresholds p q given) r outcome
+
+-- where it is flagged, unless it isn't known whether P lies in Q
+abbrev pub StaysOrIsGivenUp : Polyhedron → Polyhedron → List LinearRow → Polyhedron → Outcome → Type 0
+StaysOrIsGivenUp p q given r o = IfFlagged (λ _. IsGivenUp p q r o ⊎ IsOfStaying p q given r) o

@@ -1,8 +1,0 @@
--- Goals of `some_row_passes`: whether the product of one of the rows with one of the generators does.
-use Rattle.lra_systems.specs.LinearSystems.{generators}
-use Rattle.lra_widen.proofs.TruthLists.{none_among}
-use Rattle.lra_polydom.specs.Growth.{row_passes}
-use Rattle.lra_polydom.proofs.lists.some_row_passes.Goals as goal
-
-pub returns : goal.returns
-returns c = none_among (row_passes (generators c.args.list.now)) c.args.rows.now c.loop-row.row-index c.loop-row-test.false c.loop-row.invariant

@@ -1,5 +1,0 @@
--- Goals of `PolyhedronDomain::same`.
-use Rattle.lra_polydom.proofs.polyhedron.PolyhedronDomain.same.Goals as goal
-
-pub returns : goal.returns
-returns c = rw (← c.self.view_is, ← c.other.view_is) c.same.ensures.lists

@@ -1,5 +1,0 @@
--- Goals of `greatest_end`: the form's greatest value, where there is one.
-use Rattle.lra_queries.proofs.boxes.greatest_end.Goals as goal
-
-pub returns-in-Wide-clause-end : goal.returns-in-Wide-clause-end
-returns-in-Wide-clause-end c = absurd (c.requires.fits c.in-Wide.ensures.tells.0 c.in-Wide.ensures.tells.1)

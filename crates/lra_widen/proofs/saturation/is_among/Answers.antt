@@ -1,7 +1,0 @@
--- Goals of `is_among`: whether the list is one of these, of its width.
-use Rattle.lra_widen.specs.Saturated.{same_values}
-use Rattle.lra_widen.proofs.TruthLists.{none_among}
-use Rattle.lra_widen.proofs.saturation.is_among.Goals as goal
-
-pub returns : goal.returns
-returns c = none_among (same_values c.args.bits.now) c.args.classes.now c.loop-class.class-index c.loop-class-test.false c.loop-class.invariant

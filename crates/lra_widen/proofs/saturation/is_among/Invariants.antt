@@ -1,6 +1,0 @@
-use Rattle.std.proofs.Common.{◌≡◌, ℕ, ◌<◌, false, length, slice_index_or, List, Bool}
-use Rattle.lra_widen.specs.Saturated.{same_values}
-use Rattle.lra_widen.proofs.saturation.is_among.Given as goal
-
-abbrev pub invariant-loop-class : goal.invariant-loop-class
-invariant-loop-class l = (j : ℕ) (d : List Bool) → j < l.class-index → j < length l.classes → same_values l.bits (slice_index_or l.classes j d) ≡ false

@@ -1,7 +1,0 @@
--- Goals of `has_lower`: whether one of the rows has the same coefficients and a lower constant.
-use Rattle.lra_widen.specs.Tightest.{is_lower}
-use Rattle.lra_widen.proofs.TruthLists.{none_among}
-use Rattle.lra_widen.proofs.tightest.has_lower.Goals as goal
-
-pub returns : goal.returns
-returns c = none_among (λ s. is_lower s c.args.row.now) c.args.rows.now c.loop-other.other-index c.loop-other-test.false c.loop-other.invariant

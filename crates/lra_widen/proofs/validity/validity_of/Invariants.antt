@@ -1,8 +1,0 @@
-use Rattle.std.specs.List.{All}
-use Rattle.lra_linear_spec.specs.Kinds.{is_equality, is_line}
-use Rattle.lra_duality.specs.Inclusions.{Meets}
-use Rattle.lra_systems.proofs.FirstMembers.{front}
-use Rattle.lra_widen.proofs.validity.validity_of.Given as goal
-
-abbrev pub invariant-loop-place : goal.invariant-loop-place
-invariant-loop-place l = All (λ g. Meets g (record { row = l.row; equal = is_equality l.fn.kind })) (front is_line l.rows l.kinds l.place)
