@@ -6,7 +6,7 @@ use Rattle.std.proofs.lemmas.Option.{same_Some, none-some, slice_get-get_or}
 use Rattle.lra_program.specs.Program.{Call, Rvalue, value, result, Stmt, absent, nothing, block, assign, write, call, if, loop, for, break, continue, return}
 use Rattle.lra_program.specs.Program.{assert, assume, BlockItems, no_more, declaration, array, statement, switch, Cases, no_cases, labelled, stated, Function}
 use Rattle.lra_program.specs.Program.{Program}
-use Rattle.lra_program.specs.Sites.{Site, Event, comes, one_call_more, live_behind, rvalue_events, given_events, stmt_events, cases_events, items_events, function_events, call_events, events_of, sites_in, sites_of}
+use Rattle.lra_program.specs.Sites.{Site, Event, comes, one_call_more, live_after_items, rvalue_events, given_events, stmt_events, cases_events, items_events, function_events, call_events, events_of, event_sites, sites_of}
 use Rattle.lra_program.specs.Sites.{greatest_calls}
 use Rattle.lra_operations.specs.Agree.{AreDistinct}
 use Rattle.lra_program.specs.WellFormed.{stmt_numbers, cases_numbers, items_numbers, function_numbers, Jumps, in_switch, IsGoodCall, IsGoodRvalue, IsGoodGiven, IsGoodStmt, AreGoodCases, AreGoodItems}
@@ -113,7 +113,7 @@ module _ (P : Program) where
           let front = items_numbers init in
           let turns = stmt_numbers step in
           let rounds = stmt_numbers s in
-          let later = live_behind live init in
+          let later = live_after_items live init in
           let early = differ_left (front ++ turns) rounds d.1 in
           let init_events = items_events inside path live init in
           let step_events = stmt_events inside path later step in
@@ -123,8 +123,8 @@ module _ (P : Program) where
           (spread_parts at path (front ++ turns) rounds (keys_in init_events ++ keys_in step_events) (keys_in body_events) d
           (spread_join path front turns (keys_in init_events) (keys_in step_events) (differ_apart front turns early)
           (spread_items _ here live init good.0 (differ_left front turns early))
-          (spread_stmt _ (live_behind here init) later step good.3 (differ_right front turns early)))
-          (spread_stmt _ (live_behind here init) later s good.2 (differ_right (front ++ turns) rounds d.1)))
+          (spread_stmt _ (live_after_items here init) later step good.3 (differ_right front turns early)))
+          (spread_stmt _ (live_after_items here init) later s good.2 (differ_right (front ++ turns) rounds d.1)))
       spread_stmt b here live (break at) good d = spread_alone at path
       spread_stmt b here live (continue at) good d = spread_alone at path
       spread_stmt b here live (return at e) good d = let y = spread_given at here live e good in spread_point at path y.0 (keys_in (given_events inside path live e)) y.1
@@ -191,7 +191,7 @@ module _ (P : Program) (well : IsWellFormed P) where
   spread_program = spread_function P (call_events P greatest_calls) (spread_call greatest_calls) [] (length P.globals) P.main
       (all_at P P.functions main_at.0 P.main well.functions main_at.1) (labels_differ main_at.0 P.main main_at.1)
 
-key_at : (es : List Event) (i : ℕ) (s : Site) → slice_get (sites_in es) i ≡ Some s → slice_get (keys_in es) i ≡ Some (key s)
+key_at : (es : List Event) (i : ℕ) (s : Site) → slice_get (event_sites es) i ≡ Some s → slice_get (keys_in es) i ≡ Some (key s)
 key_at [] i s e = absurd (none-some s e)
 key_at (comes t ∷ es) zero s e = ap (λ x. Some (key x)) (same_Some t s e)
 key_at (comes t ∷ es) (suc i) s e = key_at es i s e

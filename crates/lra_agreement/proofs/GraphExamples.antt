@@ -3,18 +3,19 @@ use Rattle.std.proofs.Common.{◌≡◌, ℕ, pos, ◌≤◌, [], ◌∷◌, Som
 use Rattle.std.specs.Prelude.{codes}
 use Rattle.lra_meaning.specs.Resolve.{resolve}
 use Rattle.lra_program.specs.Sites.{sites_of}
-use Rattle.lra_operations.specs.Graph.{Node, broken, continued, returned, empty, point, act, seq, choose, catch, leave, no_arms, entry, arm}
-use Rattle.lra_program.specs.Step.{append, fill, give, give_any, push, push_for, keep}
+use Rattle.lra_operations.specs.Tree.{Node, broken, continued, returned, empty, point, act, seq, choose, catch, leave, no_arms, entry, arm}
+use Rattle.lra_program.specs.Step.{append, fill, store_value, havoc, push, push_for, truncate_to}
 use Rattle.lra_base.specs.declared.number_types.NumberType.TheVariants.{Int, Long}
 use Rattle.lra_base.specs.declared.case_labels.CaseLabel.TheVariants.{Case, Default}
 use Rattle.lra_program.specs.Value.{Argument}
 use Rattle.lra_program.specs.declared.arrays.Array.{Array}
 use Rattle.lra_program.specs.declared.receivers.Receiver.{Receiver}
-use Rattle.lra_program.specs.Receivers.{variable_at, waiting_in, behind_result}
+use Rattle.lra_program.specs.Receivers.{variable_at, waiting_in, result_receiver}
 use Rattle.lra_program.specs.Program.{Element}
-use Rattle.lra_operations.specs.Inlined.{InlAll, loop_node, switch_node, as_absent, as_block, as_if, as_loop, is_loop, as_break}
+use Rattle.lra_operations.specs.Inlined.{InlineItems, loop_node, switch_node, as_absent, as_block, as_if, as_loop, is_loop, as_break}
 use Rattle.lra_operations.specs.Inlined.{as_continue, as_switch, as_no_cases, as_labelled, as_stated, as_declaration, as_fresh, as_given, as_assign}
-use Rattle.lra_operations.specs.Inlined.{as_assert, as_return_value, as_none, as_array, as_statement, as_value, as_result, is_call, as_write_call, main_spot}
+use Rattle.lra_operations.specs.Inlined.{as_assert, as_return_value, as_none, as_array, as_statement, as_value, as_result, is_call, as_write_call}
+use Rattle.lra_operations.specs.Inlined.{main_inline_state}
 use Rattle.lra_program.specs.Program as program
 use Rattle.lra_tree.specs.Trees.{FileTree, function, statement, declaration, no_items, if_only, return, value, expression, result}
 use Rattle.lra_tree.specs.Trees.{set_element, element, array, assign}
@@ -35,7 +36,7 @@ two_of_two : 2 ≤ 2
 two_of_two = omega arith
 
 -- its tree is derived, one case for each statement
-unfoldable pub called_twice_graph : (g : Node) × InlAll (resolve called_twice) (sites_of (resolve called_twice)) (main_spot (resolve called_twice))
+unfoldable pub called_twice_graph : (g : Node) × InlineItems (resolve called_twice) (sites_of (resolve called_twice)) (main_inline_state (resolve called_twice))
     (resolve called_twice).main.body g 1 9
 called_twice_graph = (
   _,
@@ -62,18 +63,18 @@ two_returns = record {
 
 -- a `return` of the point q: x gets the value, and the store is cut to x
 abbrev returned_from : ℕ → ℕ → Node
-returned_from q n = seq (point q) (seq (act q (give 1 (variable_at 0 Long) (program.literal Int n))) (seq (act q (keep 1)) (leave 2 returned)))
+returned_from q n = seq (point q) (seq (act q (store_value 1 (variable_at 0 Long) (program.literal Int n))) (seq (act q (truncate_to 1)) (leave 2 returned)))
 
 abbrev zero_given : Argument
 zero_given = record { number_type = Long; value = program.literal Int 0 }
 
 -- the call's tree has its returns in text order and then its end, where the target gets a draw: catches an end before the returns
-two_returns_graph : InlAll (resolve two_returns) (sites_of (resolve two_returns)) (main_spot (resolve two_returns)) (resolve two_returns).main.body
+two_returns_graph : InlineItems (resolve two_returns) (sites_of (resolve two_returns)) (main_inline_state (resolve two_returns)) (resolve two_returns).main.body
     (seq (seq (point 0) (seq (act 0 (append Long)) (seq (act 0 (push 0 (zero_given ∷ [])))
     (catch 0 returned (seq
     (seq (seq (point 1) (choose 1 1 (program.nonzero (program.read (run.long_variable (program.local 0)))) (returned_from 2 1) empty))
     (seq (returned_from 3 2) empty))
-    (seq (point 4) (seq (act 4 (keep 2)) (seq (act 4 (give_any (variable_at 0 Long))) (act 4 (keep 1)))))))))) empty) 1 5
+    (seq (point 4) (seq (act 4 (truncate_to 2)) (seq (act 4 (havoc (variable_at 0 Long))) (act 4 (truncate_to 1)))))))))) empty) 1 5
 two_returns_graph =
     as_declaration refl
     (as_given (as_result (is_call {fn = (record { result_type = Some Long; parameters = Long ∷ []; body = _; end = 4 })} refl refl
@@ -92,12 +93,12 @@ abbrev x_read : program.Expr
 x_read = program.read (run.long_variable (program.local 0))
 
 -- labels have no points; `continue` cuts the store to the loop's length, `break` to the `switch`'s: catches the one for the other
-jumps_apart_graph : InlAll (resolve jumps_apart) (sites_of (resolve jumps_apart)) (main_spot (resolve jumps_apart)) (resolve jumps_apart).main.body
+jumps_apart_graph : InlineItems (resolve jumps_apart) (sites_of (resolve jumps_apart)) (main_inline_state (resolve jumps_apart)) (resolve jumps_apart).main.body
     (seq (seq (point 0) (act 0 (append Long))) (seq (loop_node 1 0 (program.nonzero x_read)
     (seq (seq (seq (point 2) (act 2 (append Long))) (seq (seq (point 3) (switch_node 3 0 x_read
-    (entry (Case (pos 1)) (arm (seq (point 4) (seq (act 4 (keep 1)) (leave 2 continued)))
-    (entry Default (arm (seq (point 5) (seq (act 5 (keep 2)) (leave 2 broken))) no_arms)))))) empty))
-    (seq (point 6) (act 6 (keep 1)))) empty) empty)) 1 7
+    (entry (Case (pos 1)) (arm (seq (point 4) (seq (act 4 (truncate_to 1)) (leave 2 continued)))
+    (entry Default (arm (seq (point 5) (seq (act 5 (truncate_to 2)) (leave 2 broken))) no_arms)))))) empty))
+    (seq (point 6) (act 6 (truncate_to 1)))) empty) empty)) 1 7
 jumps_apart_graph =
     as_declaration refl as_fresh
     (as_statement (as_loop (is_loop refl as_absent (as_block
@@ -126,14 +127,16 @@ abbrev pub aimed : Element
 aimed = record { array = two_elements; place = at 54; index = program.element two_elements (at 56) (program.literal Int 0) }
 
 abbrev element_receiver : Receiver
-element_receiver = behind_result (Some Long) (waiting_in two_elements)
+element_receiver = result_receiver (Some Long) (waiting_in two_elements)
 
 -- the index is computed where the call gives its arguments, and the element gets what the return gives: catches a receiver that is nobody
-unfoldable pub element_called_graph : (g : Node) × InlAll (resolve element_called) (sites_of (resolve element_called)) (main_spot (resolve element_called))
+unfoldable pub element_called_graph : (g : Node)
+    × InlineItems (resolve element_called) (sites_of (resolve element_called)) (main_inline_state (resolve element_called))
     (resolve element_called).main.body g 0 4
     × (g ≡ seq (seq (point 0) (act 0 (fill two_elements))) (seq (seq (point 1) (seq (act 1 (push_for 0 aimed []))
-    (catch 1 returned (seq (seq (seq (point 2) (seq (act 2 (give 0 element_receiver (program.literal Int 1))) (seq (act 2 (keep 0)) (leave 0 returned)))) empty)
-    (seq (point 3) (seq (act 3 (keep 0)) (seq (act 3 (give_any element_receiver)) (act 3 (keep 0))))))))) empty))
+    (catch 1 returned (seq
+    (seq (seq (point 2) (seq (act 2 (store_value 0 element_receiver (program.literal Int 1))) (seq (act 2 (truncate_to 0)) (leave 0 returned)))) empty)
+    (seq (point 3) (seq (act 3 (truncate_to 0)) (seq (act 3 (havoc element_receiver)) (act 3 (truncate_to 0))))))))) empty))
 element_called_graph = (
   _,
   as_array refl

@@ -1,11 +1,11 @@
 -- Trees of operations and runs, for well-formed programs: nothing is left to ask of the program's points.
 use Rattle.lra_program.specs.Program.{Program}
-use Rattle.lra_operations.specs.Graph.{Node}
+use Rattle.lra_operations.specs.Tree.{Node}
 use Rattle.lra_program.specs.Sites.{sites_of}
-use Rattle.lra_operations.specs.Agree.{IsGraph, AreDistinct, Agrees}
-use Rattle.lra_operations.specs.TrailsAgree.{TrailsAgree}
-use Rattle.lra_operations.specs.Asked.{AsksWell, AccessesWell}
-use Rattle.lra_program.specs.Trails.{Alone}
+use Rattle.lra_operations.specs.Agree.{IsInlinedTree, AreDistinct, Agrees}
+use Rattle.lra_operations.specs.TracesAgree.{TracesAgree}
+use Rattle.lra_operations.specs.CheckedOperations.{AgreesOnOverflows, AgreesOnAccesses}
+use Rattle.lra_program.specs.Traces.{NoChange}
 use Rattle.lra_program.specs.WellFormed.{IsWellFormed}
 
 -- no two points of a well-formed program have one call path and label
@@ -14,16 +14,16 @@ WellFormedAreDistinct = (P : Program) → IsWellFormed P → AreDistinct (sites_
 
 -- each tree of a well-formed program agrees with its runs
 abbrev pub WellFormedAgree : Type 0
-WellFormedAgree = (P : Program) (g : Node) → IsWellFormed P → IsGraph P g → Agrees P g
+WellFormedAgree = (P : Program) (g : Node) → IsWellFormed P → IsInlinedTree P g → Agrees P g
 
 -- and has its trails
 abbrev pub WellFormedHaveTrails : Type 0
-WellFormedHaveTrails = (P : Program) (g : Node) → IsWellFormed P → IsGraph P g → TrailsAgree Alone P g
+WellFormedHaveTrails = (P : Program) (g : Node) → IsWellFormed P → IsInlinedTree P g → TracesAgree NoChange P g
 
 -- and asks well
 abbrev pub WellFormedAskWell : Type 0
-WellFormedAskWell = (P : Program) (g : Node) → IsWellFormed P → IsGraph P g → AsksWell P g
+WellFormedAskWell = (P : Program) (g : Node) → IsWellFormed P → IsInlinedTree P g → AgreesOnOverflows P g
 
 -- and tells where an access is outside its array
 abbrev pub WellFormedAccessWell : Type 0
-WellFormedAccessWell = (P : Program) (g : Node) → IsWellFormed P → IsGraph P g → AccessesWell P g
+WellFormedAccessWell = (P : Program) (g : Node) → IsWellFormed P → IsInlinedTree P g → AgreesOnAccesses P g

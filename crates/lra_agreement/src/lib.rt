@@ -5,9 +5,9 @@
 //! the program; `lra_graph` makes one.
 #![tactic(auto)]
 
-ghost use Rattle.lra_operations.specs.Agree.{GraphsAgree};
-ghost use Rattle.lra_operations.specs.TrailsAgree.{GraphsHaveTrails};
-ghost use Rattle.lra_operations.specs.Asked.{GraphsAskWell, GraphsAccessWell};
+ghost use Rattle.lra_operations.specs.Agree.{TreesAgree};
+ghost use Rattle.lra_operations.specs.TracesAgree.{TreesHaveTraces};
+ghost use Rattle.lra_operations.specs.CheckedOperations.{TreesAgreeOnOverflows, TreesAgreeOnAccesses};
 ghost use Rattle.lra_agreement.specs.Agreement.{WellFormedAreDistinct, WellFormedAgree, WellFormedHaveTrails};
 ghost use Rattle.lra_agreement.specs.Agreement.{WellFormedAskWell, WellFormedAccessWell};
 
@@ -15,7 +15,7 @@ ghost use Rattle.lra_agreement.specs.Agreement.{WellFormedAskWell, WellFormedAcc
 ///
 /// Does nothing: its contract is the theorem.
 pub fn graphs_agree()
-    ensures theorem { GraphsAgree }
+    ensures theorem { TreesAgree }
     ensures distinct { WellFormedAreDistinct }
     ensures well_formed { WellFormedAgree }
 {}
@@ -24,7 +24,7 @@ pub fn graphs_agree()
 ///
 /// Does nothing: its contract is the theorem.
 pub fn trails_agree()
-    ensures theorem { GraphsHaveTrails }
+    ensures theorem { TreesHaveTraces }
     ensures well_formed { WellFormedHaveTrails }
 {}
 
@@ -33,7 +33,7 @@ pub fn trails_agree()
 ///
 /// Does nothing: its contract is the theorem.
 pub fn graphs_ask_well()
-    ensures theorem { GraphsAskWell }
+    ensures theorem { TreesAgreeOnOverflows }
     ensures well_formed { WellFormedAskWell }
 {}
 
@@ -42,6 +42,6 @@ pub fn graphs_ask_well()
 ///
 /// Does nothing: its contract is the theorem.
 pub fn graphs_access_well()
-    ensures theorem { GraphsAccessWell }
+    ensures theorem { TreesAgreeOnAccesses }
     ensures well_formed { WellFormedAccessWell }
 {}

@@ -7,13 +7,13 @@ use Rattle.lra_program.specs.Receivers.{nobody}
 use Rattle.lra_program.specs.declared.receivers.Cell.{Cell}
 use Rattle.lra_program.specs.declared.receivers.Cell.TheVariants.{Variable, Waiting}
 use Rattle.lra_program.specs.declared.receivers.Target.{Target}
-use Rattle.lra_program.specs.Step.{Op, append, fill, give, give_element, give_any, push, push_for, keep, test}
-use Rattle.lra_operations.specs.Asked.{asking_in, asking_in_arms, asking_of, fresh_behind}
-use Rattle.lra_operations.specs.declared.asides.Aside.TheVariants.{Noting}
-use Rattle.lra_operations.specs.Graph.{Exit, Node, empty, aside, point, act, check, seq, choose, iterate, catch, leave, select}
-use Rattle.lra_operations.specs.Graph.{Arms, no_arms, entry, arm}
+use Rattle.lra_program.specs.Step.{Op, append, fill, store_value, store_element, havoc, push, push_for, truncate_to, test}
+use Rattle.lra_operations.specs.CheckedOperations.{ops_where, ops_where_in_arms, op_where, fresh_after}
+use Rattle.lra_operations.specs.declared.probes.Probe.TheVariants.{RecordWrite}
+use Rattle.lra_operations.specs.Tree.{Exit, Node, empty, probe, point, act, check, seq, choose, iterate, catch, leave, select}
+use Rattle.lra_operations.specs.Tree.{Arms, no_arms, entry, arm}
 use Rattle.lra_flow.specs.Live.{dims_behind, live_after}
-use Rattle.lra_program.specs.Gifts.{gift_of, place_in, place_of}
+use Rattle.lra_program.specs.WrittenVariables.{written_variable, cell_variable, target_variable}
 use Rattle.lra_flow.specs.Opened.{noting_of, opened, opened_arms}
 use Rattle.lra_flow.specs.Room.{most_live}
 use Rattle.lra_change.specs.Changes.{CellFits, OpFits, PlaceFits}
@@ -23,7 +23,7 @@ use Rattle.lra_iter.specs.Numbers.{IsNumbered, checks_in, checks_in_arms, values
 
 -- the operation alone, or noted
 abbrev If : Bool → ℕ → ℕ → Node → Node
-If t q place g = if t then seq g (aside q (Noting place)) else g
+If t q place g = if t then seq g (probe q (RecordWrite place)) else g
 
 -- how many variables live ---------------------------------------------------------------------------------------------------
 
@@ -37,9 +37,9 @@ live_noted n q (Some place) g k = live_if (nat_lt place n) q place g k
 
 pub live_opened : (n : ℕ) (g : Node) (k : ℕ) → live_after (opened n g) k ≡ live_after g k
 live_opened n empty k = refl
-live_opened n (aside q what) k = refl
+live_opened n (probe q what) k = refl
 live_opened n (point q) k = refl
-live_opened n (act q op) k = live_noted n q (gift_of op) (act q op) k
+live_opened n (act q op) k = live_noted n q (written_variable op) (act q op) k
 live_opened n (check q base c) k = refl
 live_opened n (seq a b) k = live_opened n b (live_after (opened n a) k) ∙ ap (live_after b) (live_opened n a k)
 live_opened n (choose q base c a b) k = live_opened n a k
@@ -62,10 +62,10 @@ no_jump_noted n q (Some place) op k j m h = no_jump_if (nat_lt place n) q place 
 mutual
   pub jumps_of : (n : ℕ) (g : Node) (k : ℕ) (j : Exit) (m : ℕ) → JumpsWith (opened n g) k j m → JumpsWith g k j m
   jumps_of n empty k j m h = h
-  jumps_of n (aside q what) k j m h = h
+  jumps_of n (probe q what) k j m h = h
   jumps_of n (point q) k j m (inl h) = h
   jumps_of n (point q) k j m (inr h) = h
-  jumps_of n (act q op) k j m h = no_jump_noted n q (gift_of op) op k j m h
+  jumps_of n (act q op) k j m h = no_jump_noted n q (written_variable op) op k j m h
   jumps_of n (check q base c) k j m h = h
   jumps_of n (seq a b) k j m (inl h) = inl (jumps_of n a k j m h)
   jumps_of n (seq a b) k j m (inr h) = inr (jumps_of n b (live_after a k) j m (subst (λ (l : ℕ). JumpsWith (opened n b) l j m) (live_opened n a k) h))
@@ -87,7 +87,7 @@ mutual
 mutual
   pub of_jumps : (n : ℕ) (g : Node) (k : ℕ) (j : Exit) (m : ℕ) → JumpsWith g k j m → JumpsWith (opened n g) k j m
   of_jumps n empty k j m h = h
-  of_jumps n (aside q what) k j m h = h
+  of_jumps n (probe q what) k j m h = h
   of_jumps n (point q) k j m h = absurd h
   of_jumps n (act q op) k j m h = absurd h
   of_jumps n (check q base c) k j m h = h
@@ -117,21 +117,21 @@ fits_noted n q None g k few fits = fits
 fits_noted n q (Some place) g k few fits = fits_if (nat_lt place n) q place g k few fits
 
 -- what gives a value leaves as many
-act_fits : (n q : ℕ) (op : Op) (k : ℕ) → k ≤ most_live → OpFits op k → TreeFits (noting_of n q (gift_of op) (act q op)) k
+act_fits : (n q : ℕ) (op : Op) (k : ℕ) → k ≤ most_live → OpFits op k → TreeFits (noting_of n q (written_variable op) (act q op)) k
 act_fits n q (append t) k few fits = fits
 act_fits n q (fill a) k few fits = fits
-act_fits n q (give base x e) k few fits = fits_noted n q (gift_of (give base x e)) (act q (give base x e)) k few fits
-act_fits n q (give_element base x e) k few fits = fits
-act_fits n q (give_any x) k few fits = fits_noted n q (gift_of (give_any x)) (act q (give_any x)) k few fits
+act_fits n q (store_value base x e) k few fits = fits_noted n q (written_variable (store_value base x e)) (act q (store_value base x e)) k few fits
+act_fits n q (store_element base x e) k few fits = fits
+act_fits n q (havoc x) k few fits = fits_noted n q (written_variable (havoc x)) (act q (havoc x)) k few fits
 act_fits n q (push base given) k few fits = fits
 act_fits n q (push_for base x given) k few fits = fits
-act_fits n q (keep m) k few fits = fits
+act_fits n q (truncate_to m) k few fits = fits
 act_fits n q (test base c wanted) k few fits = fits
 
 mutual
   pub fits_of : (n : ℕ) (g : Node) (k : ℕ) → k ≤ most_live → TreeFits g k → TreeFits (opened n g) k
   fits_of n empty k few h = h
-  fits_of n (aside q what) k few h = h
+  fits_of n (probe q what) k few h = h
   fits_of n (point q) k few h = (tt, few, tt)
   fits_of n (act q op) k few h = act_fits n q op k few h
   fits_of n (check q base c) k few h = h
@@ -167,9 +167,9 @@ values_noted n q (Some place) op k = values_if (nat_lt place n) q place op k
 mutual
   values_opened : (n : ℕ) (g : Node) (k : ℕ) → values_in (opened n g) k ≡ values_in g k
   values_opened n empty k = refl
-  values_opened n (aside q what) k = refl
+  values_opened n (probe q what) k = refl
   values_opened n (point q) k = omega arith
-  values_opened n (act q op) k = values_noted n q (gift_of op) op k
+  values_opened n (act q op) k = values_noted n q (written_variable op) op k
   values_opened n (check q base c) k = refl
   values_opened n (seq a b) k = omega (arith, values_opened n a k, values_opened n b k)
   values_opened n (choose q base c a b) k = omega (arith, values_opened n a k, values_opened n b k)
@@ -194,9 +194,9 @@ checks_noted n q (Some place) op k = checks_if (nat_lt place n) q place op k
 mutual
   checks_opened : (n : ℕ) (g : Node) (k : ℕ) → checks_in (opened n g) k ≡ checks_in g k
   checks_opened n empty k = refl
-  checks_opened n (aside q what) k = refl
+  checks_opened n (probe q what) k = refl
   checks_opened n (point q) k = refl
-  checks_opened n (act q op) k = checks_noted n q (gift_of op) op k
+  checks_opened n (act q op) k = checks_noted n q (written_variable op) op k
   checks_opened n (check q base c) k = refl
   checks_opened n (seq a b) k = omega (arith, checks_opened n a k, checks_opened n b k)
   checks_opened n (choose q base c a b) k = omega (arith, checks_opened n a k, checks_opened n b k)
@@ -223,31 +223,31 @@ points_if : (T : List Site) (t : Bool) (q place : ℕ) (op : Op) (k : ℕ) → p
 points_if T true q place op k lives = (tt, lives)
 points_if T false q place op k lives = tt
 
-points_in : (T : List Site) (n q : ℕ) (op : Op) (c : Cell) (k : ℕ) → CellFits c (dims_behind op k) → PointsHave T (noting_of n q (place_in c) (act q op)) k
+points_in : (T : List Site) (n q : ℕ) (op : Op) (c : Cell) (k : ℕ) → CellFits c (dims_behind op k) → PointsHave T (noting_of n q (cell_variable c) (act q op)) k
 points_in T n q op (Variable place) k fits = points_if T (nat_lt place n) q place op k fits
 points_in T n q op (Waiting p) k fits = tt
 
 points_to : (T : List Site) (n q : ℕ) (op : Op) (o : Option Target) (k : ℕ) → PlaceFits o (dims_behind op k)
-    → PointsHave T (noting_of n q (place_of o) (act q op)) k
+    → PointsHave T (noting_of n q (target_variable o) (act q op)) k
 points_to T n q op None k fits = tt
 points_to T n q op (Some target) k fits = points_in T n q op target.cell k fits
 
 -- what is noted is a variable that lives, where the operation can be made
-points_noted : (T : List Site) (n q : ℕ) (op : Op) (k : ℕ) → OpFits op k → PointsHave T (noting_of n q (gift_of op) (act q op)) k
+points_noted : (T : List Site) (n q : ℕ) (op : Op) (k : ℕ) → OpFits op k → PointsHave T (noting_of n q (written_variable op) (act q op)) k
 points_noted T n q (append t) k fits = tt
 points_noted T n q (fill a) k fits = tt
-points_noted T n q (give base x e) k fits = points_to T n q (give base x e) x.target k fits
-points_noted T n q (give_element base x e) k fits = tt
-points_noted T n q (give_any x) k fits = points_to T n q (give_any x) x.target k fits
+points_noted T n q (store_value base x e) k fits = points_to T n q (store_value base x e) x.target k fits
+points_noted T n q (store_element base x e) k fits = tt
+points_noted T n q (havoc x) k fits = points_to T n q (havoc x) x.target k fits
 points_noted T n q (push base given) k fits = tt
 points_noted T n q (push_for base x given) k fits = tt
-points_noted T n q (keep m) k fits = tt
+points_noted T n q (truncate_to m) k fits = tt
 points_noted T n q (test base c wanted) k fits = tt
 
 mutual
   pub points_of : (T : List Site) (n : ℕ) (g : Node) (k : ℕ) → TreeFits g k → PointsHave T g k → PointsHave T (opened n g) k
   points_of T n empty k f h = h
-  points_of T n (aside q what) k f h = h
+  points_of T n (probe q what) k f h = h
   points_of T n (point q) k f h = (tt, h)
   points_of T n (act q op) k f h = points_noted T n q op k f
   points_of T n (check q base c) k f h = h
@@ -266,21 +266,21 @@ mutual
 
 -- what is asked -------------------------------------------------------------------------------------------------------------
 
-fresh_if : (fresh : Option NumberType) (t : Bool) (q place : ℕ) (g : Node) → fresh_behind fresh (If t q place g) ≡ fresh_behind fresh g
+fresh_if : (fresh : Option NumberType) (t : Bool) (q place : ℕ) (g : Node) → fresh_after fresh (If t q place g) ≡ fresh_after fresh g
 fresh_if fresh true q place g = refl
 fresh_if fresh false q place g = refl
 
-fresh_noted : (fresh : Option NumberType) (n q : ℕ) (x : Option ℕ) (g : Node) → fresh_behind fresh (noting_of n q x g) ≡ fresh_behind fresh g
+fresh_noted : (fresh : Option NumberType) (n q : ℕ) (x : Option ℕ) (g : Node) → fresh_after fresh (noting_of n q x g) ≡ fresh_after fresh g
 fresh_noted fresh n q None g = refl
 fresh_noted fresh n q (Some place) g = fresh_if fresh (nat_lt place n) q place g
 
-fresh_opened : (fresh : Option NumberType) (n : ℕ) (g : Node) → fresh_behind fresh (opened n g) ≡ fresh_behind fresh g
+fresh_opened : (fresh : Option NumberType) (n : ℕ) (g : Node) → fresh_after fresh (opened n g) ≡ fresh_after fresh g
 fresh_opened fresh n empty = refl
-fresh_opened fresh n (aside q what) = refl
+fresh_opened fresh n (probe q what) = refl
 fresh_opened fresh n (point q) = refl
-fresh_opened fresh n (act q op) = fresh_noted fresh n q (gift_of op) (act q op)
+fresh_opened fresh n (act q op) = fresh_noted fresh n q (written_variable op) (act q op)
 fresh_opened fresh n (check q base c) = refl
-fresh_opened fresh n (seq a b) = fresh_opened (fresh_behind fresh (opened n a)) n b ∙ ap (λ (f : Option NumberType). fresh_behind f b) (fresh_opened fresh n a)
+fresh_opened fresh n (seq a b) = fresh_opened (fresh_after fresh (opened n a)) n b ∙ ap (λ (f : Option NumberType). fresh_after f b) (fresh_opened fresh n a)
 fresh_opened fresh n (choose q base c a b) = refl
 fresh_opened fresh n (iterate q base c a) = refl
 fresh_opened fresh n (catch q j a) = refl
@@ -288,38 +288,38 @@ fresh_opened fresh n (leave m j) = refl
 fresh_opened fresh n (select q base e arms) = refl
 
 module _ (asks : Op → Bool) where
-  asks_if : (fresh : Option NumberType) (t : Bool) (q place : ℕ) (g : Node) → asking_in asks fresh (If t q place g) ≡ asking_in asks fresh g
-  asks_if fresh true q place g = append-nil (asking_in asks fresh g)
+  asks_if : (fresh : Option NumberType) (t : Bool) (q place : ℕ) (g : Node) → ops_where asks fresh (If t q place g) ≡ ops_where asks fresh g
+  asks_if fresh true q place g = append-nil (ops_where asks fresh g)
   asks_if fresh false q place g = refl
 
-  asks_noted : (fresh : Option NumberType) (n q : ℕ) (x : Option ℕ) (g : Node) → asking_in asks fresh (noting_of n q x g) ≡ asking_in asks fresh g
+  asks_noted : (fresh : Option NumberType) (n q : ℕ) (x : Option ℕ) (g : Node) → ops_where asks fresh (noting_of n q x g) ≡ ops_where asks fresh g
   asks_noted fresh n q None g = refl
   asks_noted fresh n q (Some place) g = asks_if fresh (nat_lt place n) q place g
 
   mutual
-    pub asks_opened : (fresh : Option NumberType) (n : ℕ) (g : Node) → asking_in asks fresh (opened n g) ≡ asking_in asks fresh g
+    pub asks_opened : (fresh : Option NumberType) (n : ℕ) (g : Node) → ops_where asks fresh (opened n g) ≡ ops_where asks fresh g
     asks_opened fresh n empty = refl
-    asks_opened fresh n (aside q what) = refl
+    asks_opened fresh n (probe q what) = refl
     asks_opened fresh n (point q) = refl
-    asks_opened fresh n (act q op) = asks_noted fresh n q (gift_of op) (act q op)
+    asks_opened fresh n (act q op) = asks_noted fresh n q (written_variable op) (act q op)
     asks_opened fresh n (check q base c) = refl
     asks_opened fresh n (seq a b) =
-        ap (λ xs. xs ++ asking_in asks (fresh_behind fresh (opened n a)) (opened n b)) (asks_opened fresh n a) ∙
-        ap (λ xs. asking_in asks fresh a ++ xs) (asks_opened (fresh_behind fresh (opened n a)) n b ∙
-        ap (λ (f : Option NumberType). asking_in asks f b) (fresh_opened fresh n a))
+        ap (λ xs. xs ++ ops_where asks (fresh_after fresh (opened n a)) (opened n b)) (asks_opened fresh n a) ∙
+        ap (λ xs. ops_where asks fresh a ++ xs) (asks_opened (fresh_after fresh (opened n a)) n b ∙
+        ap (λ (f : Option NumberType). ops_where asks f b) (fresh_opened fresh n a))
     asks_opened fresh n (choose q base c a b) =
-        ap (λ xs. (asking_of asks q None (test base c true) ++ xs) ++ asking_in asks None (opened n b)) (asks_opened None n a) ∙
-        ap (λ xs. (asking_of asks q None (test base c true) ++ asking_in asks None a) ++ xs) (asks_opened None n b)
+        ap (λ xs. (op_where asks q None (test base c true) ++ xs) ++ ops_where asks None (opened n b)) (asks_opened None n a) ∙
+        ap (λ xs. (op_where asks q None (test base c true) ++ ops_where asks None a) ++ xs) (asks_opened None n b)
     asks_opened fresh n (iterate q base c a) =
-        ap (λ xs. asking_of asks q None (test base c true) ++ xs) (append-nil (asking_in asks None (opened n a)) ∙ asks_opened None n a)
+        ap (λ xs. op_where asks q None (test base c true) ++ xs) (append-nil (ops_where asks None (opened n a)) ∙ asks_opened None n a)
     asks_opened fresh n (catch q j a) = asks_opened None n a
     asks_opened fresh n (leave m j) = refl
-    asks_opened fresh n (select q base e arms) = ap (λ xs. asking_of asks q None (give base nobody e) ++ xs) (arms_ask_opened None n arms)
+    asks_opened fresh n (select q base e arms) = ap (λ xs. op_where asks q None (store_value base nobody e) ++ xs) (arms_ask_opened None n arms)
 
-    arms_ask_opened : (fresh : Option NumberType) (n : ℕ) (arms : Arms) → asking_in_arms asks fresh (opened_arms n arms) ≡ asking_in_arms asks fresh arms
+    arms_ask_opened : (fresh : Option NumberType) (n : ℕ) (arms : Arms) → ops_where_in_arms asks fresh (opened_arms n arms) ≡ ops_where_in_arms asks fresh arms
     arms_ask_opened fresh n no_arms = refl
     arms_ask_opened fresh n (entry l arms) = arms_ask_opened fresh n arms
     arms_ask_opened fresh n (arm a arms) =
-        ap (λ xs. xs ++ asking_in_arms asks (fresh_behind fresh (opened n a)) (opened_arms n arms)) (asks_opened fresh n a) ∙
-        ap (λ xs. asking_in asks fresh a ++ xs) (arms_ask_opened (fresh_behind fresh (opened n a)) n arms ∙
-        ap (λ (f : Option NumberType). asking_in_arms asks f arms) (fresh_opened fresh n a))
+        ap (λ xs. xs ++ ops_where_in_arms asks (fresh_after fresh (opened n a)) (opened_arms n arms)) (asks_opened fresh n a) ∙
+        ap (λ xs. ops_where asks fresh a ++ xs) (arms_ask_opened (fresh_after fresh (opened n a)) n arms ∙
+        ap (λ (f : Option NumberType). ops_where_in_arms asks f arms) (fresh_opened fresh n a))

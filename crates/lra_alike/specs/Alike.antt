@@ -4,8 +4,8 @@ use Rattle.std.specs.Prelude.{◌≡◌, ℕ, ◌≤◌, ◌↔◌, List, Option
 use Rattle.lra_base.specs.declared.number_types.NumberType.{NumberType}
 use Rattle.lra_program.specs.Sites.{Site}
 use Rattle.lra_program.specs.Step.{Op}
-use Rattle.lra_operations.specs.Graph.{Exit, Node}
-use Rattle.lra_operations.specs.Asked.{asking_in}
+use Rattle.lra_operations.specs.Tree.{Exit, Node}
+use Rattle.lra_operations.specs.CheckedOperations.{ops_where}
 use Rattle.lra_flow.specs.Live.{live_after}
 use Rattle.lra_flow.specs.Opened.{opened}
 use Rattle.lra_flow.specs.Room.{most_live}
@@ -32,4 +32,4 @@ PointsOpened = (T : List Site) (n : ℕ) (g : Node) (k : ℕ) → TreeFits g k �
 
 abbrev pub AsksAlike : Type 0
 AsksAlike = (asks : Op → Bool) (fresh : Option NumberType) (n : ℕ) (g : Node) →
-    asking_in asks fresh (opened n g) ≡ asking_in asks fresh g
+    ops_where asks fresh (opened n g) ≡ ops_where asks fresh g

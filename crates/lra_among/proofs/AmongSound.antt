@@ -16,21 +16,21 @@ use Rattle.lra_domain.specs.declared.Exactness.{Exactness}
 use Rattle.lra_interference.specs.Interference.{Interference, RelyClosure, none}
 use Rattle.lra_program.specs.Program.{Expr, Cond}
 use Rattle.lra_program.specs.Step.{State, Op, run_op, test}
-use Rattle.lra_program.specs.Trails.{Trail}
+use Rattle.lra_program.specs.Traces.{Trace}
 use Rattle.lra_base.specs.declared.case_labels.CaseLabel.{CaseLabel}
 use Rattle.lra_base.specs.declared.case_labels.CaseLabel.TheVariants.{Default}
-use Rattle.lra_base.specs.CaseLabels.{are_alike}
-use Rattle.lra_operations.specs.declared.asides.Aside.{Aside}
-use Rattle.lra_operations.specs.declared.asides.Aside.TheVariants.{Entering, Noting}
-use Rattle.lra_operations.specs.Graph.{Exit, Node, empty, point, aside, act, check, seq, choose, iterate, catch, leave, select}
-use Rattle.lra_operations.specs.Graph.{Arms, no_arms, entry, arm, entries_of}
-use Rattle.lra_operations.specs.Trails.{Stop, by_jump, to_point, to_failure, to_end, IsPoint, TrailRounds, Performs, Finds, Tests, Goes}
+use Rattle.lra_base.specs.CaseLabels.{is_same_case}
+use Rattle.lra_operations.specs.declared.probes.Probe.{Probe}
+use Rattle.lra_operations.specs.declared.probes.Probe.TheVariants.{InterferencePoint, RecordWrite}
+use Rattle.lra_operations.specs.Tree.{Exit, Node, empty, point, probe, act, check, seq, choose, iterate, catch, leave, select}
+use Rattle.lra_operations.specs.Tree.{Arms, no_arms, entry, arm, entries_of}
+use Rattle.lra_operations.specs.Traces.{Stop, by_jump, to_point, to_failure, to_end, StopsAtPoint, TrailRounds, Performs, Finds, VisitsAndTests, RunsUpTo}
 use Rattle.lra_flow.specs.Plan.{Plan, Widening, mode_at}
 use Rattle.lra_flow.specs.Operations.{dropping}
 use Rattle.lra_flow.specs.Pass.{Entry, value, failing, given, Result, noted, goes_on, in_turn, behind, jumps, Leaves, GoesRound, Grows, Narrows, Through}
 use Rattle.lra_flow.specs.Pass.{PassAmong, ArmsPassAmong, MatchesNone, ComesOut}
 use Rattle.lra_flow.specs.Among.{admitted}
-use Rattle.lra_program.specs.Gifts.{gift_of}
+use Rattle.lra_program.specs.WrittenVariables.{written_variable}
 use Rattle.lra_flow.specs.Opened.{noting_of, opened, opened_arms}
 use Rattle.lra_flow.proofs.Covers.{Has, HeadHas, covered_has, stays_has}
 use Rattle.lra_flow.proofs.Keeps.{changes_keep, values_keep}
@@ -48,50 +48,50 @@ same_entries n (arm g arms) = same_entries n arms
 
 module _ {A : Type 0} (name : ℕ → A) (may : State → State → Type 0) where
   -- once round a loop
-  abbrev Round : ℕ → ℕ → Cond → Node → Trail A → Trail A → Type 0
-  Round q base c g u v = (w : Trail A) × Tests name may q base c true u w × Goes name may g w to_end v
+  abbrev Round : ℕ → ℕ → Cond → Node → Trace A → Trace A → Type 0
+  Round q base c g u v = (w : Trace A) × VisitsAndTests name may q base c true u w × RunsUpTo name may g w to_end v
 
   abbrev AtPoint : ℕ → Moment → Type 0
-  AtPoint q (stop z) = IsPoint q z
+  AtPoint q (stop z) = StopsAtPoint q z
   AtPoint q (gift p x) = ⊥
 
-  seq_happens : (g h : Node) (a : Trail A) (i : Moment) (b : Trail A) → Happens name may (seq g h) a i b
-      → Happens name may g a i b ⊎ ((m : Trail A) × Goes name may g a to_end m × Happens name may h m i b)
+  seq_happens : (g h : Node) (a : Trace A) (i : Moment) (b : Trace A) → Happens name may (seq g h) a i b
+      → Happens name may g a i b ⊎ ((m : Trace A) × RunsUpTo name may g a to_end m × Happens name may h m i b)
   seq_happens g h a (stop z) b is = is
   seq_happens g h a (gift p x) b is = is
 
-  choose_happens : (q base : ℕ) (c : Cond) (g h : Node) (a : Trail A) (i : Moment) (b : Trail A) → Happens name may (choose q base c g h) a i b
-      → ((m : Trail A) × Performs (test base c true) a m × Happens name may g m i b) ⊎ ((m : Trail A) × Performs (test base c false) a m × Happens name may h m i b)
+  choose_happens : (q base : ℕ) (c : Cond) (g h : Node) (a : Trace A) (i : Moment) (b : Trace A) → Happens name may (choose q base c g h) a i b
+      → ((m : Trace A) × Performs (test base c true) a m × Happens name may g m i b) ⊎ ((m : Trace A) × Performs (test base c false) a m × Happens name may h m i b)
   choose_happens q base c g h a (stop z) b is = is
   choose_happens q base c g h a (gift p x) b is = is
 
-  loop_happens : (q base : ℕ) (c : Cond) (g : Node) (a : Trail A) (i : Moment) (b : Trail A) → Happens name may (iterate q base c g) a i b
-      → (k : ℕ) × (m : Trail A) × TrailRounds (Round q base c g) k a m ×
-      ((AtPoint q i × (b ≡ m)) ⊎ ((w : Trail A) × Tests name may q base c true m w × Happens name may g w i b))
+  loop_happens : (q base : ℕ) (c : Cond) (g : Node) (a : Trace A) (i : Moment) (b : Trace A) → Happens name may (iterate q base c g) a i b
+      → (k : ℕ) × (m : Trace A) × TrailRounds (Round q base c g) k a m ×
+      ((AtPoint q i × (b ≡ m)) ⊎ ((w : Trace A) × VisitsAndTests name may q base c true m w × Happens name may g w i b))
   loop_happens q base c g a (stop z) b is = is
   loop_happens q base c g a (gift p x) b (k, m, rounds, w, tests, rest) = (k, m, rounds, inr (w, tests, rest))
 
-  select_happens : (q base : ℕ) (e : Expr) (arms : Arms) (a : Trail A) (i : Moment) (b : Trail A) → Happens name may (select q base e arms) a i b
-      → (l : CaseLabel) × (m : Trail A) × Finds base e arms a l m × ArmsHappen name may l false arms m i b
+  select_happens : (q base : ℕ) (e : Expr) (arms : Arms) (a : Trace A) (i : Moment) (b : Trace A) → Happens name may (select q base e arms) a i b
+      → (l : CaseLabel) × (m : Trace A) × Finds base e arms a l m × ArmsHappen name may l false arms m i b
   select_happens q base e arms a (stop z) b is = is
   select_happens q base e arms a (gift p x) b is = is
 
-  none_happens : (l : CaseLabel) (met : Bool) (a : Trail A) (i : Moment) (b : Trail A) → ArmsHappen name may l met no_arms a i b → ⊥
+  none_happens : (l : CaseLabel) (met : Bool) (a : Trace A) (i : Moment) (b : Trace A) → ArmsHappen name may l met no_arms a i b → ⊥
   none_happens l met a (stop z) b is = is
   none_happens l met a (gift p x) b is = is
 
-  entry_happens : (l k : CaseLabel) (met : Bool) (arms : Arms) (a : Trail A) (i : Moment) (b : Trail A) → ArmsHappen name may l met (entry k arms) a i b
-      → ArmsHappen name may l (met || are_alike l k) arms a i b
+  entry_happens : (l k : CaseLabel) (met : Bool) (arms : Arms) (a : Trace A) (i : Moment) (b : Trace A) → ArmsHappen name may l met (entry k arms) a i b
+      → ArmsHappen name may l (met || is_same_case l k) arms a i b
   entry_happens l k met arms a (stop z) b is = is
   entry_happens l k met arms a (gift p x) b is = is
 
-  missed_happens : (l : CaseLabel) (g : Node) (arms : Arms) (a : Trail A) (i : Moment) (b : Trail A) → ArmsHappen name may l false (arm g arms) a i b
+  missed_happens : (l : CaseLabel) (g : Node) (arms : Arms) (a : Trace A) (i : Moment) (b : Trace A) → ArmsHappen name may l false (arm g arms) a i b
       → ArmsHappen name may l false arms a i b
   missed_happens l g arms a (stop z) b is = is
   missed_happens l g arms a (gift p x) b is = is
 
-  arm_happens : (l : CaseLabel) (g : Node) (arms : Arms) (a : Trail A) (i : Moment) (b : Trail A) → ArmsHappen name may l true (arm g arms) a i b
-      → Happens name may g a i b ⊎ ((m : Trail A) × Goes name may g a to_end m × ArmsHappen name may l true arms m i b)
+  arm_happens : (l : CaseLabel) (g : Node) (arms : Arms) (a : Trace A) (i : Moment) (b : Trace A) → ArmsHappen name may l true (arm g arms) a i b
+      → Happens name may g a i b ⊎ ((m : Trace A) × RunsUpTo name may g a to_end m × ArmsHappen name may l true arms m i b)
   arm_happens l g arms a (stop z) b is = is
   arm_happens l g arms a (gift p x) b is = is
 
@@ -133,7 +133,7 @@ module _ {V H : Type 0} (m : Abstraction V H) (may : State → State → Type 0)
       λ l. let r = o l in (r.0, subst (λ (es : List (Entry V)). Contains es (given p y r.0)) (sym (behind_entries k x w f)) r.1, r.2)
 
   module _ {A : Type 0} (name : ℕ → A) where
-    caught_happens : (q : ℕ) (k : Exit) (g : Node) (a : Trail A) (i : Moment) (b : Trail A) → Happens name may (catch q k g) a i b → GoesPast k i × Happens name may g a i b
+    caught_happens : (q : ℕ) (k : Exit) (g : Node) (a : Trace A) (i : Moment) (b : Trace A) → Happens name may (catch q k g) a i b → GoesPast k i × Happens name may g a i b
     caught_happens q k g a (stop z) b is = is
     caught_happens q k g a (gift p x) b is = (tt, is)
 
@@ -144,56 +144,57 @@ module _ {A V H : Type 0} (name : ℕ → A) (may : State → State → Type 0) 
   abbrev Passed : Node → Through V
   Passed g = PassAmong V H (dropping m) (admitted o m) set g
 
-  abbrev Good : Node → Trail A → Result V → Type 0
+  abbrev Good : Node → Trace A → Result V → Type 0
   Good g a r = CoversAmong name may n m g a r
 
   -- what others make of a state is in the value behind
-  entering : (q : ℕ) (f : Option ℕ) (v : V) (x : Result V) → Passed (aside q Entering) f v x → (s t : State) → Has m v s.store → may s t → Has m x.normal t.store
+  entering : (q : ℕ) (f : Option ℕ) (v : V) (x : Result V) → Passed (probe q InterferencePoint) f v x → (s t : State) → Has m v s.store → may s t → Has m x.normal t.store
   entering q f v x (w, e, taken, is) s t h l =
       subst (λ (y : Result V). Has m y.normal t.store) (sym is) (taken.0.formed, taken.0.stores s.store t.store h.1 (changes s t l))
 
   -- leaves
-  quiet_empty : (a : Trail A) (r : Result V) (i : Moment) (b : Trail A) → Happens name may empty a i b → Owes m may n r i b.state
+  quiet_empty : (a : Trace A) (r : Result V) (i : Moment) (b : Trace A) → Happens name may empty a i b → Owes m may n r i b.state
   quiet_empty a r (stop z) b is = absurd is
   quiet_empty a r (gift p x) b is = absurd is
 
-  quiet_aside : (q : ℕ) (what : Aside) (a : Trail A) (r : Result V) (i : Moment) (b : Trail A) → Happens name may (aside q what) a i b → Owes m may n r i b.state
+  quiet_aside : (q : ℕ) (what : Probe) (a : Trace A) (r : Result V) (i : Moment) (b : Trace A) → Happens name may (probe q what) a i b → Owes m may n r i b.state
   quiet_aside q what a r (stop z) b is = absurd is
   quiet_aside q what a r (gift p x) b is = absurd is
 
-  stays_there : (q : ℕ) (what : Aside) (v : V) (a : Trail A) (r : Result V) → Has m r.normal a.state.store → Good (aside q what) a r
-  stays_there q what v a r h = record { ends = λ b e. subst (λ (z : Trail A). Has m r.normal z.state.store) (sym e) h; finds = quiet_aside q what a r }
+  stays_there : (q : ℕ) (what : Probe) (v : V) (a : Trace A) (r : Result V) → Has m r.normal a.state.store → Good (probe q what) a r
+  stays_there q what v a r h = record { ends = λ b e. subst (λ (z : Trace A). Has m r.normal z.state.store) (sym e) h; finds = quiet_aside q what a r }
 
-  point_owed : (q : ℕ) (a : Trail A) (w : V) (f : Option ℕ) → ((t : State) → may a.state t → Has m w t.store) → (i : Moment) (b : Trail A) → Happens name may (point q) a i b
+  point_owed : (q : ℕ) (a : Trace A) (w : V) (f : Option ℕ) → ((t : State) → may a.state t → Has m w t.store) → (i : Moment) (b : Trace A) → Happens name may (point q) a i b
       → Owes m may n (goes_on (value q w ∷ []) w f) i b.state
   point_owed q a w f has (stop (by_jump k)) b is = absurd is.0
   point_owed q a w f has (stop (to_point p)) b is =
-      λ t l. (w, subst (λ (x : ℕ). Contains (value q w ∷ []) (value x w)) (sym is.0) (contains_head (value q w) []), has t (subst (λ (z : Trail A). may z.state t) is.1 l))
+      λ t l. (w, subst (λ (x : ℕ). Contains (value q w ∷ []) (value x w)) (sym is.0) (contains_head (value q w) []), has t (subst (λ (z : Trace A). may z.state t) is.1 l))
   point_owed q a w f has (stop (to_failure p)) b is = absurd is.0
   point_owed q a w f has (gift p x) b is = absurd is
 
-  check_owed : (q base : ℕ) (c : Cond) (a : Trail A) (u w : V) (f : Option ℕ) → ((t : State) → run_op (test base c false) a.state ≡ Some t → Has m u t.store)
-      → (i : Moment) (b : Trail A) → Happens name may (check q base c) a i b → Owes m may n (goes_on (failing q u ∷ []) w f) i b.state
+  check_owed : (q base : ℕ) (c : Cond) (a : Trace A) (u w : V) (f : Option ℕ) → ((t : State) → run_op (test base c false) a.state ≡ Some t → Has m u t.store)
+      → (i : Moment) (b : Trace A) → Happens name may (check q base c) a i b → Owes m may n (goes_on (failing q u ∷ []) w f) i b.state
   check_owed q base c a u w f has (stop (by_jump k)) b is = absurd is.0
   check_owed q base c a u w f has (stop (to_point p)) b is = absurd is.0
   check_owed q base c a u w f has (stop (to_failure p)) b (at, same, t, ran) =
       (u, t, subst (λ (x : ℕ). Contains (failing q u ∷ []) (failing x u)) (sym at) (contains_head (failing q u) []), has t ran)
   check_owed q base c a u w f has (gift p x) b is = absurd is
 
-  leave_owed : (live : ℕ) (k : Exit) (a : Trail A) (v w : V) (f : Option ℕ) → Has m v a.state.store → (i : Moment) (b : Trail A)
+  leave_owed : (live : ℕ) (k : Exit) (a : Trace A) (v w : V) (f : Option ℕ) → Has m v a.state.store → (i : Moment) (b : Trace A)
       → Happens name may (leave live k) a i b → Owes m may n (jumps k v w f) i b.state
   leave_owed live k a v w f h (stop z) b (at, same) = subst (λ (y : Stop). Owes m may n (jumps k v w f) (stop y) b.state) (sym at)
-      (v, jump_there k v w f, subst (λ (y : Trail A). Has m v y.state.store) (sym same) h)
+      (v, jump_there k v w f, subst (λ (y : Trace A). Has m v y.state.store) (sym same) h)
   leave_owed live k a v w f h (gift p x) b is = absurd is
 
   -- a change that gives nothing to be noted
-  ungiven : (q : ℕ) (op : Op) (a : Trail A) (r : Result V) → ((x : ℕ) → gift_of op ≡ Some x → x < n → ⊥) → (i : Moment) (b : Trail A)
+  ungiven : (q : ℕ) (op : Op) (a : Trace A) (r : Result V) → ((x : ℕ) → written_variable op ≡ Some x → x < n → ⊥) → (i : Moment) (b : Trace A)
       → Happens name may (act q op) a i b → Owes m may n r i b.state
   ungiven q op a r never (stop z) b is = absurd is
   ungiven q op a r never (gift p x) b is = λ l. absurd (never x is.1 l)
 
-  given_owed : (q : ℕ) (op : Op) (a : Trail A) (k : ℕ) (w : V) (f : Option ℕ) → gift_of op ≡ Some k → ((b : Trail A) → Performs op a b → Has m w b.state.store)
-      → (i : Moment) (b : Trail A) → Happens name may (act q op) a i b → Owes m may n (goes_on (given q k w ∷ []) w f) i b.state
+  given_owed : (q : ℕ) (op : Op) (a : Trace A) (k : ℕ) (w : V) (f : Option ℕ) → written_variable op ≡ Some k →
+      ((b : Trace A) → Performs op a b → Has m w b.state.store)
+      → (i : Moment) (b : Trace A) → Happens name may (act q op) a i b → Owes m may n (goes_on (given q k w ∷ []) w f) i b.state
   given_owed q op a k w f same has (stop z) b is = absurd is
   given_owed q op a k w f same has (gift p x) b (at, gives, ran) =
       λ l. (
@@ -203,10 +204,10 @@ module _ {A V H : Type 0} (name : ℕ → A) (may : State → State → Type 0) 
         has b ran,
       )
 
-  noting : (q : ℕ) (op : Op) (k : ℕ) → gift_of op ≡ Some k → (few : Bool) → nat_lt k n ≡ few → (f : Option ℕ) (v : V) (r : Result V)
-      → Passed (if few then seq (act q op) (aside q (Noting k)) else act q op) f v r → (a : Trail A) → Has m v a.state.store → Good (act q op) a r
+  noting : (q : ℕ) (op : Op) (k : ℕ) → written_variable op ≡ Some k → (few : Bool) → nat_lt k n ≡ few → (f : Option ℕ) (v : V) (r : Result V)
+      → Passed (if few then seq (act q op) (probe q (RecordWrite k)) else act q op) f v r → (a : Trace A) → Has m v a.state.store → Good (act q op) a r
   noting q op k same true less f v r (x, y, (w, e, done, one), two, is) a h =
-      let has : (b : Trail A) → Performs op a b → Has m x.normal b.state.store =
+      let has : (b : Trace A) → Performs op a b → Has m x.normal b.state.store =
       λ b ran. subst (λ (z : Result V). Has m z.normal b.state.store) (sym one) (changes_keep V H m laws op v e w done a.state b.state h ran.0) in
       subst (Good (act q op) a) (sym (is ∙ ap (λ (z : Result V). in_turn x z z.normal z.flag) two)) (record {
         ends = has;
@@ -218,8 +219,8 @@ module _ {A V H : Type 0} (name : ℕ → A) (may : State → State → Type 0) 
         (λ x gives l. absurd (let no : false ≡ true = sym less ∙ lt-ltb k n (subst (λ (y : ℕ). y < n) (sym (same_Some k x (sym same ∙ gives))) l) in cc));
   })
 
-  acted : (q : ℕ) (op : Op) (to : Option ℕ) → gift_of op ≡ to → (f : Option ℕ) (v : V) (r : Result V) → Passed (noting_of n q to (act q op)) f v r
-      → (a : Trail A) → Has m v a.state.store → Good (act q op) a r
+  acted : (q : ℕ) (op : Op) (to : Option ℕ) → written_variable op ≡ to → (f : Option ℕ) (v : V) (r : Result V) → Passed (noting_of n q to (act q op)) f v r
+      → (a : Trace A) → Has m v a.state.store → Good (act q op) a r
   acted q op None same f v r (w, e, done, is) a h = subst (Good (act q op) a) (sym is) (record {
     ends = λ b ran. changes_keep V H m laws op v e w done a.state b.state h ran.0;
     finds = ungiven q op a (goes_on [] w (noted q e f)) (λ x gives l. absurd (let no : None ≡ Some x = sym same ∙ gives in cc));
@@ -227,19 +228,19 @@ module _ {A V H : Type 0} (name : ℕ → A) (may : State → State → Type 0) 
   acted q op (Some k) same f v r pass a h = noting q op k same (nat_lt k n) refl f v r pass a h
 
   -- loops
-  abbrev ValueAt : V → Trail A → Type 0
+  abbrev ValueAt : V → Trace A → Type 0
   ValueAt v a = (t : State) → may a.state t → Has m v t.store
 
-  abbrev HeadAt : H → Trail A → Type 0
+  abbrev HeadAt : H → Trace A → Type 0
   HeadAt h a = (t : State) → may a.state t → HeadHas m h t.store
 
   module _ (q base : ℕ) (c : Cond) (g : Node) (body : Through V)
-      (inside : (f : Option ℕ) (v : V) (r : Result V) → body f v r → (a : Trail A) → Has m v a.state.store → BodyCovers name may n m g a r) where
-    tested : (wanted : Bool) (v : V) (e : Exactness) (w : V) → Leaves (dropping m) base c wanted v e w → (a b : Trail A) → ValueAt v a → Tests name may q base c wanted a b
+      (inside : (f : Option ℕ) (v : V) (r : Result V) → body f v r → (a : Trace A) → Has m v a.state.store → BodyCovers name may n m g a r) where
+    tested : (wanted : Bool) (v : V) (e : Exactness) (w : V) → Leaves (dropping m) base c wanted v e w → (a b : Trace A) → ValueAt v a → VisitsAndTests name may q base c wanted a b
         → Has m w b.state.store
     tested wanted v e w on a b k (p, passes, performs) = changes_keep V H m laws (test base c wanted) v e w on p.state b.state (k p.state passes.0) performs.0
 
-    round_keeps : (f : Option ℕ) (v : V) (r : Result V) → GoesRound V H (dropping m) q base c body f v r → (a b : Trail A) → ValueAt v a → Round name may q base c g a b
+    round_keeps : (f : Option ℕ) (v : V) (r : Result V) → GoesRound V H (dropping m) q base c body f v r → (a b : Trace A) → ValueAt v a → Round name may q base c g a b
         → ValueAt r.normal b
     round_keeps f v r (w, e, x, on, pass, is) a b k (u, tests, goes) t l =
         subst (λ (y : Result V). Has m y.normal t.store) (sym is) ((inside (noted q e f) w x pass u (tested true v e w on a u k tests)).ends b goes t l)
@@ -248,7 +249,7 @@ module _ {A V H : Type 0} (name : ℕ → A) (may : State → State → Type 0) 
     grows_keeps : (widening : Widening) (left : ℕ) (f : Option ℕ) (h : H) (later : List H) (v : V) (r : Result V)
         → Grows V H (dropping m) q base c body widening left f h later v r
         → (last : H) × Within (HeadHas m h) (HeadHas m last) × Within (HeadHas m last) (Has m v)
-        × ((a b : Trail A) → HeadAt last a → Round name may q base c g a b → HeadAt last b)
+        × ((a b : Trace A) → HeadAt last a → Round name may q base c g a b → HeadAt last b)
         × ((i : Option ℕ) × GoesRound V H (dropping m) q base c body i v r)
     grows_keeps widening left f h [] v r ((e, valued, turn), stays) = (
       h,
@@ -264,10 +265,10 @@ module _ {A V H : Type 0} (name : ℕ → A) (may : State → State → Type 0) 
 
     -- narrowed, the value still has what others make of all that some rounds reach from the first one
     narrows_keeps : (more : ℕ) (first u : V) (x : Result V) (v : V) (r : Result V) → Narrows V H (dropping m) q base c body more first u x v r
-        → (a : Trail A) → ValueAt first a
-        → ((k : ℕ) (b : Trail A) → TrailRounds (Round name may q base c g) k a b → ValueAt u b)
+        → (a : Trace A) → ValueAt first a
+        → ((k : ℕ) (b : Trace A) → TrailRounds (Round name may q base c g) k a b → ValueAt u b)
         → ((i : Option ℕ) × GoesRound V H (dropping m) q base c body i u x)
-        → ((k : ℕ) (b : Trail A) → TrailRounds (Round name may q base c g) k a b → ValueAt v b) × ((i : Option ℕ) × GoesRound V H (dropping m) q base c body i v r)
+        → ((k : ℕ) (b : Trace A) → TrailRounds (Round name may q base c g) k a b → ValueAt v b) × ((i : Option ℕ) × GoesRound V H (dropping m) q base c body i v r)
     narrows_keeps zero first u x v r (same, is) a k all turned = (
       λ j b rounds. subst (λ (y : V). ValueAt y b) (sym same) (all j b rounds),
       (
@@ -279,23 +280,23 @@ module _ {A V H : Type 0} (name : ℕ → A) (may : State → State → Type 0) 
     narrows_keeps (suc more) first u x v r (next, y, e, joined, turn, rest) a k all turned =
         narrows_keeps more first next y v r rest a k reached (noted q e x.flag, turn)
       where
-        reached : (j : ℕ) (b : Trail A) → TrailRounds (Round name may q base c g) j a b → ValueAt next b
-        reached zero b is t l = covered_has m laws first next joined.0.formed joined.0.left t.store (k t (subst (λ (z : Trail A). may z.state t) is l))
+        reached : (j : ℕ) (b : Trace A) → TrailRounds (Round name may q base c g) j a b → ValueAt next b
+        reached zero b is t l = covered_has m laws first next joined.0.formed joined.0.left t.store (k t (subst (λ (z : Trace A). may z.state t) is l))
         reached (suc j) b (w, before, one) t l =
             covered_has m laws x.normal next joined.0.formed joined.0.right t.store (round_keeps turned.0 u x turned.1 w b (all j w before) one t l)
 
-    closed_rounds : (h : H) → ((a b : Trail A) → HeadAt h a → Round name may q base c g a b → HeadAt h b) → (a : Trail A) → HeadAt h a
-        → (k : ℕ) (b : Trail A) → TrailRounds (Round name may q base c g) k a b → HeadAt h b
-    closed_rounds h closed a k zero b is = subst (λ (z : Trail A). HeadAt h z) (sym is) k
+    closed_rounds : (h : H) → ((a b : Trace A) → HeadAt h a → Round name may q base c g a b → HeadAt h b) → (a : Trace A) → HeadAt h a
+        → (k : ℕ) (b : Trace A) → TrailRounds (Round name may q base c g) k a b → HeadAt h b
+    closed_rounds h closed a k zero b is = subst (λ (z : Trace A). HeadAt h z) (sym is) k
     closed_rounds h closed a k (suc j) b (w, before, one) = closed w b (closed_rounds h closed a k j w before) one
 
-    top_owed : (top : V) (z : Result V) (out : V) (f : Option ℕ) (i : Moment) (a b : Trail A) → AtPoint name may q i → b ≡ a → ValueAt top a
+    top_owed : (top : V) (z : Result V) (out : V) (f : Option ℕ) (i : Moment) (a b : Trace A) → AtPoint name may q i → b ≡ a → ValueAt top a
         → Owes m may n (record z { entries = value q top ∷ z.entries; normal = out; flag = f }) i b.state
     top_owed top z out f (stop (by_jump k)) a b at same has = absurd at
     top_owed top z out f (stop (to_point p)) a b at same has = λ t l. (
       top,
       subst (λ (x : ℕ). Contains (value q top ∷ z.entries) (value x top)) (sym at) (contains_head (value q top) z.entries),
-      has t (subst (λ (y : Trail A). may y.state t) same l),
+      has t (subst (λ (y : Trace A). may y.state t) same l),
     )
     top_owed top z out f (stop (to_failure p)) a b at same has = absurd at
     top_owed top z out f (gift p x) a b at same has = absurd at
@@ -305,15 +306,15 @@ module _ {A V H : Type 0} (name : ℕ → A) (may : State → State → Type 0) 
         → (dropping m).started v rows h → Grows V H (dropping m) q base c body set.widening set.delay f h later u s
         → Narrows V H (dropping m) q base c body set.narrow v u s top t → Leaves (dropping m) base c false top e out
         → r ≡ record t { normal = out; flag = noted q e t.flag }
-        → (a : Trail A) → ValueAt v a → Good (iterate q base c g) a r
+        → (a : Trace A) → ValueAt v a → Good (iterate q base c g) a r
     loop_covers f v r rows h later u top out s t e started grown narrowed off is a k =
         let i = grows_keeps set.widening set.delay f h later u s grown in
         let begun : HeadAt i.0 a = λ w l. i.1 w.store (started.0.formed, started.0.stores w.store (k w l).1) in
-        let all : (j : ℕ) (b : Trail A) → TrailRounds (Round name may q base c g) j a b → ValueAt u b =
+        let all : (j : ℕ) (b : Trace A) → TrailRounds (Round name may q base c g) j a b → ValueAt u b =
         λ j b rounds w l. i.2 w.store (closed_rounds i.0 i.3 a begun j b rounds w l) in
         let k_top = narrows_keeps set.narrow v u s top t narrowed a k all i.4 in
         let (w, x, z, on, pass, turned) = k_top.1.1 in
-        let last : (p b : Trail A) → ValueAt top p → Tests name may q base c true p b → BodyCovers name may n m g b z =
+        let last : (p b : Trace A) → ValueAt top p → VisitsAndTests name may q base c true p b → BodyCovers name may n m g b z =
         λ p b has tests. inside (noted q x k_top.1.0) w z pass b (tested true top x w on p b has tests) in
         subst (Good (iterate q base c g) a) (sym (is ∙ ap (λ (y : Result V). record y { normal = out; flag = noted q e t.flag }) turned)) (record {
           ends = λ b (j, p, rounds, tests). tested false top e out off p b (k_top.0 j p rounds) tests;
@@ -324,8 +325,8 @@ module _ {A V H : Type 0} (name : ℕ → A) (may : State → State → Type 0) 
         })
 
   -- others act at a body's end
-  body_covers : (q : ℕ) (g : Node) → ((f : Option ℕ) (v : V) (r : Result V) → Passed (opened n g) f v r → (a : Trail A) → Has m v a.state.store → Good g a r)
-      → (f : Option ℕ) (v : V) (r : Result V) → Passed (seq (opened n g) (aside q Entering)) f v r → (a : Trail A) → Has m v a.state.store → BodyCovers name may n m g a r
+  body_covers : (q : ℕ) (g : Node) → ((f : Option ℕ) (v : V) (r : Result V) → Passed (opened n g) f v r → (a : Trace A) → Has m v a.state.store → Good g a r)
+      → (f : Option ℕ) (v : V) (r : Result V) → Passed (seq (opened n g) (probe q InterferencePoint)) f v r → (a : Trace A) → Has m v a.state.store → BodyCovers name may n m g a r
   body_covers q g inside f v r (x, y, one, two, is) a h =
       let i = inside f v x one a h in
       subst (BodyCovers name may n m g a) (sym is) (record {
@@ -334,9 +335,9 @@ module _ {A V H : Type 0} (name : ℕ → A) (may : State → State → Type 0) 
       })
 
   mutual
-    pub covers_among : (g : Node) (f : Option ℕ) (v : V) (r : Result V) → Passed (opened n g) f v r → (a : Trail A) → Has m v a.state.store → Good g a r
+    pub covers_among : (g : Node) (f : Option ℕ) (v : V) (r : Result V) → Passed (opened n g) f v r → (a : Trace A) → Has m v a.state.store → Good g a r
     covers_among empty f v r is a h = subst (Good empty a) (sym is) (record {
-      ends = λ b e. subst (λ (z : Trail A). Has m v z.state.store) (sym e) h;
+      ends = λ b e. subst (λ (z : Trace A). Has m v z.state.store) (sym e) h;
       finds = quiet_empty a (goes_on [] v f);
     })
     covers_among (point q) f v r (x, y, one, two, is) a h =
@@ -345,19 +346,19 @@ module _ {A V H : Type 0} (name : ℕ → A) (may : State → State → Type 0) 
           finds = λ i b d. owed_right m may n x (goes_on (value q x.normal ∷ []) x.normal x.flag) x.normal x.flag i b.state
               (point_owed q a x.normal x.flag (λ t l. entering q f v x one a.state t h l) i b d);
         })
-    covers_among (aside q Entering) f v r (w, e, taken, is) a h =
-        stays_there q Entering v a r (subst (λ (z : Result V). Has m z.normal a.state.store) (sym is)
+    covers_among (probe q InterferencePoint) f v r (w, e, taken, is) a h =
+        stays_there q InterferencePoint v a r (subst (λ (z : Result V). Has m z.normal a.state.store) (sym is)
         (taken.0.formed, taken.0.stores a.state.store a.state.store h.1 (none a.state.store)))
-    covers_among (aside q (Noting place)) f v r is a h =
-        stays_there q (Noting place) v a r (subst (λ (z : Result V). Has m z.normal a.state.store) (sym is) h)
-    covers_among (act q op) f v r pass a h = acted q op (gift_of op) refl f v r pass a h
+    covers_among (probe q (RecordWrite place)) f v r is a h =
+        stays_there q (RecordWrite place) v a r (subst (λ (z : Result V). Has m z.normal a.state.store) (sym is) h)
+    covers_among (act q op) f v r pass a h = acted q op (written_variable op) refl f v r pass a h
     covers_among (check q base c) f v r (u, w, d, e, off, on, is) a h = subst (Good (check q base c) a) (sym is) (record {
       ends = λ b ran. changes_keep V H m laws (test base c true) v e w on a.state b.state h ran.0;
       finds = check_owed q base c a u w (noted q e (noted q d f)) (λ t ran. changes_keep V H m laws (test base c false) v d u off a.state t h ran);
     })
     covers_among (seq g k) f v r (x, y, one, two, is) a h =
         let i = covers_among g f v x one a h in
-        let j : (b : Trail A) → Goes name may g a to_end b → Good k b y = λ b goes. covers_among k x.flag x.normal y two b (i.ends b goes) in
+        let j : (b : Trace A) → RunsUpTo name may g a to_end b → Good k b y = λ b goes. covers_among k x.flag x.normal y two b (i.ends b goes) in
         subst (Good (seq g k) a) (sym is) (record {
           ends = λ b d. (j d.0 d.1).ends b d.2;
           finds = λ z b d. elim (seq_happens name may g k a z b d) [
@@ -366,9 +367,9 @@ module _ {A V H : Type 0} (name : ℕ → A) (may : State → State → Type 0) 
           ];
         })
     covers_among (choose q base c g k) f v r (on, off, w, d, e, i, x, y, is_on, one, is_off, two, joined, is) a h =
-        let j : (b : Trail A) → Performs (test base c true) a b → Good g b x =
+        let j : (b : Trace A) → Performs (test base c true) a b → Good g b x =
         λ b ran. covers_among g (noted q d f) on x one b (changes_keep V H m laws (test base c true) v d on is_on a.state b.state h ran.0) in
-        let l : (b : Trail A) → Performs (test base c false) a b → Good k b y =
+        let l : (b : Trace A) → Performs (test base c false) a b → Good k b y =
         λ b ran. covers_among k (noted q e x.flag) off y two b (changes_keep V H m laws (test base c false) v e off is_off a.state b.state h ran.0) in
         subst (Good (choose q base c g k) a) (sym is) (record {
           ends = λ b p. elim p [
@@ -381,7 +382,7 @@ module _ {A V H : Type 0} (name : ℕ → A) (may : State → State → Type 0) 
           ];
         })
     covers_among (iterate q base c g) f v r (x, y, one, (head, later, u, top, out, s, t, e, started, grown, narrowed, off, same), is) a h =
-        let i = loop_covers q base c g (Passed (seq (opened n g) (aside q Entering))) (body_covers q g (covers_among g)) x.flag x.normal y _ head later u top out s t e
+        let i = loop_covers q base c g (Passed (seq (opened n g) (probe q InterferencePoint))) (body_covers q g (covers_among g)) x.flag x.normal y _ head later u top out s t e
         started grown narrowed off same a (λ b l. entering q f v x one a.state b h l) in
         subst (Good (iterate q base c g) a) (sym is)
         (record { ends = i.ends; finds = λ z b d. owed_right m may n x y y.normal y.flag z b.state (i.finds z b d) })
@@ -399,13 +400,13 @@ module _ {A V H : Type 0} (name : ℕ → A) (may : State → State → Type 0) 
     })
     covers_among (select q base e arms) f v r (other, x, left, pass) a h =
         let labels = entries_of arms in
-        let d = list_any (are_alike Default) labels in
+        let d = list_any (is_same_case Default) labels in
         let passed : ArmsPassAmong V H (dropping m) (admitted o m) set q base e d v other (opened_arms n arms) (noted q x f) None r =
-        subst (λ (ls : List CaseLabel). ArmsPassAmong V H (dropping m) (admitted o m) set q base e (list_any (are_alike Default) ls) v other (opened_arms n arms)
+        subst (λ (ls : List CaseLabel). ArmsPassAmong V H (dropping m) (admitted o m) set q base e (list_any (is_same_case Default) ls) v other (opened_arms n arms)
         (noted q x f) None r) (same_entries n arms) pass in
         let unmatched : MatchesNone (dropping m) base e labels v x other =
         subst (λ (ls : List CaseLabel). MatchesNone (dropping m) base e ls v x other) (same_entries n arms) left in
-        let inside : (l : CaseLabel) (b : Trail A) → Finds base e arms a l b → ArmsCoverAmong name may n m l false arms b r =
+        let inside : (l : CaseLabel) (b : Trace A) → Finds base e arms a l b → ArmsCoverAmong name may n m l false arms b r =
         λ l b ((z, got, same, is), met). arms_cover q base e d v other arms (noted q x f) None r passed l false b tt
         (subst (λ (st : List ℤ). Waits V H m laws (changes_keep V H m laws) (values_keep V H m laws) base e d v other l false labels st)
         (sym (ap (λ (y : State). y.store) same))
@@ -420,13 +421,13 @@ module _ {A V H : Type 0} (name : ℕ → A) (may : State → State → Type 0) 
         }
 
     arms_cover : (q base : ℕ) (e : Expr) (d : Bool) (v other : V) (arms : Arms) (f : Option ℕ) (running : Option V) (r : Result V)
-        → ArmsPassAmong V H (dropping m) (admitted o m) set q base e d v other (opened_arms n arms) f running r → (l : CaseLabel) (met : Bool) (a : Trail A)
+        → ArmsPassAmong V H (dropping m) (admitted o m) set q base e d v other (opened_arms n arms) f running r → (l : CaseLabel) (met : Bool) (a : Trace A)
         → Runs V H m laws (changes_keep V H m laws) (values_keep V H m laws) met running a.state.store
         → Waits V H m laws (changes_keep V H m laws) (values_keep V H m laws) base e d v other l met (entries_of arms) a.state.store
         → ArmsCoverAmong name may n m l met arms a r
     arms_cover q base e d v other no_arms f running r (w, x, out, is) l met a runs waits =
         subst (ArmsCoverAmong name may n m l met no_arms a) (sym is) (record {
-          ends = λ b same. subst (λ (z : Trail A). Has m w z.state.store) (sym same) (comes_behind met running d runs waits out);
+          ends = λ b same. subst (λ (z : Trace A). Has m w z.state.store) (sym same) (comes_behind met running d runs waits out);
           finds = λ i b d. absurd (none_happens name may l met a i b d);
         })
       where
@@ -441,10 +442,10 @@ module _ {A V H : Type 0} (name : ℕ → A) (may : State → State → Type 0) 
             comes_other V H m laws (changes_keep V H m laws) (values_keep V H m laws) to other x w (subst (λ (b : Bool). ComesOut (dropping m) b to other x w) undefaulted out)
             a.state.store has
     arms_cover q base e d v other (entry k arms) f running r (u, w, x, y, enters, joins, rest) l met a runs waits =
-        let i = arms_cover q base e d v other arms (noted q y (noted q x f)) (Some w) r rest l (met || are_alike l k) a
-        (entered V H m laws (changes_keep V H m laws) (values_keep V H m laws) base e d v other l k (entries_of arms) a.state.store met (are_alike l k) running x y u w refl
+        let i = arms_cover q base e d v other arms (noted q y (noted q x f)) (Some w) r rest l (met || is_same_case l k) a
+        (entered V H m laws (changes_keep V H m laws) (values_keep V H m laws) base e d v other l k (entries_of arms) a.state.store met (is_same_case l k) running x y u w refl
         enters joins runs waits)
-        (waits_on V H m laws (changes_keep V H m laws) (values_keep V H m laws) base e d v other l k (entries_of arms) a.state.store met (are_alike l k) refl waits) in
+        (waits_on V H m laws (changes_keep V H m laws) (values_keep V H m laws) base e d v other l k (entries_of arms) a.state.store met (is_same_case l k) refl waits) in
         record { ends = i.ends; finds = λ z b p. i.finds z b (entry_happens name may l k met arms a z b p) }
     arms_cover q base e d v other (arm g arms) f running r (w, x, y, from, one, rest, is) l false a runs waits =
         let i = arms_cover q base e d v other arms x.flag (Some x.normal) y rest l false a tt waits in
@@ -455,7 +456,7 @@ module _ {A V H : Type 0} (name : ℕ → A) (may : State → State → Type 0) 
     arms_cover q base e d v other (arm g arms) f None r pass l true a runs waits = absurd runs
     arms_cover q base e d v other (arm g arms) f (Some u) r (w, x, y, from, one, rest, is) l true a runs waits =
         let i = covers_among g f w x one a (subst (λ (z : V). Has m z a.state.store) (sym from) runs) in
-        let j : (b : Trail A) → Goes name may g a to_end b → ArmsCoverAmong name may n m l true arms b y =
+        let j : (b : Trace A) → RunsUpTo name may g a to_end b → ArmsCoverAmong name may n m l true arms b y =
         λ b goes. arms_cover q base e d v other arms x.flag (Some x.normal) y rest l true b (i.ends b goes) tt in
         subst (ArmsCoverAmong name may n m l true (arm g arms) a) (sym is) (record {
           ends = λ b p. (j p.0 p.1).ends b p.2;

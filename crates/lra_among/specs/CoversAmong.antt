@@ -5,9 +5,9 @@ use Rattle.lra_base.specs.declared.case_labels.CaseLabel.{CaseLabel}
 use Rattle.lra_domain.specs.Abstraction.{Abstraction}
 use Rattle.lra_interference.specs.Interference.{Interference, RelyClosure}
 use Rattle.lra_program.specs.Step.{State}
-use Rattle.lra_program.specs.Trails.{Trail}
-use Rattle.lra_operations.specs.Graph.{Node, Arms}
-use Rattle.lra_operations.specs.Trails.{Stop, by_jump, to_point, to_failure, to_end, stopped, Goes, ArmsGo}
+use Rattle.lra_program.specs.Traces.{Trace}
+use Rattle.lra_operations.specs.Tree.{Node, Arms}
+use Rattle.lra_operations.specs.Traces.{Stop, by_jump, to_point, to_failure, to_end, stopped, RunsUpTo, ArmsRunUpTo}
 use Rattle.lra_flow.specs.Plan.{Plan}
 use Rattle.lra_flow.specs.Pass.{value, failing, given, Result, jumps_of}
 use Rattle.lra_flow.specs.Among.{DerivedPass}
@@ -26,12 +26,12 @@ pub data Moment : Type 0 where
   gift : ℕ → ℕ → Moment
 
 module _ {A : Type 0} (name : ℕ → A) (may : State → State → Type 0) where
-  abbrev pub Happens : Node → Trail A → Moment → Trail A → Type 0
-  Happens g a (stop z) b = Goes name may g a (stopped z) b
+  abbrev pub Happens : Node → Trace A → Moment → Trace A → Type 0
+  Happens g a (stop z) b = RunsUpTo name may g a (stopped z) b
   Happens g a (gift p x) b = Gives name may g a p x b
 
-  abbrev pub ArmsHappen : CaseLabel → Bool → Arms → Trail A → Moment → Trail A → Type 0
-  ArmsHappen l met arms a (stop z) b = ArmsGo name may l met arms a (stopped z) b
+  abbrev pub ArmsHappen : CaseLabel → Bool → Arms → Trace A → Moment → Trace A → Type 0
+  ArmsHappen l met arms a (stop z) b = ArmsRunUpTo name may l met arms a (stopped z) b
   ArmsHappen l met arms a (gift p x) b = ArmsGive name may l met arms a p x b
 
 module _ {V H : Type 0} (m : Abstraction V H) (may : State → State → Type 0) (n : ℕ) where
@@ -43,23 +43,23 @@ module _ {V H : Type 0} (m : Abstraction V H) (may : State → State → Type 0)
   Owes r (gift p x) s = x < n → (w : V) × Contains r.entries (given p x w) × Has m w s.store
 
 module _ {A V H : Type 0} (name : ℕ → A) (may : State → State → Type 0) (n : ℕ) (m : Abstraction V H) where
-  pub record CoversAmong (g : Node) (a : Trail A) (r : Result V) : Type 0 where
-    pub ends : (b : Trail A) → Goes name may g a to_end b → Has m r.normal b.state.store
-    pub finds : (i : Moment) (b : Trail A) → Happens name may g a i b → Owes m may n r i b.state
+  pub record CoversAmong (g : Node) (a : Trace A) (r : Result V) : Type 0 where
+    pub ends : (b : Trace A) → RunsUpTo name may g a to_end b → Has m r.normal b.state.store
+    pub finds : (i : Moment) (b : Trace A) → Happens name may g a i b → Owes m may n r i b.state
 
   -- of a loop's body: what others make of what comes to its end
-  pub record BodyCovers (g : Node) (a : Trail A) (r : Result V) : Type 0 where
-    pub ends : (b : Trail A) → Goes name may g a to_end b → (t : State) → may b.state t → Has m r.normal t.store
-    pub finds : (i : Moment) (b : Trail A) → Happens name may g a i b → Owes m may n r i b.state
+  pub record BodyCovers (g : Node) (a : Trace A) (r : Result V) : Type 0 where
+    pub ends : (b : Trace A) → RunsUpTo name may g a to_end b → (t : State) → may b.state t → Has m r.normal t.store
+    pub finds : (i : Moment) (b : Trace A) → Happens name may g a i b → Owes m may n r i b.state
 
   -- of arms, by the label to which a value goes, and whether it was met
-  pub record ArmsCoverAmong (l : CaseLabel) (met : Bool) (arms : Arms) (a : Trail A) (r : Result V) : Type 0 where
-    pub ends : (b : Trail A) → ArmsGo name may l met arms a to_end b → Has m r.normal b.state.store
-    pub finds : (i : Moment) (b : Trail A) → ArmsHappen name may l met arms a i b → Owes m may n r i b.state
+  pub record ArmsCoverAmong (l : CaseLabel) (met : Bool) (arms : Arms) (a : Trace A) (r : Result V) : Type 0 where
+    pub ends : (b : Trace A) → ArmsRunUpTo name may l met arms a to_end b → Has m r.normal b.state.store
+    pub finds : (i : Moment) (b : Trace A) → ArmsHappen name may l met arms a i b → Owes m may n r i b.state
 
 -- a pass among others over a tree with their places in it, from a store of its value: each run of the tree among them;
 -- what the first n variables get is noted
 abbrev pub PassesCoverAmong : {V H : Type 0} → Interference V → Abstraction V H → Type 0
 PassesCoverAmong {V} o m = (set : Plan) (n : ℕ) (g : Node) (f : Option ℕ) (v : V) (r : Result V)
-    → DerivedPass o m set (opened n g) f v r → (a : Trail ℕ) → Has m v a.state.store
+    → DerivedPass o m set (opened n g) f v r → (a : Trace ℕ) → Has m v a.state.store
     → CoversAmong (λ q. q) (MayBecome o.rely) n m g a r

@@ -6,7 +6,7 @@ use Rattle.std.proofs.lemmas.List.{take-append-le}
 use Rattle.lra_base.specs.declared.refusals.Cause.{Cause}
 use Rattle.lra_base.specs.declared.refusals.Cause.TheVariants.{TooLong}
 use Rattle.lra_base.specs.declared.refusals.Place.{Place}
-use Rattle.lra_base.specs.Places.{place_behind, greatest_length}
+use Rattle.lra_base.specs.Places.{place_after, greatest_length}
 use Rattle.lra_tree.specs.Trees.{FileTree}
 use Rattle.lra_tree.specs.Grammar.{Spells}
 use Rattle.lra_meaning.specs.Refuse.{Refuse, too_long, bad_token, bad_text, bad_tree, Accepts}
@@ -31,11 +31,11 @@ pub record IsTelling (Tells : List ℕ → List ℕ → Status → Type 0) (told
 pub not_past : (bytes : List ℕ) → greatest_length < length bytes → length bytes ≤ greatest_length → ⊥
 not_past bytes long within = omega arith
 
-longer_too_long : (bytes rest : List ℕ) → greatest_length < length bytes → Refuse Spells (bytes ++ rest) TooLong (place_behind (take greatest_length bytes))
+longer_too_long : (bytes rest : List ℕ) → greatest_length < length bytes → Refuse Spells (bytes ++ rest) TooLong (place_after (take greatest_length bytes))
 longer_too_long bytes rest past =
     let longer : greatest_length < length (bytes ++ rest) = grind (arith, common_steps) in
     let reached : greatest_length ≤ length bytes = omega arith in
-    subst (λ (front : List ℕ). Refuse Spells (bytes ++ rest) TooLong (place_behind front)) (take-append-le greatest_length bytes rest reached) (too_long longer)
+    subst (λ (front : List ℕ). Refuse Spells (bytes ++ rest) TooLong (place_after front)) (take-append-le greatest_length bytes rest reached) (too_long longer)
 
 pub longer_refused : (bytes rest : List ℕ) (c : Cause) (at : Place) → greatest_length < length bytes → Refuse Spells bytes c at → Refuse Spells (bytes ++ rest) c at
 longer_refused bytes rest _ _ long (too_long past) = longer_too_long bytes rest past

@@ -4,7 +4,7 @@ ghost use Rattle.std.specs.Prelude.{◌≡◌, ◌++◌, map, IfOk, OnOk};
 ghost use Rattle.lra_program.specs.Accesses.{expr_accesses, cond_accesses, arguments_accesses, aim_accesses};
 ghost use Rattle.lra_program.specs.Accesses.{op_accesses};
 ghost use Rattle.lra_program.specs.ProgramViews.{argument_view, cond_view, element_view, expr_view, operation_view};
-ghost use Rattle.lra_operations.specs.GraphViews.{op_view};
+ghost use Rattle.lra_operations.specs.TreeViews.{op_view};
 ghost use Rattle.lra_doings.specs.Doings.{doing_view};
 ghost use Rattle.lra_array.specs.Listed.{access_view, operand_accesses, side_accesses};
 
@@ -142,9 +142,9 @@ fn push_change<'a>(op: &'a Op, all: &mut Vec<Access<'a>>) -> Result<(), AllocErr
         map access_view all.old.items ++ op_accesses (op_view op.now)) }
 {
     match op {
-        Op::Append(_) | Op::Fill(_) | Op::GiveAny(_) | Op::Keep(_) => Ok(()),
-        Op::Give(_, _, e) => push_accesses(e, all),
-        Op::GiveElement(_, element, e) => {
+        Op::Append(_) | Op::Fill(_) | Op::Havoc(_) | Op::TruncateTo(_) => Ok(()),
+        Op::StoreValue(_, _, e) => push_accesses(e, all),
+        Op::StoreElement(_, element, e) => {
             push_aim(element, all)?;
             push_accesses(e, all)
         }

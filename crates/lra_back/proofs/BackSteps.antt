@@ -11,7 +11,7 @@ use Rattle.lra_domain.specs.declared.Exactness.{Exactness}
 use Rattle.lra_program.specs.Program.{Cond}
 use Rattle.lra_program.specs.declared.program.GlobalVariable.{GlobalVariable}
 use Rattle.lra_program.specs.Sites.{Site}
-use Rattle.lra_operations.specs.Graph.{Node}
+use Rattle.lra_operations.specs.Tree.{Node}
 use Rattle.lra_flow.specs.Analysis.{IsUnreachable}
 use Rattle.lra_flow.proofs.Keeping.{some_is}
 use Rattle.lra_flow.specs.Room.{most_live}

@@ -9,7 +9,7 @@ use Rattle.lra_domain.specs.declared.Mode.{Mode}
 use Rattle.lra_domain.specs.declared.Mode.TheVariants.{Join, Widen}
 use Rattle.lra_program.specs.declared.program.GlobalVariable.{GlobalVariable}
 use Rattle.lra_program.specs.Sites.{Site}
-use Rattle.lra_operations.specs.Graph.{Node}
+use Rattle.lra_operations.specs.Tree.{Node}
 use Rattle.lra_flow.specs.Pass.{JoinsRunning, RunsFrom, noted}
 use Rattle.lra_flow.proofs.Transfer.{Matters, Transfers, aligned, leaves}
 use Rattle.lra_back.specs.Operations.{BackOperations, Undoes}

@@ -6,7 +6,7 @@ use Rattle.std.proofs.lemmas.List.{append-nil, map-append, take-append-drop}
 use Rattle.std.proofs.lemmas.List.Elements.{filter-append}
 use Rattle.lra_program.specs.Program.{Cond}
 use Rattle.lra_program.specs.Step.{test}
-use Rattle.lra_operations.specs.Graph.{Node}
+use Rattle.lra_operations.specs.Tree.{Node}
 use Rattle.lra_ways.specs.Ways.{Step, does, Segment, denies}
 use Rattle.lra_ways.specs.Stretches.{AreWays, End, leaves, meets, Stretch, met, segments_at}
 use Rattle.lra_ways.specs.StretchViews.{move_view, seen, stretch_view}

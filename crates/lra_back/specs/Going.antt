@@ -14,7 +14,7 @@ use Rattle.lra_program.specs.Program.{Cond}
 use Rattle.lra_program.specs.ProgramViews.{cond_view}
 use Rattle.lra_program.specs.declared.program.GlobalVariable.{GlobalVariable}
 use Rattle.lra_program.specs.Sites.{Site}
-use Rattle.lra_operations.specs.Graph.{Node}
+use Rattle.lra_operations.specs.Tree.{Node}
 use Rattle.lra_flow.specs.Pass.{Leaves}
 use Rattle.lra_ways.specs.Ways.{comes_to, denies}
 use Rattle.lra_ways.specs.Stretches.{AreWays, End, leaves, meets, Stretch}

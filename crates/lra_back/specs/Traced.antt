@@ -12,7 +12,7 @@ use Rattle.lra_program.specs.declared.program.GlobalVariable.{GlobalVariable}
 use Rattle.lra_program.specs.Step.{Config, test}
 use Rattle.lra_program.specs.Run.{Point, IsOn, IsFailing, Reaches, Steps}
 use Rattle.lra_program.specs.Sites.{Site}
-use Rattle.lra_operations.specs.Graph.{Node}
+use Rattle.lra_operations.specs.Tree.{Node}
 use Rattle.lra_flow.specs.Analysis.{IsUnreachable}
 use Rattle.lra_flow.specs.Pass.{Leaves, noted}
 use Rattle.lra_ways.specs.Ways.{Segment, comes_to, denies, does}

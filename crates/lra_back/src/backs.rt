@@ -1,8 +1,8 @@
 //! Going back from an assertion of a program.
 
 ghost use Rattle.std.specs.Prelude.{◌≡◌, ◌≢◌, ◌↔◌, ℕ, [], true, map, Err, IfOk};
-ghost use Rattle.lra_operations.specs.Graph.{Node};
-ghost use Rattle.lra_operations.specs.GraphViews.{node_view, site_view};
+ghost use Rattle.lra_operations.specs.Tree.{Node};
+ghost use Rattle.lra_operations.specs.TreeViews.{node_view, site_view};
 ghost use Rattle.lra_flow.specs.Analysis.{IsUnreachable};
 ghost use Rattle.lra_sides.specs.Tables.{IsTable};
 ghost use Rattle.lra_paths.specs.Paths.{AreFewIn, HasTooManyIn};
@@ -20,7 +20,7 @@ use crate::meets::Met;
 use crate::seeds::{deny, find_asserted};
 use crate::tasks::Task;
 use lra_domain::{Backward, Exactness};
-use lra_operations::{Graph, Site};
+use lra_operations::{InlinedProgram, Site};
 use lra_outcomes::note;
 use lra_paths::{Paths, PathsFailure, Source, find_paths};
 use lra_program::GlobalVariable;
@@ -215,7 +215,7 @@ fn trace<D: Backward>(
 pub fn back<D: Backward>(
     alloc: Global,
     globals: &[GlobalVariable],
-    graph: &Graph,
+    graph: &InlinedProgram,
     forward: &[D],
     flagged: Option<usize>,
     point: usize,

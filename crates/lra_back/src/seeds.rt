@@ -4,7 +4,7 @@ ghost use Rattle.std.specs.Prelude.{◌≡◌, ◌≤◌, ℕ, [], ◌∷◌, ma
 ghost use Rattle.lra_program.specs.Program as program;
 ghost use Rattle.lra_program.specs.ProgramViews.{cond_view};
 ghost use Rattle.lra_program.specs.Step.{test};
-ghost use Rattle.lra_operations.specs.Graph.{Node};
+ghost use Rattle.lra_operations.specs.Tree.{Node};
 ghost use Rattle.lra_ways.specs.Ways.{does};
 ghost use Rattle.lra_ways.specs.Stretches.{AreWays};
 ghost use Rattle.lra_ways.specs.StretchViews.{move_view, seen, stretch_view};

@@ -7,12 +7,12 @@ use Rattle.lra_base.specs.declared.case_labels.CaseLabel.{CaseLabel}
 use Rattle.lra_base.specs.declared.case_labels.CaseLabel.TheVariants.{Case, Default}
 
 -- they name one value, or both are `default`
-abbrev pub are_alike : CaseLabel → CaseLabel → Bool
-are_alike (Case y) (Case z) = int_eq y z
-are_alike (Case y) Default = false
-are_alike Default (Case z) = false
-are_alike Default Default = true
+abbrev pub is_same_case : CaseLabel → CaseLabel → Bool
+is_same_case (Case y) (Case z) = int_eq y z
+is_same_case (Case y) Default = false
+is_same_case Default (Case z) = false
+is_same_case Default Default = true
 
 -- behind the label that names the value, wherever it stands; where none does, behind `default`
 abbrev pub goal_of : ℤ → List CaseLabel → CaseLabel
-goal_of z labels = if list_any (are_alike (Case z)) labels then Case z else Default
+goal_of z labels = if list_any (is_same_case (Case z)) labels then Case z else Default

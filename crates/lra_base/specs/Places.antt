@@ -11,8 +11,8 @@ place_from p [] = p
 place_from p (c ∷ cs) = place_from (next_place p c) cs
 
 -- the place of the byte behind these, which begin the text
-abbrev pub place_behind : List ℕ → Place
-place_behind bytes = place_from (record { line = 1; column = 1 }) bytes
+abbrev pub place_after : List ℕ → Place
+place_after bytes = place_from (record { line = 1; column = 1 }) bytes
 
 -- bytes of a source or a script; it doesn't unfold by itself, since it is large
 unfoldable pub greatest_length : ℕ

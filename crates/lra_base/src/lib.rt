@@ -14,5 +14,5 @@ pub use error::SourceError;
 pub use limits::{GREATEST_ELEMENTS, GREATEST_LIVE, is_length};
 pub use number_types::NumberType;
 pub use operators::{Comparison, Operator};
-pub use places::{GREATEST_LENGTH, place_behind};
+pub use places::{GREATEST_LENGTH, place_after};
 pub use refusals::{Cause, Place, Refusal};

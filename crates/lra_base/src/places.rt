@@ -1,7 +1,7 @@
 //! How many bytes a source or a script may have, and where they stand.
 
 ghost use Rattle.std.specs.Prelude.{◌≡◌, ◌+◌, ◌<◌, ◌^◌, length};
-ghost use Rattle.lra_base.specs.Places.{place_behind};
+ghost use Rattle.lra_base.specs.Places.{place_after};
 
 use crate::refusals::Place;
 
@@ -9,9 +9,9 @@ use crate::refusals::Place;
 pub const GREATEST_LENGTH: usize = 65_536;
 
 /// The place of the byte behind these, which begin a source or a script.
-pub fn place_behind(bytes: &[u8]) -> Place
+pub fn place_after(bytes: &[u8]) -> Place
     requires { length bytes.now + 1 < 2 ^ 32 }
-    ensures { result ≡ place_behind bytes.now }
+    ensures { result ≡ place_after bytes.now }
 {
     let mut line = 1;
     let mut column = 1;

@@ -21,7 +21,7 @@ use Rattle.lra_duality.specs.declared.inclusion.Inclusion.{Inclusion}
 use Rattle.lra_duality.specs.declared.inclusion.Inclusion.TheVariants as inclusion
 use Rattle.lra_duality.specs.Maxima.{IsMaximum}
 use Rattle.lra_base.specs.declared.refusals.Place.{Place}
-use Rattle.lra_base.specs.Places.{place_behind, greatest_length}
+use Rattle.lra_base.specs.Places.{place_after, greatest_length}
 use Rattle.lra_show.specs.Texts.{text_line}
 use Rattle.lra_script.specs.ScriptText.{lines, is_skipped, words}
 use Rattle.lra_script.specs.LineForms.{Generator, given_of, line_of, Line, Dims, Make, Ask, Recipe, Con, Gen, Combine}
@@ -322,7 +322,7 @@ pub record Runs (script : List ℕ) (answer : Result (List ℕ) Refusal) : Type 
   pub is : answer ≡ ended end
 
 abbrev pub TooLongOr : Bool → List ℕ → Result (List ℕ) Refusal → Type 0
-TooLongOr true script answer = answer ≡ Err (TooLong (place_behind (take greatest_length script)))
+TooLongOr true script answer = answer ≡ Err (TooLong (place_after (take greatest_length script)))
 TooLongOr false script answer = Runs script answer
 
 -- what a script may write, or why it is refused

@@ -17,7 +17,7 @@ ghost use Rattle.lra_calc.specs.Views.{session_of, IsSession, Gives, StepsTo, En
 
 use crate::refusal::{CalcError, CalcRefusal, Fault, LineError};
 use crate::session::Session;
-use lra_base::{GREATEST_LENGTH, place_behind};
+use lra_base::{GREATEST_LENGTH, place_after};
 use lra_script::{Line, is_skipped, raw_lines, read_line, without_return, words};
 use std::alloc::{AllocError, Global};
 use std::fmt::Write;
@@ -152,7 +152,7 @@ pub fn script(alloc: Global, bytes: &[u8]) -> Result<Vec<u8>, CalcError>
     ensures both { (p : Polyhedron) → IsPolyhedron p → SameSet p.dims (Con p.rows) (Gen p.generators) }
 {
     if bytes.len() > GREATEST_LENGTH {
-        let place = place_behind(&bytes[..GREATEST_LENGTH]);
+        let place = place_after(&bytes[..GREATEST_LENGTH]);
         return Err(CalcError::Refused(CalcRefusal::TooLong(place)));
     }
     run(alloc, bytes)

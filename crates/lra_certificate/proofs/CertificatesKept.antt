@@ -18,7 +18,7 @@ use Rattle.lra_linear_spec.proofs.Membership.{contains_none, contains_cases, con
 use Rattle.lra_linear_spec.proofs.Ring.{ring, v, ◌⊕◌, ◌⊗◌}
 use Rattle.lra_program.specs.Program.{Program}
 use Rattle.lra_program.specs.Sites.{Site, sites_of}
-use Rattle.lra_operations.specs.Graph.{Node}
+use Rattle.lra_operations.specs.Tree.{Node}
 use Rattle.lra_ways.specs.Ways.{Goal, comes_to, denies}
 use Rattle.lra_paths.specs.Covers.{HoldInAllRuns}
 use Rattle.lra_paths.specs.Paths.{Path, path_by, live_of, live_at, leading, paths_between, paths_of, denials_of, sources_of, points_of}

@@ -7,7 +7,7 @@ use Rattle.lra_base.specs.declared.refusals.Refusal.{Refusal}
 use Rattle.lra_linear_spec.specs.Range.{InRange}
 use Rattle.lra_tree.specs.Labels.{labels_of}
 use Rattle.lra_meaning.specs.Refuse.{greatest_live, greatest_points, limit_fault}
-use Rattle.lra_program.specs.Sites.{Event, comes, one_call_more, sites_in, sites_of, events_of}
+use Rattle.lra_program.specs.Sites.{Event, comes, one_call_more, event_sites, sites_of, events_of}
 use Rattle.lra_paths.specs.Paths.{paths_of}
 use Rattle.lra_certificate.specs.CertificateText.{text_line, numbered_text, head_text, body_text}
 use Rattle.lra_certificate.specs.Judged.{Head}
@@ -30,7 +30,7 @@ few_by false false r s o e = ((λ i. false), e)
 pub few_points : {source : List ℕ} (x : IsProgram source) → length (sites_of (program_of x)) ≤ greatest_points
 few_points x = let k = few_behind 0 (events_of (program_of x)) x.graph.within (omega arith) in omega (arith, k)
   where
-    few_behind : (n : ℕ) (es : List Event) → limit_fault (labels_of x.tree) n es ≡ None → n ≤ greatest_points → n + length (sites_in es) ≤ greatest_points
+    few_behind : (n : ℕ) (es : List Event) → limit_fault (labels_of x.tree) n es ≡ None → n ≤ greatest_points → n + length (event_sites es) ≤ greatest_points
     few_behind n [] e h = omega (arith, h)
     few_behind n (comes s ∷ es) e h =
         let b = few_by (nat_lt greatest_live s.live) (nat_lt greatest_points (suc n)) _ _ (limit_fault (labels_of x.tree) (suc n) es) e in

@@ -4,7 +4,7 @@ use Rattle.std.proofs.lemmas.Option.{same_Some}
 use Rattle.lra_base.specs.Places.{greatest_length}
 use Rattle.lra_linear_spec.specs.Range.{InRange}
 use Rattle.lra_program.specs.Program.{Program}
-use Rattle.lra_operations.specs.Graph.{Node}
+use Rattle.lra_operations.specs.Tree.{Node}
 use Rattle.lra_paths.specs.Paths.{paths_of}
 use Rattle.lra_certificate.specs.Certificates.{Certificate, Meets}
 use Rattle.lra_certificate.specs.CertificateText.{body_text}

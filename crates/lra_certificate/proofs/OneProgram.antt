@@ -4,8 +4,8 @@ use Rattle.lra_tree.specs.Grammar.{Spells}
 use Rattle.lra_meaning.specs.Refuse.{Accepts}
 use Rattle.lra_meaning.specs.Resolve.{resolve}
 use Rattle.lra_program.specs.Program.{Program}
-use Rattle.lra_operations.specs.Agree.{IsGraph}
-use Rattle.lra_operations.specs.Graph.{Node}
+use Rattle.lra_operations.specs.Agree.{IsInlinedTree}
+use Rattle.lra_operations.specs.Tree.{Node}
 use Rattle.lra_flow.proofs.OneTree.{one_tree}
 use Rattle.lra_front.proofs.EachAnswer.{each_answer}
 use Rattle.lra_front.proofs.StageSteps as stages
@@ -19,7 +19,7 @@ same_program source x y = ap resolve ((each_answer source).0 x.tree y.tree (acce
 
 same_operations : (source : List ℕ) (x y : IsProgram source) → x.operations ≡ y.operations
 same_operations source x y =
-    let graph : IsGraph (program_of y) x.operations = subst (λ P. IsGraph P x.operations) (same_program source x y) x.graph.is_graph in
+    let graph : IsInlinedTree (program_of y) x.operations = subst (λ P. IsInlinedTree P x.operations) (same_program source x y) x.graph.is_graph in
     one_tree (program_of y) x.operations y.operations graph y.graph.is_graph
 
 -- what is said of a program with its operations is said of the same with these

@@ -12,7 +12,7 @@ use Rattle.std.proofs.lemmas.List.Sums.{split_at_first, passes_at_first}
 use Rattle.std.proofs.lemmas.Option.{same_Some, none-some}
 use Rattle.lra_program.specs.Program.{Program}
 use Rattle.lra_program.specs.Sites.{sites_of}
-use Rattle.lra_operations.specs.Graph.{Node}
+use Rattle.lra_operations.specs.Tree.{Node}
 use Rattle.lra_paths.specs.Paths.{paths_of}
 use Rattle.lra_certificate.specs.Certificates.{Evidence, Listed, Certificate, Meets}
 use Rattle.lra_certificate.specs.CertificateText.{text_line, numbered_text, head_text, body_text, states_text, edges_text, listed_text}

@@ -5,7 +5,7 @@ use Rattle.std.specs.List.{AllByRecursion, flat_map}
 use Rattle.lra_domain.specs.Actions.{Action}
 use Rattle.lra_program.specs.Program.{Program}
 use Rattle.lra_program.specs.Sites.{Site, sites_of}
-use Rattle.lra_operations.specs.Graph.{Node}
+use Rattle.lra_operations.specs.Tree.{Node}
 use Rattle.lra_ways.specs.Ways.{denies}
 use Rattle.lra_paths.specs.Paths.{Path, path_by, paths_between, leading, live_of, sources_of, denials_of}
 use Rattle.lra_certificate.specs.Certificates.{state_or_empty, state_from, state_to, live_from, AreStates}

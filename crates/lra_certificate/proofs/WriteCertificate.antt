@@ -16,7 +16,7 @@ use Rattle.std.proofs.lemmas.Slice.Eq.{bytes_eq-Decides}
 use Rattle.lra_linear_spec.specs.Range.{InRange}
 use Rattle.lra_program.specs.Program.{Program}
 use Rattle.lra_program.specs.Sites.{Site, sites_of}
-use Rattle.lra_operations.specs.Graph.{Node}
+use Rattle.lra_operations.specs.Tree.{Node}
 use Rattle.lra_paths.specs.Paths.{Path, paths_of, denials_of}
 use Rattle.lra_certificate.specs.Certificates.{Evidence, Listed, Certificate, state_from, state_to, live_from, MeetsListed, Ascend, IsWritable, Meets}
 use Rattle.lra_certificate.specs.CertificateText.{text_line, numbers_text, numbered_text, edge_text, edges_text, evidence_text, assert_text, listed_text}

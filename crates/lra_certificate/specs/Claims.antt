@@ -12,7 +12,7 @@ use Rattle.lra_linear_spec.specs.Descriptions.{LinearRow, Con}
 use Rattle.lra_program.specs.Program.{Program}
 use Rattle.lra_program.specs.Run.{At, Fails}
 use Rattle.lra_program.specs.Sites.{Site, sites_of}
-use Rattle.lra_operations.specs.Graph.{Node}
+use Rattle.lra_operations.specs.Tree.{Node}
 use Rattle.lra_operations.specs.Agree.{point_of}
 use Rattle.lra_front.specs.Stages.{HasTree, HasGraph}
 use Rattle.lra_domain.specs.Moves.{SomeLeads}

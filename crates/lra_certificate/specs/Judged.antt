@@ -14,7 +14,7 @@ use Rattle.lra_linear_spec.specs.Descriptions.{LinearRow, system_of}
 use Rattle.lra_linear_spec.specs.Range.{in_range}
 use Rattle.lra_program.specs.Program.{Program}
 use Rattle.lra_program.specs.Sites.{Site, sites_of}
-use Rattle.lra_operations.specs.Graph.{Node}
+use Rattle.lra_operations.specs.Tree.{Node}
 use Rattle.lra_paths.specs.Paths.{Path, paths_of, denials_of}
 use Rattle.lra_multipliers.specs.Symbols.{Walked, composed, width_of, walk_of, tests_in}
 use Rattle.lra_multipliers.specs.Multipliers.{Multipliers, Answer, yes, no, wide, checked}

@@ -12,9 +12,9 @@ use Rattle.lra_tree.specs.Trees.{FileTree}
 use Rattle.lra_meaning.specs.Resolve.{resolve}
 use Rattle.lra_program.specs.Program.{Program}
 use Rattle.lra_program.specs.Sites.{Site, sites_of}
-use Rattle.lra_operations.specs.Graph.{Node}
-use Rattle.lra_operations.specs.GraphViews.{site_view}
-use Rattle.lra_operations.specs.declared.graph.Site as declared
+use Rattle.lra_operations.specs.Tree.{Node}
+use Rattle.lra_operations.specs.TreeViews.{site_view}
+use Rattle.lra_operations.specs.declared.tree.Site as declared
 use Rattle.lra_flow.specs.Operations.{dropping}
 use Rattle.lra_flow.specs.Plan.{plan_of}
 use Rattle.lra_iter.specs.Solved.{IsSolved}

@@ -17,7 +17,7 @@ use Rattle.lra_domain.specs.Actions.{Action, dims_after, assign, forget, test, e
 use Rattle.lra_poly_domain.specs.Abstraction.{polyhedron_abstraction}
 use Rattle.lra_program.specs.Program.{Program}
 use Rattle.lra_program.specs.Sites.{Site, sites_of}
-use Rattle.lra_operations.specs.Graph.{Node}
+use Rattle.lra_operations.specs.Tree.{Node}
 use Rattle.lra_ways.specs.Ways.{Goal, comes_to, denies}
 use Rattle.lra_paths.specs.Paths.{live_of, leading}
 use Rattle.lra_closed.specs.Points.{LeadsBy}

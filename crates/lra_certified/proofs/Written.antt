@@ -7,7 +7,7 @@ use Rattle.std.proofs.lemmas.Option.{slice_get_within}
 use Rattle.lra_linear_spec.proofs.Membership.{contains_head, map_from}
 use Rattle.lra_program.specs.Program.{Program}
 use Rattle.lra_program.specs.Sites.{sites_of}
-use Rattle.lra_operations.specs.Graph.{Node}
+use Rattle.lra_operations.specs.Tree.{Node}
 use Rattle.lra_ways.specs.Ways.{comes_to}
 use Rattle.lra_paths.specs.Paths.{Path, path_by, leading, paths_between, points_of, sources_of, paths_of}
 use Rattle.lra_certificate.specs.Certificates.{Listed}

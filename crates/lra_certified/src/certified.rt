@@ -6,7 +6,7 @@ ghost use Rattle.lra_tree.specs.Views.{tree_view};
 ghost use Rattle.lra_tree.specs.Labels.{labels_of};
 ghost use Rattle.lra_meaning.specs.Resolve.{resolve};
 ghost use Rattle.lra_program.specs.ProgramViews.{program_view};
-ghost use Rattle.lra_operations.specs.GraphViews.{node_view, site_view};
+ghost use Rattle.lra_operations.specs.TreeViews.{node_view, site_view};
 ghost use Rattle.lra_flow.specs.Plan.{plan_of};
 ghost use Rattle.lra_iter.specs.Solved.{IsSolved};
 ghost use Rattle.lra_poly_domain.specs.Abstraction.{polyhedron_abstraction};

@@ -11,8 +11,8 @@ use Rattle.lra_linear_spec.proofs.Membership.{contains_none, contains_head, cont
 use Rattle.lra_domain.specs.Actions.{Action}
 use Rattle.lra_program.specs.Program.{Program}
 use Rattle.lra_program.specs.Sites.{Site, sites_of}
-use Rattle.lra_operations.specs.Graph.{Node}
-use Rattle.lra_operations.specs.GraphViews.{site_view}
+use Rattle.lra_operations.specs.Tree.{Node}
+use Rattle.lra_operations.specs.TreeViews.{site_view}
 use Rattle.lra_ways.specs.Ways.{Goal, comes_to, denies}
 use Rattle.lra_paths.specs.Paths.{Path, path_by, paths_between, paths_of, denials_of, sources_of, points_of, leading, live_at, AreFewPaths}
 use Rattle.lra_certificate.specs.Certificates.{Evidence, none, dead, by, Listed, live_from, state_from, state_to, MeetsFrom, MeetsPaths}

@@ -6,9 +6,9 @@ use Rattle.std.proofs.lemmas.List.{length-map}
 use Rattle.lra_program.specs.Program.{Program}
 use Rattle.lra_program.specs.Sites.{sites_of}
 use Rattle.lra_program.specs.declared.program.GlobalVariable.{GlobalVariable}
-use Rattle.lra_operations.specs.Graph.{Node}
-use Rattle.lra_operations.specs.declared.graph.Site as declared
-use Rattle.lra_operations.specs.GraphViews.{site_view}
+use Rattle.lra_operations.specs.Tree.{Node}
+use Rattle.lra_operations.specs.declared.tree.Site as declared
+use Rattle.lra_operations.specs.TreeViews.{site_view}
 use Rattle.lra_ways.specs.Ways.{Goal}
 use Rattle.lra_sides.specs.Tables.{IsTable}
 use Rattle.lra_paths.specs.Paths.{leading_in, AreFewIn}

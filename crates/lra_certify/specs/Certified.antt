@@ -3,7 +3,7 @@
 use Rattle.std.specs.Prelude.{◌≡◌, ◌<◌, ℕ, ⊤, true, List, [], ◌∷◌, Some, slice_get, Contains}
 use Rattle.lra_program.specs.Program.{Program}
 use Rattle.lra_program.specs.Sites.{Site, sites_of}
-use Rattle.lra_operations.specs.Graph.{Node}
+use Rattle.lra_operations.specs.Tree.{Node}
 use Rattle.lra_ways.specs.Ways.{comes_to}
 use Rattle.lra_paths.specs.Paths.{Path, paths_of, denials_of, AreFewPaths, HasTooMany}
 use Rattle.lra_certificate.specs.Certificates.{Evidence, Listed, Certificate, Meets}

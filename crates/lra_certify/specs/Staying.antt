@@ -6,7 +6,7 @@ use Rattle.lra_linear_spec.specs.Points.{IsPoint}
 use Rattle.lra_domain.specs.Actions.{Action}
 use Rattle.lra_program.specs.Program.{Program}
 use Rattle.lra_program.specs.Sites.{Site, sites_of}
-use Rattle.lra_operations.specs.Graph.{Node}
+use Rattle.lra_operations.specs.Tree.{Node}
 use Rattle.lra_ways.specs.Ways.{Goal, comes_to, denies}
 use Rattle.lra_paths.specs.Paths.{Path, path_by, leading}
 use Rattle.lra_certificate.specs.Certificates.{state_from, state_to}

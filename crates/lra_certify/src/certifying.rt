@@ -4,7 +4,7 @@ ghost use Rattle.std.specs.Prelude.{◌≡◌, ◌<◌, ◌^◌, map, length, On
 ghost use Rattle.std.specs.List.{All};
 ghost use Rattle.lra_program.specs.ProgramViews.{program_view};
 ghost use Rattle.lra_program.specs.Sites.{sites_of};
-ghost use Rattle.lra_operations.specs.GraphViews.{node_view, site_view};
+ghost use Rattle.lra_operations.specs.TreeViews.{node_view, site_view};
 ghost use Rattle.lra_paths.specs.Paths.{AreFewPaths};
 ghost use Rattle.lra_verify.specs.EdgeViews.{AreWays};
 ghost use Rattle.lra_verify.specs.PointViews.{HaveDims, state_view};
@@ -16,7 +16,7 @@ use crate::edges::push_sources;
 use crate::failures::CertifyFailure;
 use crate::listed::push_listed;
 use crate::text::{push_end, push_states};
-use lra_operations::Graph;
+use lra_operations::InlinedProgram;
 use lra_paths::{PathsFailure, find_paths};
 use lra_program::Program;
 use lra_systems::ConSys;
@@ -50,7 +50,7 @@ fn push_body(
 pub fn certify(
     alloc: Global,
     program: &Program,
-    graph: &Graph,
+    graph: &InlinedProgram,
     states: &[Option<ConSys>],
     proved: &[usize],
 ) -> Result<String, CertifyFailure>

@@ -11,7 +11,7 @@ use Rattle.lra_program.specs.declared.receivers.Target.{Target}
 use Rattle.lra_program.specs.Value.{Argument}
 use Rattle.lra_program.specs.Program.{Expr, Cond, literal, compare, nonzero, opposite, both_of, either_of}
 use Rattle.lra_program.specs.Step as step
-use Rattle.lra_program.specs.Step.{Op, append, fill, give, give_element, give_any, push_for, keep, test}
+use Rattle.lra_program.specs.Step.{Op, append, fill, store_value, store_element, havoc, push_for, truncate_to, test}
 use Rattle.lra_domain.specs.Actions.{embed}
 use Rattle.lra_domain.specs.declared.Exactness.{Exactness}
 use Rattle.lra_domain.specs.Abstraction.{Abstraction}
@@ -103,12 +103,12 @@ first_after (g ∷ gs) live n =
 pub op_after : (op : Op) (n : ℕ) → dims_moved (moves_of n op) n ≡ dims_behind op n
 op_after (append t) n = within_after t (suc n) n (make (embed 1)) n (suc n) (omega arith)
 op_after (fill a) n = refl
-op_after (give base x y) n = target_after n x.target (seen_of n base y) n
-op_after (give_element base x y) n = refl
-op_after (give_any x) n = target_after n x.target Unseen n
+op_after (store_value base x y) n = target_after n x.target (seen_of n base y) n
+op_after (store_element base x y) n = refl
+op_after (havoc x) n = target_after n x.target Unseen n
 op_after (step.push base given) n = push_after n base given n
 op_after (push_for base x given) n = push_after n base given n
-op_after (keep k) n = drop_after (n - k) n
+op_after (truncate_to k) n = drop_after (n - k) n
 op_after (test base c wanted) n = guard_after n base wanted c n
 
 -- values ---------------------------------------------------------------------------------------------------------------

@@ -4,7 +4,8 @@ use Rattle.lra_domain.specs.Actions.{Action, dims_after}
 use Rattle.lra_domain.specs.Changes.{CanBeMade}
 use Rattle.lra_domain.specs.declared.Exactness.{Exactness}
 use Rattle.lra_domain.specs.Abstraction.{Abstraction}
-use Rattle.lra_program.specs.Step.{Op, append, fill, give, give_element, give_any, push, push_for, keep, test}
+use Rattle.lra_program.specs.Step.{Op, append, fill, store_value, store_element, havoc, push, push_for, truncate_to}
+use Rattle.lra_program.specs.Step.{test}
 use Rattle.lra_program.specs.declared.receivers.Cell.{Cell}
 use Rattle.lra_program.specs.declared.receivers.Cell.TheVariants.{Variable, Waiting}
 use Rattle.lra_program.specs.declared.receivers.Target.{Target}
@@ -39,10 +40,10 @@ PlaceFits (Some t) n = CellFits t.cell n
 abbrev pub OpFits : Op → ℕ → Type 0
 OpFits (append t) n = n < most_live
 OpFits (fill a) n = ⊤
-OpFits (give base x e) n = PlaceFits x.target n
-OpFits (give_element base x e) n = ⊤
-OpFits (give_any x) n = PlaceFits x.target n
+OpFits (store_value base x e) n = PlaceFits x.target n
+OpFits (store_element base x e) n = ⊤
+OpFits (havoc x) n = PlaceFits x.target n
 OpFits (push base given) n = n + length given ≤ most_live
 OpFits (push_for base x given) n = n + length given ≤ most_live
-OpFits (keep k) n = ⊤
+OpFits (truncate_to k) n = ⊤
 OpFits (test base c wanted) n = ⊤

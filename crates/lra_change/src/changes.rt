@@ -3,7 +3,7 @@
 ghost use Rattle.std.specs.Prelude.{◌≡◌, ◌≤◌, ◌<◌, ◌+◌, ◌-◌, Some, suc, map, length, IfOk, OnOk};
 ghost use Rattle.lra_program.specs.Step.{append};
 ghost use Rattle.lra_program.specs.ProgramViews.{argument_view, expr_view};
-ghost use Rattle.lra_operations.specs.GraphViews.{op_view};
+ghost use Rattle.lra_operations.specs.TreeViews.{op_view};
 ghost use Rattle.lra_flow.specs.Room.{most_live};
 ghost use Rattle.lra_flow.specs.Seen.{seen_of};
 ghost use Rattle.lra_flow.specs.declared.seen.Seen.TheVariants.{Unseen};
@@ -183,18 +183,18 @@ pub fn change<D: Domain>(alloc: Global, op: &Op, value: &mut D) -> Result<Exactn
 {
     match op {
         Op::Append(number_type) => append_any(alloc, *number_type, value),
-        Op::Fill(_) | Op::GiveElement(_, _, _) => Ok(Exactness::Exact),
-        Op::Give(base, receiver, e) => match receiver.target {
+        Op::Fill(_) | Op::StoreElement(_, _, _) => Ok(Exactness::Exact),
+        Op::StoreValue(base, receiver, e) => match receiver.target {
             None => Ok(Exactness::Exact),
             Some(target) => give(alloc, *base, target, e, value),
         },
-        Op::GiveAny(receiver) => match receiver.target {
+        Op::Havoc(receiver) => match receiver.target {
             None => Ok(Exactness::Exact),
             Some(target) => give_any_value(alloc, target, value),
         },
         Op::Push(base, arguments) => push_all_of(alloc, *base, arguments, value),
         Op::PushFor(base, _, arguments) => push_all_of(alloc, *base, arguments, value),
-        Op::Keep(n) => keep(*n, value),
+        Op::TruncateTo(n) => keep(*n, value),
         Op::Test(base, condition, wanted) => {
             leave(alloc, *base, condition, *wanted, value, Exactness::Exact)
         }

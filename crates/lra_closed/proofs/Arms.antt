@@ -9,7 +9,7 @@ use Rattle.lra_base.specs.declared.case_labels.CaseLabel.TheVariants.{Case, Defa
 use Rattle.lra_program.specs.Program.{Expr}
 use Rattle.lra_domain.specs.declared.Exactness.{Exactness}
 use Rattle.lra_domain.specs.Abstraction.{Abstraction}
-use Rattle.lra_operations.specs.Graph.{How, normal, jump, Node, Arms, no_arms, entry, arm}
+use Rattle.lra_operations.specs.Tree.{Completion, normal, jump, Node, Arms, no_arms, entry, arm}
 use Rattle.lra_flow.specs.Operations.{dropping}
 use Rattle.lra_flow.specs.MovesOf.{value_moves}
 use Rattle.lra_flow.specs.Pass.{Result, goes_on, in_turn, MatchesNone, Enters, JoinsRunning, ComesOut}
@@ -29,11 +29,11 @@ module _ (V H X : Type 0) (m : Abstraction V H) (o : PointsOf V H X) where
   -- Arms of a `switch` to whose labels the steps go from the value v; what has no match is `other`, and `running` is what
   -- runs before these arms.
   pub record AreArmsClosed (go : CaseLabel → Step) (d : Bool) (v other : V) (arms : Arms) (running : Option V) (r : Result V) : Type 0 where
-    pub passes : (u : V) → running ≡ Some u → (h : How) (ops : List Step) → Contains (through_arms arms h) ops → KeptBy m o u ops (IsLeft r h)
+    pub passes : (u : V) → running ≡ Some u → (h : Completion) (ops : List Step) → Contains (through_arms arms h) ops → KeptBy m o u ops (IsLeft r h)
     pub enters : (u : V) → running ≡ Some u → (way : Way) → Contains (enter_arms arms) way → KeptBy m o u way.ops (IsMet r way.goal)
-    pub labels_pass : (h : How) (ops : List Step) → Contains (through_labels go arms h) ops → KeptBy m o v ops (IsLeft r h)
+    pub labels_pass : (h : Completion) (ops : List Step) → Contains (through_labels go arms h) ops → KeptBy m o v ops (IsLeft r h)
     pub labels_enter : (way : Way) → Contains (enter_labels go arms) way → KeptBy m o v way.ops (IsMet r way.goal)
-    pub leaves : (h : How) (s : Suffix) → Contains (outs_arms arms h) s → KeptFrom m o r s.source s.ops (IsLeft r h)
+    pub leaves : (h : Completion) (s : Suffix) → Contains (outs_arms arms h) s → KeptFrom m o r s.source s.ops (IsLeft r h)
     pub goes_in : (s : Segment) → Contains (inside_arms arms) s → KeptFrom m o r s.source s.way.ops (IsMet r s.way.goal)
     pub past : d ≡ false → Keeps m o other [] r.normal
 
@@ -87,7 +87,8 @@ module _ (V H X : Type 0) (m : Abstraction V H) (o : PointsOf V H X) where
       past = out_past d run other x w out;
     }
       where
-        passes : (u : V) → run ≡ Some u → (h : How) (ops : List Step) → Contains (through_arms no_arms h) ops → KeptBy m o u ops (IsLeft (goes_on [] w f) h)
+        passes : (u : V) → run ≡ Some u → (h : Completion) (ops : List Step) → Contains (through_arms no_arms h) ops →
+            KeptBy m o u ops (IsLeft (goes_on [] w f) h)
         passes u some normal ops there =
             subst (λ (l : List Step). KeptBy m o u l (λ y. y ≡ w)) (one_from [] ops there) (w, refl, out_runs d run other x w out u some)
         passes u some (jump j) ops there = absurd (contains_none ops there)
@@ -137,15 +138,15 @@ module _ (V H X : Type 0) (m : Abstraction V H) (o : PointsOf V H X) where
       from_run : (u : V) → run ≡ Some u → (ops : List Step) (among : V → Type 0) → KeptBy m o w ops among → KeptBy m o u ops among
       from_run u some ops among k = subst (λ (y : V). KeptBy m o y ops among) (runs u some) k
 
-      later : (h : How) (u : V) → IsLeft t h u → IsLeft whole h u
+      later : (h : Completion) (u : V) → IsLeft t h u → IsLeft whole h u
       later normal u is = is
       later (jump k) u is = right_jump k s t t.normal t.flag u is
 
-      passes : (h : How) (ops : List Step) → Contains (through_arms (arm a arms) h) ops → KeptBy m o w ops (IsLeft whole h)
+      passes : (h : Completion) (ops : List Step) → Contains (through_arms (arm a arms) h) ops → KeptBy m o w ops (IsLeft whole h)
       passes normal ops there = both.passes normal ops there
       passes (jump k) ops there = both.passes (jump k) ops there
 
-      leaves : (h : How) (x : Suffix) → Contains (outs_arms (arm a arms) h) x → KeptFrom m o whole x.source x.ops (IsLeft whole h)
+      leaves : (h : Completion) (x : Suffix) → Contains (outs_arms (arm a arms) h) x → KeptFrom m o whole x.source x.ops (IsLeft whole h)
       leaves normal x there = both.leaves normal x there
       leaves (jump k) x there = both.leaves (jump k) x there
 

@@ -6,7 +6,7 @@ use Rattle.lra_linear_spec.proofs.Membership.{contains_none, contains_head, cont
 use Rattle.lra_domain.specs.Abstraction.{Abstraction}
 use Rattle.lra_program.specs.Program.{Cond}
 use Rattle.lra_program.specs.Step.{test}
-use Rattle.lra_operations.specs.Graph.{Exit, broken, continued, returned, How, normal, jump, Node, iterate}
+use Rattle.lra_operations.specs.Tree.{Exit, broken, continued, returned, Completion, normal, jump, Node, iterate}
 use Rattle.lra_flow.specs.Plan.{Plan, Widening, mode_at}
 use Rattle.lra_flow.specs.Operations.{dropping}
 use Rattle.lra_flow.specs.Pass.{value, Result, noted, jumps_of, Grows, Pass}
@@ -43,7 +43,7 @@ module _ (V H X : Type 0) (m : Abstraction V H) (o : PointsOf V H X) (keep : Kee
     part : IsPart z whole
     part = round_part q u out f z
 
-    leaves_loop : (h : How) (s : Suffix) → Contains (outs (iterate q base c a) h) s → KeptFrom m o whole s.source s.ops (IsLeft whole h)
+    leaves_loop : (h : Completion) (s : Suffix) → Contains (outs (iterate q base c a) h) s → KeptFrom m o whole s.source s.ops (IsLeft whole h)
     leaves_loop normal s there =
         subst (λ (l : Suffix). KeptFrom m o whole l.source l.ops (IsLeft whole normal))
         (one_from (record { source = q; ops = does (test base c false) ∷ [] }) s there) (u, here, (out, refl, ends))

@@ -7,16 +7,16 @@ use Rattle.std.proofs.lemmas.Option.{same_Some, none-some}
 use Rattle.lra_linear_spec.proofs.Membership.{contains_none, contains_cases, contains_head, map_from}
 use Rattle.lra_base.specs.declared.case_labels.CaseLabel.{CaseLabel}
 use Rattle.lra_base.specs.declared.case_labels.CaseLabel.TheVariants.{Default}
-use Rattle.lra_base.specs.CaseLabels.{are_alike}
+use Rattle.lra_base.specs.CaseLabels.{is_same_case}
 use Rattle.lra_program.specs.Program.{Expr, Cond}
 use Rattle.lra_program.specs.Step.{Op, test}
 use Rattle.lra_domain.specs.declared.Exactness.{Exactness}
 use Rattle.lra_domain.specs.declared.Exactness.TheVariants.{Exact}
 use Rattle.lra_domain.specs.Abstraction.{Abstraction}
-use Rattle.lra_operations.specs.declared.asides.Aside.{Aside}
-use Rattle.lra_operations.specs.declared.asides.Aside.TheVariants.{Entering, Noting}
-use Rattle.lra_operations.specs.Graph.{Exit, broken, continued, returned, How, normal, jump, Node, empty, aside, point, act, check, seq, choose, iterate, catch, leave}
-use Rattle.lra_operations.specs.Graph.{select, Arms, no_arms, entry, arm, entries_of}
+use Rattle.lra_operations.specs.declared.probes.Probe.{Probe}
+use Rattle.lra_operations.specs.declared.probes.Probe.TheVariants.{InterferencePoint, RecordWrite}
+use Rattle.lra_operations.specs.Tree.{Exit, broken, continued, returned, Completion, normal, jump, Node, empty, probe, point, act, check, seq, choose, iterate, catch, leave}
+use Rattle.lra_operations.specs.Tree.{select, Arms, no_arms, entry, arm, entries_of}
 use Rattle.lra_flow.specs.Plan.{Plan}
 use Rattle.lra_flow.specs.Operations.{dropping}
 use Rattle.lra_flow.specs.Pass.{Entry, value, failing, given, Result, noted, jumps_of, goes_on, jumps, in_turn, first_of_call, values_behind, behind}
@@ -89,12 +89,12 @@ module _ (V H X : Type 0) (m : Abstraction V H) (o : PointsOf V H X) where
     goes = λ s there. absurd (contains_none s there);
   }
     where
-      passes : (h : How) (ops : List Step) → Contains (through empty h) ops → KeptBy m o v ops (IsLeft (goes_on [] v f) h)
+      passes : (h : Completion) (ops : List Step) → Contains (through empty h) ops → KeptBy m o v ops (IsLeft (goes_on [] v f) h)
       passes normal ops there = one_pass v v [] f [] (itself V H X m o v) ops there
       passes (jump j) ops there = absurd (contains_none ops there)
 
   -- what stands beside a program's operations changes no value where it runs alone
-  aside_closed : (q : ℕ) (what : Aside) (v : V) (xs : List (Entry V)) (f : Option ℕ) → IsClosed m o (aside q what) v (goes_on xs v f)
+  aside_closed : (q : ℕ) (what : Probe) (v : V) (xs : List (Entry V)) (f : Option ℕ) → IsClosed m o (probe q what) v (goes_on xs v f)
   aside_closed q what v xs f = record {
     passes = passes;
     enters = λ way there. absurd (contains_none way there);
@@ -102,7 +102,7 @@ module _ (V H X : Type 0) (m : Abstraction V H) (o : PointsOf V H X) where
     goes = λ s there. absurd (contains_none s there);
   }
     where
-      passes : (h : How) (ops : List Step) → Contains (through (aside q what) h) ops → KeptBy m o v ops (IsLeft (goes_on xs v f) h)
+      passes : (h : Completion) (ops : List Step) → Contains (through (probe q what) h) ops → KeptBy m o v ops (IsLeft (goes_on xs v f) h)
       passes normal ops there = one_pass v v [] f xs (itself V H X m o v) ops there
       passes (jump j) ops there = absurd (contains_none ops there)
 
@@ -114,7 +114,7 @@ module _ (V H X : Type 0) (m : Abstraction V H) (o : PointsOf V H X) where
     goes = λ s there. absurd (contains_none s there);
   }
     where
-      leaves : (h : How) (s : Suffix) → Contains (outs (point q) h) s
+      leaves : (h : Completion) (s : Suffix) → Contains (outs (point q) h) s
           → KeptFrom m o (goes_on (value q v ∷ []) v f) s.source s.ops (IsLeft (goes_on (value q v ∷ []) v f) h)
       leaves normal s there =
           subst (λ (l : Suffix). KeptFrom m o (goes_on (value q v ∷ []) v f) l.source l.ops (λ w. w ≡ v)) (one_from (record { source = q; ops = [] }) s there)
@@ -129,7 +129,7 @@ module _ (V H X : Type 0) (m : Abstraction V H) (o : PointsOf V H X) where
     goes = λ s there. absurd (contains_none s there);
   }
     where
-      passes : (h : How) (ops : List Step) → Contains (through (act q op) h) ops → KeptBy m o v ops (IsLeft (goes_on [] w f) h)
+      passes : (h : Completion) (ops : List Step) → Contains (through (act q op) h) ops → KeptBy m o v ops (IsLeft (goes_on [] w f) h)
       passes normal ops there = one_pass v w (does op ∷ []) f [] keeps ops there
       passes (jump j) ops there = absurd (contains_none ops there)
 
@@ -143,7 +143,7 @@ module _ (V H X : Type 0) (m : Abstraction V H) (o : PointsOf V H X) where
     goes = λ s there. absurd (contains_none s there);
   }
     where
-      passes : (h : How) (ops : List Step) → Contains (through (check q base c) h) ops
+      passes : (h : Completion) (ops : List Step) → Contains (through (check q base c) h) ops
           → KeptBy m o v ops (IsLeft (goes_on (failing q u ∷ []) w f) h)
       passes normal ops there = one_pass v w (does (test base c true) ∷ []) f (failing q u ∷ []) on ops there
       passes (jump j) ops there = absurd (contains_none ops there)
@@ -156,7 +156,7 @@ module _ (V H X : Type 0) (m : Abstraction V H) (o : PointsOf V H X) where
     goes = λ s there. absurd (contains_none s there);
   }
     where
-      passes : (h : How) (ops : List Step) → Contains (through (leave n k) h) ops → KeptBy m o v ops (IsLeft (jumps k v w f) h)
+      passes : (h : Completion) (ops : List Step) → Contains (through (leave n k) h) ops → KeptBy m o v ops (IsLeft (jumps k v w f) h)
       passes normal ops there = absurd (contains_none ops there)
       passes (jump j) ops there =
           let (alike, same) = only_same (same_exit j k) ops [] there in
@@ -176,11 +176,11 @@ module _ (V H X : Type 0) (m : Abstraction V H) (o : PointsOf V H X) where
       both = both_close V H X m o (through a) (through b) (enter a) (enter b) (outs a) (outs b) (inside a) (inside b) v s t
           (tree_closes V H X m o a v s i) (tree_closes V H X m o b s.normal t j)
 
-      passes : (h : How) (ops : List Step) → Contains (through (seq a b) h) ops → KeptBy m o v ops (IsLeft (in_turn s t t.normal t.flag) h)
+      passes : (h : Completion) (ops : List Step) → Contains (through (seq a b) h) ops → KeptBy m o v ops (IsLeft (in_turn s t t.normal t.flag) h)
       passes normal ops there = both.passes normal ops there
       passes (jump k) ops there = both.passes (jump k) ops there
 
-      leaves : (h : How) (x : Suffix) → Contains (outs (seq a b) h) x
+      leaves : (h : Completion) (x : Suffix) → Contains (outs (seq a b) h) x
           → KeptFrom m o (in_turn s t t.normal t.flag) x.source x.ops (IsLeft (in_turn s t t.normal t.flag) h)
       leaves normal x there = both.leaves normal x there
       leaves (jump k) x there = both.leaves (jump k) x there
@@ -195,15 +195,15 @@ module _ (V H X : Type 0) (m : Abstraction V H) (o : PointsOf V H X) where
     joined_in : (u : V) (ops : List Step) (n : V) → Keeps m o n [] w → KeptBy m o u ops (λ y. y ≡ n) → KeptBy m o u ops (λ y. y ≡ w)
     joined_in u ops n joins k = (w, refl, keeps_on V H X m o u n w ops (to_same V H X m o u n ops k) joins)
 
-    left_is : (h : How) (u : V) (ops : List Step) → KeptBy m o u ops (IsLeft s h) → KeptBy m o u ops (IsLeft either h)
+    left_is : (h : Completion) (u : V) (ops : List Step) → KeptBy m o u ops (IsLeft s h) → KeptBy m o u ops (IsLeft either h)
     left_is normal u ops k = joined_in u ops s.normal left k
     left_is (jump k) u ops h = among_more V H X m o u ops (IsLeft s (jump k)) (IsLeft either (jump k)) (left_jump k s t w f) h
 
-    right_is : (h : How) (u : V) (ops : List Step) → KeptBy m o u ops (IsLeft t h) → KeptBy m o u ops (IsLeft either h)
+    right_is : (h : Completion) (u : V) (ops : List Step) → KeptBy m o u ops (IsLeft t h) → KeptBy m o u ops (IsLeft either h)
     right_is normal u ops k = joined_in u ops t.normal right k
     right_is (jump k) u ops h = among_more V H X m o u ops (IsLeft t (jump k)) (IsLeft either (jump k)) (right_jump k s t w f) h
 
-    choose_passes : (h : How) (ops : List Step) → Contains (through (choose q base c a b) h) ops → KeptBy m o v ops (IsLeft either h)
+    choose_passes : (h : Completion) (ops : List Step) → Contains (through (choose q base c a b) h) ops → KeptBy m o v ops (IsLeft either h)
     choose_passes h ops there = elim (Contains-append_cases (map (tested base c true) (through a h)) (map (tested base c false) (through b h)) ops there) [
       | inl holds ↦
           let (x, k, same) = map_from (tested base c true) (through a h) ops holds in
@@ -229,7 +229,7 @@ module _ (V H X : Type 0) (m : Abstraction V H) (o : PointsOf V H X) where
           (met_more V H X m o t either (right_part s t w f) off x.ops x.goal (j.enters x k)))
     ]
 
-    choose_leaves : (h : How) (x : Suffix) → Contains (outs (choose q base c a b) h) x → KeptFrom m o either x.source x.ops (IsLeft either h)
+    choose_leaves : (h : Completion) (x : Suffix) → Contains (outs (choose q base c a b) h) x → KeptFrom m o either x.source x.ops (IsLeft either h)
     choose_leaves h x there = elim (Contains-append_cases (outs a h) (outs b h) x there) [
       | inl holds ↦ let (u, found, k) = i.leaves h x holds in (u, left_part s t w f (value x.source u) found, left_is h u x.ops k)
       | inr fails ↦ let (u, found, k) = j.leaves h x fails in (u, right_part s t w f (value x.source u) found, right_is h u x.ops k)
@@ -263,7 +263,7 @@ module _ (V H X : Type 0) (m : Abstraction V H) (o : PointsOf V H X) where
         → KeptBy m o u ops (IsLeft ended (jump j))
     other_in j apart u ops (y, there, keeps) = (y, behind_jump k j s w f apart y there, keeps)
 
-    catch_passes : (h : How) (ops : List Step) → Contains (through (catch q k a) h) ops → KeptBy m o v ops (IsLeft ended h)
+    catch_passes : (h : Completion) (ops : List Step) → Contains (through (catch q k a) h) ops → KeptBy m o v ops (IsLeft ended h)
     catch_passes normal ops there = elim (Contains-append_cases (through a normal) (through a (jump k)) ops there) [
       | inl on ↦ normal_in v ops (i.passes normal ops on)
       | inr jumped ↦ caught_in v ops (i.passes (jump k) ops jumped)
@@ -271,7 +271,7 @@ module _ (V H X : Type 0) (m : Abstraction V H) (o : PointsOf V H X) where
     catch_passes (jump j) ops there =
         let (apart, on) = only_other (same_exit j k) (through a (jump j)) ops there in other_in j apart v ops (i.passes (jump j) ops on)
 
-    catch_leaves : (h : How) (x : Suffix) → Contains (outs (catch q k a) h) x → KeptFrom m o ended x.source x.ops (IsLeft ended h)
+    catch_leaves : (h : Completion) (x : Suffix) → Contains (outs (catch q k a) h) x → KeptFrom m o ended x.source x.ops (IsLeft ended h)
     catch_leaves normal x there = elim (Contains-append_cases (outs a normal) (outs a (jump k)) x there) [
       | inl on ↦ let (u, found, h) = i.leaves normal x on in (u, behind_part k s w f (value x.source u) found, normal_in u x.ops h)
       | inr jumped ↦ let (u, found, h) = i.leaves (jump k) x jumped in (u, behind_part k s w f (value x.source u) found, caught_in u x.ops h)
@@ -291,21 +291,21 @@ module _ (V H X : Type 0) (m : Abstraction V H) (o : PointsOf V H X) where
 
   -- a `switch` -----------------------------------------------------------------------------------------------------------
   select_closed : (q base : ℕ) (e : Expr) (arms : Arms) (v other : V) (r : Result V)
-      → AreArmsClosed V H X m o (goes_in base e arms) (list_any (are_alike Default) (entries_of arms)) v other arms None r
+      → AreArmsClosed V H X m o (goes_in base e arms) (list_any (is_same_case Default) (entries_of arms)) v other arms None r
       → Keeps m o v (goes_in base e arms Default ∷ []) other → IsClosed m o (select q base e arms) v r
   select_closed q base e arms v other r i none = record {
     passes = λ h ops there. elim
         (Contains-append_cases (through_labels (goes_in base e arms) arms h)
-        (past_labels (goes_in base e arms) (list_any (are_alike Default) (entries_of arms)) h) ops there) [
+        (past_labels (goes_in base e arms) (list_any (is_same_case Default) (entries_of arms)) h) ops there) [
           | inl labelled ↦ i.labels_pass h ops labelled
-          | inr past ↦ passes (list_any (are_alike Default) (entries_of arms)) h ops i.past past
+          | inr past ↦ passes (list_any (is_same_case Default) (entries_of arms)) h ops i.past past
         ];
     enters = i.labels_enter;
     leaves = i.leaves;
     goes = i.goes_in;
   }
     where
-      passes : (d : Bool) (h : How) (ops : List Step) → (d ≡ false → Keeps m o other [] r.normal) → Contains (past_labels (goes_in base e arms) d h) ops
+      passes : (d : Bool) (h : Completion) (ops : List Step) → (d ≡ false → Keeps m o other [] r.normal) → Contains (past_labels (goes_in base e arms) d h) ops
           → KeptBy m o v ops (IsLeft r h)
       passes true h ops past there = absurd (contains_none ops there)
       passes false normal ops past there =
@@ -362,10 +362,11 @@ module _ (V H X : Type 0) (m : Abstraction V H) (o : PointsOf V H X) where
       mutual
         pub tree_closed : (g : Node) (f : Option ℕ) (v : V) (r : Result V) → Pass V H (dropping m) set g f v r → IsClosed m o g v r
         tree_closed empty f v r is = is_same empty v r _ is (empty_closed v f)
-        tree_closed (aside q Entering) f v r (w, e, (same, exact), is) =
-            is_same (aside q Entering) v r _ (is ∙ ap (λ (x : V). goes_on [] x (noted q e f)) same) (aside_closed q Entering v [] (noted q e f))
-        tree_closed (aside q (Noting place)) f v r is =
-            is_same (aside q (Noting place)) v r _ is (aside_closed q (Noting place) v (given q place v ∷ []) f)
+        tree_closed (probe q InterferencePoint) f v r (w, e, (same, exact), is) =
+            is_same (probe q InterferencePoint) v r _ (is ∙ ap (λ (x : V). goes_on [] x (noted q e f)) same)
+            (aside_closed q InterferencePoint v [] (noted q e f))
+        tree_closed (probe q (RecordWrite place)) f v r is =
+            is_same (probe q (RecordWrite place)) v r _ is (aside_closed q (RecordWrite place) v (given q place v ∷ []) f)
         tree_closed (point q) f v r is = is_same (point q) v r _ is (point_closed q v f)
         tree_closed (act q op) f v r (w, e, done, is) =
             is_same (act q op) v r _ is (act_closed q op v w (noted q e f) (change_keeps V H X m o keep op v e w done))
@@ -398,7 +399,7 @@ module _ (V H X : Type 0) (m : Abstraction V H) (o : PointsOf V H X) where
             let labels = entries_of arms in
             let comes : (l : CaseLabel) (y : Exactness) (u : V) → Enters (dropping m) base e l v other y u → Keeps m o v (goes_in base e arms l ∷ []) u =
             λ l y u is. label_keeps V H X m o keep base e labels l v other x y u none is in
-            let i = arms_closed q base e (goes_in base e arms) (list_any (are_alike Default) labels) v other comes arms (noted q x f) None r pass in
+            let i = arms_closed q base e (goes_in base e arms) (list_any (is_same_case Default) labels) v other comes arms (noted q x f) None r pass in
             select_closed q base e arms v other r i (comes Default Exact other (refl, refl))
 
         arms_closed : (q base : ℕ) (e : Expr) (go : CaseLabel → Step) (d : Bool) (v other : V)

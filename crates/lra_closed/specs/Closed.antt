@@ -5,7 +5,7 @@ use Rattle.lra_domain.specs.Actions.{Action}
 use Rattle.lra_domain.specs.Abstraction.{Abstraction}
 use Rattle.lra_program.specs.Program.{Program}
 use Rattle.lra_program.specs.Sites.{Site, sites_of}
-use Rattle.lra_operations.specs.Graph.{How, normal, jump, Node}
+use Rattle.lra_operations.specs.Tree.{Completion, normal, jump, Node}
 use Rattle.lra_flow.specs.Plan.{Plan}
 use Rattle.lra_flow.specs.Pass.{value, failing, Result, jumps_of}
 use Rattle.lra_flow.specs.Analysis.{Derivation, Solves}
@@ -69,7 +69,7 @@ abbrev pub KeptFrom : {V H X : Type 0} → Abstraction V H → PointsOf V H X �
 KeptFrom {V} m o r q ops among = (v : V) × Contains r.entries (value q v) × KeptBy m o v ops among
 
 -- the tree is left so with the value
-abbrev pub IsLeft : {V : Type 0} → Result V → How → V → Type 0
+abbrev pub IsLeft : {V : Type 0} → Result V → Completion → V → Type 0
 IsLeft r normal v = v ≡ r.normal
 IsLeft r (jump j) v = Contains (jumps_of j r) v
 
@@ -81,7 +81,8 @@ IsMet r (denies q) v = Contains r.entries (failing q v)
 -- from this value through the tree, with this result
 pub record IsClosed {V H X : Type 0} (m : Abstraction V H) (o : PointsOf V H X) (g : Node) (v : V) (r : Result V)
     : Type 0 where
-  pub passes : (h : How) (ops : List Step) → Contains (through g h) ops → KeptBy m o v ops (IsLeft r h)
+  pub passes : (h : Completion) (ops : List Step) → Contains (through g h) ops → KeptBy m o v ops (IsLeft r h)
   pub enters : (way : Way) → Contains (enter g) way → KeptBy m o v way.ops (IsMet r way.goal)
-  pub leaves : (h : How) (out : Suffix) → Contains (outs g h) out → KeptFrom m o r out.source out.ops (IsLeft r h)
+  pub leaves : (h : Completion) (out : Suffix) → Contains (outs g h) out →
+      KeptFrom m o r out.source out.ops (IsLeft r h)
   pub goes : (s : Segment) → Contains (inside g) s → KeptFrom m o r s.source s.way.ops (IsMet r s.way.goal)

@@ -12,21 +12,21 @@ use Rattle.lra_program.specs.declared.program.Cond.{Cond}
 use Rattle.lra_program.specs.declared.program.Expr.{Expr}
 use Rattle.lra_program.specs.Receivers.{nobody}
 use Rattle.lra_program.specs.ProgramViews.{cond_view, expr_view}
-use Rattle.lra_program.specs.Step.{give, test}
+use Rattle.lra_program.specs.Step.{store_value, test}
 use Rattle.lra_base.specs.declared.case_labels.CaseLabel.{CaseLabel}
-use Rattle.lra_operations.specs.Asked.{Asked, fresh_behind, fresh_of}
+use Rattle.lra_operations.specs.CheckedOperations.{OpAtPoint, fresh_after, fresh_of}
 use Rattle.lra_doings.specs.Doings.{done_of, done_in, done_in_arms}
-use Rattle.lra_operations.specs.Graph.{Node, empty, point, act, check, seq, choose, iterate, catch, leave}
-use Rattle.lra_operations.specs.Graph.{select, Arms, no_arms, entry, arm}
-use Rattle.lra_operations.specs.GraphViews.{exit_view, node_view, op_view, row, ArmPart, arm_view, arms_of}
-use Rattle.lra_operations.specs.Sizes.{sizes, whole_size, arm_sizes, arms_size}
-use Rattle.lra_operations.specs.declared.graph.Arm.{Arm}
-use Rattle.lra_operations.specs.declared.graph.Arm.TheVariants.{Entry, Tree}
-use Rattle.lra_operations.specs.declared.graph.Exit as declared_exit
-use Rattle.lra_operations.specs.declared.graph.Node as declared
-use Rattle.lra_operations.specs.declared.graph.Op as declared_op
-use Rattle.lra_operations.specs.declared.graph.Node.{the_lemmas as node_lemmas}
-use Rattle.lra_operations.specs.declared.graph.Node.TheVariants as at
+use Rattle.lra_operations.specs.Tree.{Node, empty, point, act, check, seq, choose, iterate, catch, leave}
+use Rattle.lra_operations.specs.Tree.{select, Arms, no_arms, entry, arm}
+use Rattle.lra_operations.specs.TreeViews.{exit_view, node_view, op_view, row, ArmPart, arm_view, arms_of}
+use Rattle.lra_operations.specs.Sizes.{sizes, whole_size, arm_sizes, arms_tree_sizes}
+use Rattle.lra_operations.specs.declared.tree.Arm.{Arm}
+use Rattle.lra_operations.specs.declared.tree.Arm.TheVariants.{Entry, Tree}
+use Rattle.lra_operations.specs.declared.tree.Exit as declared_exit
+use Rattle.lra_operations.specs.declared.tree.Node as declared
+use Rattle.lra_operations.specs.declared.tree.Op as declared_op
+use Rattle.lra_operations.specs.declared.tree.Node.{the_lemmas as node_lemmas}
+use Rattle.lra_operations.specs.declared.tree.Node.TheVariants as at
 use Rattle.lra_doings.specs.declared.trees.Due.{Due}
 use Rattle.lra_forms.proofs.TreeViews.{act_view, catch_view, check_view, choose_view, empty_view, iterate_view, leave_view, point_view, select_view}
 use Rattle.lra_forms.proofs.TreeViews.{seq_view}
@@ -78,12 +78,12 @@ own_leave : (n : ℕ) (k : declared_exit.Exit) (fresh : Option NumberType) → o
 own_leave n k fresh = search (rules, node_lemmas)
 
 own_select : (q base : ℕ) (e : Expr) (arms : Vec Arm Global) (fresh : Option NumberType)
-    → own_of fresh (at.Select q base e arms) ≡ (done_of q None (give base nobody (expr_view e)), None)
+    → own_of fresh (at.Select q base e arms) ≡ (done_of q None (store_value base nobody (expr_view e)), None)
 own_select q base e arms fresh = search (rules, node_lemmas)
 
 module _ (fresh : Option NumberType) (n : declared.Node) where
-  asks_as : (k : declared.Node) (xs : List Asked) (later : Option NumberType) → n ≡ k → own_of fresh k ≡ (xs, later) → own_done fresh n ≡ xs
-  asks_as k xs later is own = ap (own_done fresh) is ∙ ap (λ (x : List Asked × Option NumberType). x.0) own
+  asks_as : (k : declared.Node) (xs : List OpAtPoint) (later : Option NumberType) → n ≡ k → own_of fresh k ≡ (xs, later) → own_done fresh n ≡ xs
+  asks_as k xs later is own = ap (own_done fresh) is ∙ ap (λ (x : List OpAtPoint × Option NumberType). x.0) own
 
   pub asks_act : (q : ℕ) (o : declared_op.Op) → n ≡ at.Act q o → own_done fresh n ≡ done_of q fresh (op_view o)
   asks_act q o is = asks_as (at.Act q o) (done_of q fresh (op_view o)) (fresh_of (op_view o)) is (own_act q o fresh)
@@ -100,8 +100,9 @@ module _ (fresh : Option NumberType) (n : declared.Node) where
   asks_iterate q base c a is = asks_as (at.Iterate q base c a) (done_of q None (test base (cond_view c) true)) None is (own_iterate q base c a fresh)
 
   pub asks_select : (q base : ℕ) (e : Expr) (arms : Vec Arm Global) → n ≡ at.Select q base e arms
-      → own_done fresh n ≡ done_of q None (give base nobody (expr_view e))
-  asks_select q base e arms is = asks_as (at.Select q base e arms) (done_of q None (give base nobody (expr_view e))) None is (own_select q base e arms fresh)
+      → own_done fresh n ≡ done_of q None (store_value base nobody (expr_view e))
+  asks_select q base e arms is =
+      asks_as (at.Select q base e arms) (done_of q None (store_value base nobody (expr_view e))) None is (own_select q base e arms fresh)
 
   pub empty_asks : n ≡ at.Empty → own_done fresh n ≡ []
   empty_asks is = asks_as at.Empty [] fresh is (own_empty fresh)
@@ -119,8 +120,8 @@ module _ (fresh : Option NumberType) (n : declared.Node) where
   leave_asks m k is = asks_as (at.Leave m k) [] None is (own_leave m k fresh)
 
   -- and then
-  new_as : (k : declared.Node) (xs : List Asked) (later : Option NumberType) → n ≡ k → own_of fresh k ≡ (xs, later) → later ≡ fresh_at fresh n
-  new_as k xs later is own = sym (ap (fresh_at fresh) is ∙ ap (λ (x : List Asked × Option NumberType). x.1) own)
+  new_as : (k : declared.Node) (xs : List OpAtPoint) (later : Option NumberType) → n ≡ k → own_of fresh k ≡ (xs, later) → later ≡ fresh_at fresh n
+  new_as k xs later is own = sym (ap (fresh_at fresh) is ∙ ap (λ (x : List OpAtPoint × Option NumberType). x.1) own)
 
   pub empty_new : n ≡ at.Empty → fresh ≡ fresh_at fresh n
   empty_new is = new_as at.Empty [] fresh is (own_empty fresh)
@@ -150,21 +151,22 @@ module _ (fresh : Option NumberType) (n : declared.Node) where
   leave_new m k is = new_as (at.Leave m k) [] None is (own_leave m k fresh)
 
   pub select_new : (q base : ℕ) (e : Expr) (arms : Vec Arm Global) → n ≡ at.Select q base e arms → None ≡ fresh_at fresh n
-  select_new q base e arms is = new_as (at.Select q base e arms) (done_of q None (give base nobody (expr_view e))) None is (own_select q base e arms fresh)
+  select_new q base e arms is =
+      new_as (at.Select q base e arms) (done_of q None (store_value base nobody (expr_view e))) None is (own_select q base e arms fresh)
 
 -- the trees in arms ask what the arms ask
 done_arms : (fresh : Option NumberType) (arms : Arms) → done_in fresh (trees_of arms) ≡ done_in_arms fresh arms
 done_arms fresh no_arms = refl
 done_arms fresh (entry l arms) = done_arms fresh arms
-done_arms fresh (arm a arms) = ap (λ (xs : List Asked). done_in fresh a ++ xs) (done_arms (fresh_behind fresh a) arms)
+done_arms fresh (arm a arms) = ap (λ (xs : List OpAtPoint). done_in fresh a ++ xs) (done_arms (fresh_after fresh a) arms)
 
 -- behind it the others are due
-opens : (n : declared.Node) (g : Node) (own : Option NumberType → List Asked × Option NumberType) (old new : List Due) → node_view n ≡ g
+opens : (n : declared.Node) (g : Node) (own : Option NumberType → List OpAtPoint × Option NumberType) (old new : List Due) → node_view n ≡ g
     → ((fresh : Option NumberType) → own_of fresh n ≡ own fresh)
     → ((fresh : Option NumberType) → done_in fresh (seq g (all_due old)) ≡ (own fresh).0 ++ done_in (own fresh).1 (all_due new)) → IsOpened n old new
 opens n g own old new seen is asks = λ fresh.
     ap (λ (h : Node). done_in fresh (seq h (all_due old))) seen ∙ asks fresh
-    ∙ sym (ap (λ (x : List Asked × Option NumberType). x.0 ++ done_in x.1 (all_due new)) (is fresh))
+    ∙ sym (ap (λ (x : List OpAtPoint × Option NumberType). x.0 ++ done_in x.1 (all_due new)) (is fresh))
 
 module _ (old : List Due) where
   empty_opened : IsOpened at.Empty old old
@@ -217,11 +219,11 @@ module _ (old : List Due) where
     select_opened : (q base : ℕ) (e : Expr) (arms : Vec Arm Global) → all_due new ≡ apart_before (trees_of (arms_of (map arm_view arms.items))) (all_due old)
         → IsOpened (at.Select q base e arms) old new
     select_opened q base e arms is =
-        let own = done_of q None (give base nobody (expr_view e)) in
+        let own = done_of q None (store_value base nobody (expr_view e)) in
         let all = arms_of (map arm_view arms.items) in
         opens (at.Select q base e arms) (select q base (expr_view e) all) (λ fresh. (own, None)) old new (select_view q base e arms) (own_select q base e arms)
         (λ fresh. append_assoc own (done_in_arms None all) (done_in None (all_due old))
-        ∙ ap (λ (xs : List Asked). own ++ (xs ++ done_in None (all_due old))) (sym (done_arms None all))
+        ∙ ap (λ (xs : List OpAtPoint). own ++ (xs ++ done_in None (all_due old))) (sym (done_arms None all))
         ∙ ap (λ (h : Node). own ++ done_in None h) (sym is))
 
 -- the way ----------------------------------------------------------------------------------------------------------------
@@ -235,7 +237,7 @@ row_asks fresh v r h ts xs x l view is due =
     let g = row (map node_view xs) (node_view l) in
     let seen : v ≡ seq f g = view ∙ ap (λ (ys : List declared.Node). row (map node_view ys) (node_view l)) is in
     ap (λ (w : Node). done_in fresh (seq w r)) seen
-    ∙ append_assoc (done_in fresh f) (done_in (fresh_behind fresh f) g) (done_in (fresh_behind (fresh_behind fresh f) g) r)
+    ∙ append_assoc (done_in fresh f) (done_in (fresh_after fresh f) g) (done_in (fresh_after (fresh_after fresh f) g) r)
     ∙ ap (λ (w : Node). done_in fresh (seq f w)) (sym due)
 
 pub last_asks : (fresh : Option NumberType) (v r : Node) (ts : List declared.Node) (l : declared.Node) → v ≡ row (map node_view ts) (node_view l) → ts ≡ []
@@ -266,10 +268,10 @@ tree_asks fresh r h arms behind a n is tree_is due =
     let seen : arms_of (map arm_view arms) ≡ arm f all =
     arms_first arms behind a is ∙ ap (λ (x : Arm). arm_view x all) tree_is ∙ ap (λ (p : ArmPart). p all) (tree_view n) in
     ap (λ (x : Arms). done_in fresh (seq (trees_of x) r)) seen
-    ∙ append_assoc (done_in fresh f) (done_in (fresh_behind fresh f) g) (done_in (fresh_behind (fresh_behind fresh f) g) r)
+    ∙ append_assoc (done_in fresh f) (done_in (fresh_after fresh f) g) (done_in (fresh_after (fresh_after fresh f) g) r)
     ∙ ap (λ (w : Node). done_in fresh (seq f w)) (sym due)
 
-pub way_by : (n : declared.Node) (fresh later : Option NumberType) (old new : List Due) (t u : List Asked) → IsOpened n old new
+pub way_by : (n : declared.Node) (fresh later : Option NumberType) (old new : List Due) (t u : List OpAtPoint) → IsOpened n old new
     → later ≡ fresh_at fresh n → u ≡ t ++ own_done fresh n → IsOnWay fresh (seq (node_view n) (all_due old)) later (all_due new) t u
 way_by n fresh later old new t u opened behind listed = record {
   done = own_done fresh n;
@@ -278,31 +280,31 @@ way_by n fresh later old new t u opened behind listed = record {
 }
 
 -- what is done, told otherwise
-pub listed_as : {T E : Type 0} (r : outcome.Result T E) (xs ys t u : List Asked) → xs ≡ ys → OnOk r (u ≡ t ++ ys) → OnOk r (u ≡ t ++ xs)
-listed_as r xs ys t u e h = subst (λ (zs : List Asked). OnOk r (u ≡ t ++ zs)) (sym e) h
+pub listed_as : {T E : Type 0} (r : outcome.Result T E) (xs ys t u : List OpAtPoint) → xs ≡ ys → OnOk r (u ≡ t ++ ys) → OnOk r (u ≡ t ++ xs)
+listed_as r xs ys t u e h = subst (λ (zs : List OpAtPoint). OnOk r (u ≡ t ++ zs)) (sym e) h
 
-pub lists_none : (t xs : List Asked) → xs ≡ [] → t ≡ t ++ xs
-lists_none t xs e = sym (append-nil t) ∙ ap (λ (zs : List Asked). t ++ zs) (sym e)
+pub lists_none : (t xs : List OpAtPoint) → xs ≡ [] → t ≡ t ++ xs
+lists_none t xs e = sym (append-nil t) ∙ ap (λ (zs : List OpAtPoint). t ++ zs) (sym e)
 
 -- the same is done
-way_as : (fresh later : Option NumberType) (f g h : Node) (t u : List Asked) → done_in fresh f ≡ done_in fresh g → IsOnWay fresh g later h t u
+way_as : (fresh later : Option NumberType) (f g h : Node) (t u : List OpAtPoint) → done_in fresh f ≡ done_in fresh g → IsOnWay fresh g later h t u
     → IsOnWay fresh f later h t u
 way_as fresh later f g h t u e way = record { done = way.done; is = e ∙ way.is; listed = way.listed }
 
-pub way_if : {E : Type 0} (r : outcome.Result (Option NumberType) E) (fresh : Option NumberType) (f g h : Node) (t u : List Asked)
+pub way_if : {E : Type 0} (r : outcome.Result (Option NumberType) E) (fresh : Option NumberType) (f g h : Node) (t u : List OpAtPoint)
     → done_in fresh f ≡ done_in fresh g → IfOk r (λ later. IsOnWay fresh g later h t u) → IfOk r (λ later. IsOnWay fresh f later h t u)
 way_if r fresh f g h t u e way = IfOk-weaker r (λ later. IsOnWay fresh g later h t u) (λ later. IsOnWay fresh f later h t u)
     (λ later. way_as fresh later f g h t u e) way
 
-pub apart_way : (fresh : Option NumberType) (v h : Node) (t : List Asked) → v ≡ point 0 → IsOnWay fresh (seq v h) None h t t
+pub apart_way : (fresh : Option NumberType) (v h : Node) (t : List OpAtPoint) → v ≡ point 0 → IsOnWay fresh (seq v h) None h t t
 apart_way fresh v h t e = record { done = []; is = ap (λ (w : Node). done_in fresh (seq w h)) e; listed = sym (append-nil t) }
 
 -- nothing is done at a label
-pub same_way : (fresh : Option NumberType) (f h : Node) (t : List Asked) → done_in fresh f ≡ done_in fresh h → IsOnWay fresh f fresh h t t
+pub same_way : (fresh : Option NumberType) (f h : Node) (t : List OpAtPoint) → done_in fresh f ≡ done_in fresh h → IsOnWay fresh f fresh h t t
 same_way fresh f h t e = record { done = []; is = e; listed = sym (append-nil t) }
 
 -- the whole is due
-pub way_first : (g : Node) (ds es : List Due) (d : Due) (t : List Asked) → es ≡ ds ++ d ∷ [] → ds ≡ [] → due_view d ≡ g
+pub way_first : (g : Node) (ds es : List Due) (d : Due) (t : List OpAtPoint) → es ≡ ds ++ d ∷ [] → ds ≡ [] → due_view d ≡ g
     → IsOnWay None g None (all_due es) t t
 way_first g ds es d t e none is = record {
   done = [];
@@ -312,20 +314,20 @@ way_first g ds es d t e none is = record {
 }
 
 -- a step of what is next is one of the whole
-pub next_way : (g : Node) (ds es : List Due) (d : Due) (t u : List Asked) (fresh : Option NumberType) → es ≡ ds ++ d ∷ []
-    → IsOnWay None g fresh (all_due es) t u → (later : Option NumberType) (fs : List Due) (w : List Asked)
+pub next_way : (g : Node) (ds es : List Due) (d : Due) (t u : List OpAtPoint) (fresh : Option NumberType) → es ≡ ds ++ d ∷ []
+    → IsOnWay None g fresh (all_due es) t u → (later : Option NumberType) (fs : List Due) (w : List OpAtPoint)
     → IsOnWay fresh (seq (due_view d) (all_due ds)) later (all_due fs) u w → IsOnWay None g later (all_due fs) t w
 next_way g ds es d t u fresh next way later fs w step = record {
   done = way.done ++ step.done;
-  is = way.is ∙ ap (λ (h : Node). way.done ++ done_in fresh h) (due_push ds es d next) ∙ ap (λ (xs : List Asked). way.done ++ xs) step.is
+  is = way.is ∙ ap (λ (h : Node). way.done ++ done_in fresh h) (due_push ds es d next) ∙ ap (λ (xs : List OpAtPoint). way.done ++ xs) step.is
       ∙ sym (append_assoc way.done step.done (done_in later (all_due fs)));
-  listed = step.listed ∙ ap (λ (xs : List Asked). xs ++ step.done) way.listed ∙ append_assoc t way.done step.done;
+  listed = step.listed ∙ ap (λ (xs : List OpAtPoint). xs ++ step.done) way.listed ∙ append_assoc t way.done step.done;
 }
 
 -- at the end the whole is done
-pub way_whole : (g : Node) (es : List Due) (later : Option NumberType) (t u : List Asked) → es ≡ [] → t ≡ [] → IsOnWay None g later (all_due es) t u
+pub way_whole : (g : Node) (es : List Due) (later : Option NumberType) (t u : List OpAtPoint) → es ≡ [] → t ≡ [] → IsOnWay None g later (all_due es) t u
     → u ≡ done_in None g
-way_whole g es later t u e none way = way.listed ∙ ap (λ (xs : List Asked). xs ++ way.done) none ∙
+way_whole g es later t u e none way = way.listed ∙ ap (λ (xs : List OpAtPoint). xs ++ way.done) none ∙
     sym (way.is ∙ ap (λ (ds : List Due). way.done ++ done_in later (all_due ds)) e ∙ append-nil way.done)
 
 -- sizes ------------------------------------------------------------------------------------------------------------------
@@ -351,7 +353,7 @@ iterate_size q base c a = search (rules, node_lemmas)
 catch_size : (q : ℕ) (k : declared_exit.Exit) (a : Box declared.Node Global) → whole_size (at.Catch q k a) ≡ 2 + whole_size a.value
 catch_size q k a = search (rules, node_lemmas)
 
-select_size : (q base : ℕ) (e : Expr) (arms : Vec Arm Global) → whole_size (at.Select q base e arms) ≡ 2 + arms_size (map arm_sizes arms.items)
+select_size : (q base : ℕ) (e : Expr) (arms : Vec Arm Global) → whole_size (at.Select q base e arms) ≡ 2 + arms_tree_sizes (map arm_sizes arms.items)
 select_size q base e arms = search (rules, node_lemmas)
 
 tree_arm_size : (n : declared.Node) → arm_sizes (Tree n) ≡ sizes n
@@ -408,20 +410,20 @@ row_falls r new between left size w ts xs x e is d h =
 pub none_falls : (left : ℕ) (size : ℕ) → left < left + (1 + 2 * size)
 none_falls left size = omega arith
 
-pub entry_falls : (new left : ℕ) (arms behind : List Arm) (a : Arm) → arms ≡ a ∷ behind → new ≡ left + 1 + 2 * arms_size (map arm_sizes behind)
-    → new < left + (1 + 2 * arms_size (map arm_sizes arms))
+pub entry_falls : (new left : ℕ) (arms behind : List Arm) (a : Arm) → arms ≡ a ∷ behind → new ≡ left + 1 + 2 * arms_tree_sizes (map arm_sizes behind)
+    → new < left + (1 + 2 * arms_tree_sizes (map arm_sizes arms))
 entry_falls new left arms behind a is e =
-    let all = ap (λ (xs : List Arm). arms_size (map arm_sizes xs)) is in
+    let all = ap (λ (xs : List Arm). arms_tree_sizes (map arm_sizes xs)) is in
     omega (arith, all, e)
 
 pub tree_falls : {T E : Type 0} (r : outcome.Result T E) (new between left : ℕ) (arms behind : List Arm) (a : Arm) (n : declared.Node) → arms ≡ a ∷ behind
     → a ≡ Tree n
-    → between ≡ left + 1 + 2 * arms_size (map arm_sizes behind) → OnOk r (new < between + 2 * whole_size n)
-    → OnOk r (new < left + (1 + 2 * arms_size (map arm_sizes arms)))
+    → between ≡ left + 1 + 2 * arms_tree_sizes (map arm_sizes behind) → OnOk r (new < between + 2 * whole_size n)
+    → OnOk r (new < left + (1 + 2 * arms_tree_sizes (map arm_sizes arms)))
 tree_falls r new between left arms behind a n is tree_is e h =
-    let all = ap (λ (xs : List Arm). arms_size (map arm_sizes xs)) is in
+    let all = ap (λ (xs : List Arm). arms_tree_sizes (map arm_sizes xs)) is in
     let own = ap (λ (x : Arm). (arm_sizes x).0) tree_is ∙ ap (λ (p : ℕ × ℕ). p.0) (tree_arm_size n) in
-    on_ok_weaker {P = new < between + 2 * whole_size n} {Q = new < left + (1 + 2 * arms_size (map arm_sizes arms))} r
+    on_ok_weaker {P = new < between + 2 * whole_size n} {Q = new < left + (1 + 2 * arms_tree_sizes (map arm_sizes arms))} r
     (λ less. omega (arith, all, own, e, less)) h
 
 -- arms, and behind them a point
@@ -482,9 +484,9 @@ module _ {T E : Type 0} (r : outcome.Result T E) (n : declared.Node) (old new : 
     pub select_opens : OnOk r (all_due new ≡ apart_before (trees_of (arms_of (map arm_view arms.items))) (all_due old)) → OnOk r (IsOpened n old new)
     select_opens = seen_opened (at.Select q base e arms) _ is (select_opened old new q base e arms)
 
-    pub select_falls : OnOk r (all_left new ≡ all_left old + 2 + 2 * arms_size (map arm_sizes arms.items))
+    pub select_falls : OnOk r (all_left new ≡ all_left old + 2 + 2 * arms_tree_sizes (map arm_sizes arms.items))
         → OnOk r (all_left new < all_left old + 2 * whole_size n)
-    select_falls = seen_falls (at.Select q base e arms) (2 + arms_size (map arm_sizes arms.items)) _ is (select_size q base e arms) (omega arith)
+    select_falls = seen_falls (at.Select q base e arms) (2 + arms_tree_sizes (map arm_sizes arms.items)) _ is (select_size q base e arms) (omega arith)
 
 -- a tree with none in it
 module _ (n : declared.Node) (left : List Due) where

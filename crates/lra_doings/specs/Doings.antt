@@ -4,10 +4,10 @@ use Rattle.std.specs.Prelude.{ℕ, List, Option, Bool, true}
 use Rattle.lra_base.specs.declared.number_types.NumberType.{NumberType}
 use Rattle.lra_program.specs.ProgramViews.{cond_view, expr_view}
 use Rattle.lra_program.specs.Receivers.{nobody}
-use Rattle.lra_program.specs.Step.{Op, give, test}
-use Rattle.lra_operations.specs.Asked.{Asked, asking_of, asking_in, asking_in_arms}
-use Rattle.lra_operations.specs.Graph.{Node, Arms}
-use Rattle.lra_operations.specs.GraphViews.{op_view}
+use Rattle.lra_program.specs.Step.{Op, store_value, test}
+use Rattle.lra_operations.specs.CheckedOperations.{OpAtPoint, op_where, ops_where, ops_where_in_arms}
+use Rattle.lra_operations.specs.Tree.{Node, Arms}
+use Rattle.lra_operations.specs.TreeViews.{op_view}
 use Rattle.lra_doings.specs.declared.doings.Doing.{Doing}
 use Rattle.lra_doings.specs.declared.doings.Doing.TheVariants.{Change, Condition, Value}
 use Rattle.lra_doings.specs.declared.doings.Done.{Done}
@@ -16,19 +16,19 @@ use Rattle.lra_doings.specs.declared.doings.Done.{Done}
 abbrev pub doing_view : Doing → Op
 doing_view (Change o) = op_view o.now
 doing_view (Condition base c) = test base (cond_view c.now) true
-doing_view (Value base e) = give base nobody (expr_view e.now)
+doing_view (Value base e) = store_value base nobody (expr_view e.now)
 
-abbrev pub done_view : Done → Asked
+abbrev pub done_view : Done → OpAtPoint
 done_view d = record { point = d.point; fresh = d.fresh; op = doing_view d.doing }
 
 abbrev pub any_op : Op → Bool
 any_op op = true
 
-abbrev pub done_of : ℕ → Option NumberType → Op → List Asked
-done_of q fresh op = asking_of any_op q fresh op
+abbrev pub done_of : ℕ → Option NumberType → Op → List OpAtPoint
+done_of q fresh op = op_where any_op q fresh op
 
-abbrev pub done_in : Option NumberType → Node → List Asked
-done_in fresh g = asking_in any_op fresh g
+abbrev pub done_in : Option NumberType → Node → List OpAtPoint
+done_in fresh g = ops_where any_op fresh g
 
-abbrev pub done_in_arms : Option NumberType → Arms → List Asked
-done_in_arms fresh arms = asking_in_arms any_op fresh arms
+abbrev pub done_in_arms : Option NumberType → Arms → List OpAtPoint
+done_in_arms fresh arms = ops_where_in_arms any_op fresh arms

@@ -4,15 +4,15 @@ use Rattle.std.specs.List.{sum_by}
 use Rattle.lra_base.specs.declared.number_types.NumberType.{NumberType}
 use Rattle.lra_program.specs.ProgramViews.{cond_view, expr_view}
 use Rattle.lra_program.specs.Receivers.{nobody}
-use Rattle.lra_program.specs.Step.{give, test}
-use Rattle.lra_operations.specs.Asked.{Asked, fresh_of}
+use Rattle.lra_program.specs.Step.{store_value, test}
+use Rattle.lra_operations.specs.CheckedOperations.{OpAtPoint, fresh_of}
 use Rattle.lra_doings.specs.Doings.{done_in, done_of}
-use Rattle.lra_operations.specs.Graph.{Node, empty, point, seq, Arms, no_arms, entry, arm}
-use Rattle.lra_operations.specs.GraphViews.{node_view, op_view, row, arm_view, arms_of}
-use Rattle.lra_operations.specs.Sizes.{whole_size, arm_sizes, arms_size}
-use Rattle.lra_operations.specs.declared.graph.Node as declared
-use Rattle.lra_operations.specs.declared.graph.Arm.TheFolds.{fold-Node}
-use Rattle.lra_operations.specs.declared.graph.Arm.TheOpen.{Arm-F, Node-F}
+use Rattle.lra_operations.specs.Tree.{Node, empty, point, seq, Arms, no_arms, entry, arm}
+use Rattle.lra_operations.specs.TreeViews.{node_view, op_view, row, arm_view, arms_of}
+use Rattle.lra_operations.specs.Sizes.{whole_size, arm_sizes, arms_tree_sizes}
+use Rattle.lra_operations.specs.declared.tree.Node as declared
+use Rattle.lra_operations.specs.declared.tree.Arm.TheFolds.{fold-Node}
+use Rattle.lra_operations.specs.declared.tree.Arm.TheOpen.{Arm-F, Node-F}
 use Rattle.lra_doings.specs.declared.trees.Due.{Due}
 use Rattle.lra_doings.specs.declared.trees.Due.TheVariants.{Tree, Row, Arms as ArmsDue, Apart}
 
@@ -43,7 +43,7 @@ apart_before g h = seq g (seq (point 0) h)
 
 -- what is done, and the type of the variable that is new then
 abbrev pub Own : Type 0
-Own = List Asked × Option NumberType
+Own = List OpAtPoint × Option NumberType
 
 -- an arm does nothing itself
 abbrev pub own_arm : Arm-F Own Own → Own
@@ -61,12 +61,12 @@ own_step fresh (Node-F.Choose q base c a b) = (done_of q None (test base (cond_v
 own_step fresh (Node-F.Iterate q base c a) = (done_of q None (test base (cond_view c) true), None)
 own_step fresh (Node-F.Catch q k a) = ([], None)
 own_step fresh (Node-F.Leave n k) = ([], None)
-own_step fresh (Node-F.Select q base e arms) = (done_of q None (give base nobody (expr_view e)), None)
+own_step fresh (Node-F.Select q base e arms) = (done_of q None (store_value base nobody (expr_view e)), None)
 
 abbrev pub own_of : Option NumberType → declared.Node → Own
 own_of fresh = fold-Node Own Own own_arm (own_step fresh)
 
-abbrev pub own_done : Option NumberType → declared.Node → List Asked
+abbrev pub own_done : Option NumberType → declared.Node → List OpAtPoint
 own_done fresh n = (own_of fresh n).0
 
 abbrev pub fresh_at : Option NumberType → declared.Node → Option NumberType
@@ -81,7 +81,7 @@ IsOpened n old new = (fresh : Option NumberType) → done_in fresh (seq (node_vi
 abbrev pub due_size : Due → ℕ
 due_size (Tree n) = 2 * whole_size n.now
 due_size (Row trees last) = 1 + (2 * sum_by whole_size trees.now + 2 * whole_size last.now)
-due_size (ArmsDue arms) = 1 + 2 * arms_size (map arm_sizes arms.now)
+due_size (ArmsDue arms) = 1 + 2 * arms_tree_sizes (map arm_sizes arms.now)
 due_size Apart = 1
 
 abbrev pub all_left : List Due → ℕ
@@ -89,8 +89,9 @@ all_left ds = sum_by due_size ds
 
 -- Of a tree, at whose beginning a variable may be new, this is left, with that which is new then: what was done between
 -- came behind the others.
-pub record IsOnWay (fresh : Option NumberType) (g : Node) (later : Option NumberType) (h : Node) (old new : List Asked)
+pub record IsOnWay (fresh : Option NumberType) (g : Node) (later : Option NumberType) (h : Node)
+    (old new : List OpAtPoint)
     : Type 0 where
-  pub done : List Asked
+  pub done : List OpAtPoint
   pub is : done_in fresh g ≡ done ++ done_in later h
   pub listed : new ≡ old ++ done

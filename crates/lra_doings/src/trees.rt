@@ -2,10 +2,10 @@
 
 ghost use Rattle.std.specs.Prelude.{◌≡◌, ◌<◌, ◌+◌, ◌*◌, ◌++◌, None, map, IfOk, OnOk};
 ghost use Rattle.std.specs.List.{sum_by};
-ghost use Rattle.lra_operations.specs.Asked.{fresh_of};
-ghost use Rattle.lra_operations.specs.Graph.{seq};
-ghost use Rattle.lra_operations.specs.GraphViews.{node_view, op_view, row, arm_view, arms_of};
-ghost use Rattle.lra_operations.specs.Sizes.{whole_size, arm_sizes, arms_size};
+ghost use Rattle.lra_operations.specs.CheckedOperations.{fresh_of};
+ghost use Rattle.lra_operations.specs.Tree.{seq};
+ghost use Rattle.lra_operations.specs.TreeViews.{node_view, op_view, row, arm_view, arms_of};
+ghost use Rattle.lra_operations.specs.Sizes.{whole_size, arm_sizes, arms_tree_sizes};
 ghost use Rattle.lra_doings.specs.Doings.{doing_view, done_in, done_of, done_view};
 ghost use Rattle.lra_doings.specs.Due.{all_due, all_left, apart_before, due_size, due_view, fresh_at};
 ghost use Rattle.lra_doings.specs.Due.{own_done, trees_of, IsOnWay, IsOpened};
@@ -85,7 +85,7 @@ fn push_arms<'a>(left: &mut Vec<Due<'a>>, arms: &'a [Arm]) -> Result<(), AllocEr
     ensures is { OnOk result (all_due left.new.items ≡
         seq (trees_of (arms_of (map arm_view arms.now))) (all_due left.old.items)) }
     ensures size { OnOk result (all_left left.new.items ≡
-        all_left left.old.items + 1 + 2 * arms_size (map arm_sizes arms.now)) }
+        all_left left.old.items + 1 + 2 * arms_tree_sizes (map arm_sizes arms.now)) }
 {
     left.push(Due::Arms(arms))?;
     Ok(())
@@ -96,7 +96,7 @@ fn push_selection<'a>(left: &mut Vec<Due<'a>>, arms: &'a [Arm]) -> Result<(), Al
     ensures is { OnOk result (all_due left.new.items ≡
         apart_before (trees_of (arms_of (map arm_view arms.now))) (all_due left.old.items)) }
     ensures size { OnOk result (all_left left.new.items ≡
-        all_left left.old.items + 2 + 2 * arms_size (map arm_sizes arms.now)) }
+        all_left left.old.items + 2 + 2 * arms_tree_sizes (map arm_sizes arms.now)) }
 {
     left.push(Due::Apart)?;
     push_arms(left, arms)
@@ -116,7 +116,7 @@ fn open_node<'a>(left: &mut Vec<Due<'a>>, node: &'a Node) -> Result<(), AllocErr
         Node::Select(_, _, _, arms) => push_selection(left, arms.as_slice()),
         Node::Empty => Ok(()),
         Node::Point(_) => Ok(()),
-        Node::Aside(_, _) => Ok(()),
+        Node::Probe(_, _) => Ok(()),
         Node::Act(_, _) => Ok(()),
         Node::Check(_, _, _) => Ok(()),
         Node::Leave(_, _) => Ok(()),
@@ -131,7 +131,7 @@ fn fresh_at(fresh: Option<NumberType>, node: &Node) -> Option<NumberType>
         Node::Empty => fresh,
         Node::Seq(_, _) => fresh,
         Node::Act(_, op) => fresh_of(op),
-        Node::Aside(_, _) => fresh,
+        Node::Probe(_, _) => fresh,
         Node::Point(_) => None,
         Node::Check(_, _, _) => None,
         Node::Choose(_, _, _, _, _) => None,
@@ -185,7 +185,7 @@ fn list_own<'a>(
         }
         Node::Empty => Ok(()),
         Node::Point(_) => Ok(()),
-        Node::Aside(_, _) => Ok(()),
+        Node::Probe(_, _) => Ok(()),
         Node::Seq(_, _) => Ok(()),
         Node::Catch(_, _, _) => Ok(()),
         Node::Leave(_, _) => Ok(()),
@@ -223,7 +223,7 @@ fn list_arms<'a>(
         (seq (trees_of (arms_of (map arm_view arms.now))) (all_due left.old.items)) later
         (all_due left.new.items) (map done_view done.old.items) (map done_view done.new.items)) }
     ensures falls { OnOk result (all_left left.new.items <
-        all_left left.old.items + (1 + 2 * arms_size (map arm_sizes arms.now))) }
+        all_left left.old.items + (1 + 2 * arms_tree_sizes (map arm_sizes arms.now))) }
 {
     let Some((arm, behind)) = arms.split_first() else {
         return Ok(fresh);

@@ -10,15 +10,16 @@ use Rattle.std.proofs.lemmas.List.Elements.{All-nil, All-cons, All-head, All-tai
 use Rattle.lra_base.specs.declared.case_labels.CaseLabel.{CaseLabel}
 use Rattle.lra_base.specs.declared.number_types.NumberType.{NumberType}
 use Rattle.lra_program.specs.declared.receivers.Receiver.{Receiver}
-use Rattle.lra_program.specs.Receivers.{behind_result}
+use Rattle.lra_program.specs.Receivers.{result_receiver}
 use Rattle.lra_program.specs.Program.{Expr, Cond, Call, Rvalue, Stmt, Cases, BlockItems, Program}
 use Rattle.lra_program.specs.Value.{Argument}
 use Rattle.lra_program.specs.Step.{Op}
 use Rattle.lra_program.specs.Sites.{Site, sites_of}
-use Rattle.lra_operations.specs.Graph.{Exit, normal, Node, empty, point, act, check, seq, choose, iterate, catch, leave, select}
-use Rattle.lra_operations.specs.Graph.{Arms, no_arms, entry, arm}
-use Rattle.lra_operations.specs.Agree.{IsGraph}
-use Rattle.lra_operations.specs.Inlined.{Spot, spot_of, move, callee, Has, Inl, InlAll, InlCases, Declares, Loops, Gives, Calls, main_spot}
+use Rattle.lra_operations.specs.Tree.{Exit, normal, Node, empty, point, act, check, seq, choose, iterate, catch, leave, select}
+use Rattle.lra_operations.specs.Tree.{Arms, no_arms, entry, arm}
+use Rattle.lra_operations.specs.Agree.{IsInlinedTree}
+use Rattle.lra_operations.specs.Inlined.{InlineState, spot_of, move, callee, IsSiteAt, InlineStmt, InlineItems, InlineCases, InlineDeclarator, InlineLoop}
+use Rattle.lra_operations.specs.Inlined.{InlineRvalue, InlineCall, main_inline_state}
 use Rattle.lra_operations.specs.Inlined.{as_nothing, as_block, as_absent, as_assign, as_write, as_write_call, as_call, as_if, as_loop, as_for}
 use Rattle.lra_operations.specs.Inlined.{as_break, as_continue, as_return, as_return_value, as_return_call, as_end, as_end_value, as_end_call, as_assert}
 use Rattle.lra_operations.specs.Inlined.{as_switch, as_no_cases, as_labelled, as_stated}
@@ -66,14 +67,14 @@ module _ (T : List Site) (p : ℕ) where
   none_denied : (n : ℕ) → Denied [] n n
   none_denied n = record { ordered = omega arith; within = λ h i. absurd (omega (arith, h, i)); before = λ h. refl; behind = λ h. refl }
 
-  no_assertion : (s : Spot) (at : ℕ) → Has T s at → s.next ≡ p → IsAssertion T p → ⊥
+  no_assertion : (s : InlineState) (at : ℕ) → IsSiteAt T s at → s.next ≡ p → IsAssertion T p → ⊥
   no_assertion s at has same (site, there, asserts) =
       let here : asserts_there (slice_get T p) ≡ false = subst (λ (q : ℕ). asserts_there (slice_get T q) ≡ false) same (ap asserts_there has) in
       let never : false ≡ true = sym here ∙ ap asserts_there there ∙ asserts in
       cc
 
   -- a point that doesn't assert
-  plain_point : (s : Spot) (at : ℕ) → Has T s at → Denied [] s.next (suc s.next)
+  plain_point : (s : InlineState) (at : ℕ) → IsSiteAt T s at → Denied [] s.next (suc s.next)
   plain_point s at has = record {
     ordered = omega arith;
     within = λ h i asserted. absurd (no_assertion s at has (omega (arith, h, i)) asserted);
@@ -155,7 +156,7 @@ module _ (T : List Site) (p : ℕ) where
   in_leave : {m n : ℕ} {k : Exit} → In (leave m k) n n
   in_leave {m} {n} {k} = record { passes = All-nil Passes; denied = none_denied n }
 
-  in_point : (s : Spot) (at : ℕ) → Has T s at → In (point s.next) s.next (suc s.next)
+  in_point : (s : InlineState) (at : ℕ) → IsSiteAt T s at → In (point s.next) s.next (suc s.next)
   in_point s at has = record {
     passes = All-cons Passes (record { ops = []; goal = comes_to s.next }) [] refl (All-nil Passes);
     denied = plain_point s at has;
@@ -262,7 +263,7 @@ module _ (T : List Site) (p : ℕ) where
 
   module _ (P : Program) where
     mutual
-      in_one : {spot : Spot} {s : Stmt} {g : Node} {q : ℕ} → Inl P T spot s g q → In g spot.next q
+      in_one : {spot : InlineState} {s : Stmt} {g : Node} {q : ℕ} → InlineStmt P T spot s g q → In g spot.next q
       in_one (as_nothing {s = spot} {at = at} i) = in_point spot at i
       in_one (as_block {s = spot} {end = end} {n = n'} {q = q'} d i) = in_seq (in_all d) (in_seq (in_point (move spot n' q') end i) in_act)
       in_one (as_absent {s = spot}) = in_empty spot.next
@@ -285,43 +286,44 @@ module _ (T : List Site) (p : ℕ) where
       in_one (as_assume {s = spot} {at = at} i) = in_seq (in_point spot at i) in_act
       in_one (as_switch {s = spot} {at = at} i d) = in_seq (in_point spot at i) (in_catch (in_select (in_cases d)))
 
-      in_cases : {spot : Spot} {cs : Cases} {arms : Arms} {q : ℕ} → InlCases P T spot cs arms q → InArms arms spot.next q
+      in_cases : {spot : InlineState} {cs : Cases} {arms : Arms} {q : ℕ} → InlineCases P T spot cs arms q → InArms arms spot.next q
       in_cases (as_no_cases {s = spot}) = in_no_arms spot.next
       in_cases (as_labelled d) = in_entry (in_cases d)
       in_cases (as_stated d e) = in_arm (in_one d) (in_cases e)
 
-      in_all : {spot : Spot} {s : BlockItems} {g : Node} {n q : ℕ} → InlAll P T spot s g n q → In g spot.next q
+      in_all : {spot : InlineState} {s : BlockItems} {g : Node} {n q : ℕ} → InlineItems P T spot s g n q → In g spot.next q
       in_all (as_none {s = spot}) = in_empty spot.next
       in_all (as_declaration {s = spot} {d = d} i j e) = in_seq (in_seq (in_point spot d.label i) (in_declares j)) (in_all e)
       in_all (as_array {s = spot} {at = at} i e) = in_seq (in_seq (in_point spot at i) in_act) (in_all e)
       in_all (as_statement d e) = in_seq (in_one d) (in_all e)
 
-      in_declares : {spot : Spot} {r : ℕ} {t : NumberType} {e : Option Rvalue} {g : Node} {q : ℕ} → Declares P T spot r t e g q → In g r q
+      in_declares : {spot : InlineState} {r : ℕ} {t : NumberType} {e : Option Rvalue} {g : Node} {q : ℕ} → InlineDeclarator P T spot r t e g q → In g r q
       in_declares as_fresh = in_act
       in_declares (as_given d) = in_seq in_act (in_gives d)
 
-      in_loop : {spot : Spot} {r : ℕ} {s : Stmt} {g : Node} {q : ℕ} → Loops P T spot r s g q → Loop g spot.next r q
+      in_loop : {spot : InlineState} {r : ℕ} {s : Stmt} {g : Node} {q : ℕ} → InlineLoop P T spot r s g q → Loop g spot.next r q
       in_loop (is_loop {s = spot} {at = at} i d e) = record {
         own = plain_point spot at i;
         rest = in_catch (in_iterate (in_swapped (in_one d) (in_catch (in_one e))));
       }
 
-      in_gives : {spot : Spot} {r : ℕ} {x : Receiver} {e : Rvalue} {g : Node} {q : ℕ} → Gives P T spot r x e g q → In g r q
+      in_gives : {spot : InlineState} {r : ℕ} {x : Receiver} {e : Rvalue} {g : Node} {q : ℕ} → InlineRvalue P T spot r x e g q → In g r q
       in_gives as_value = in_act
       in_gives (as_result d) = in_calls d
 
-      in_calls : {spot : Spot} {r : ℕ} {x : Receiver} {gives : List Argument → Op} {c : Call} {g : Node} {q : ℕ} → Calls P T spot r x gives c g q → In g r q
+      in_calls : {spot : InlineState} {r : ℕ} {x : Receiver} {gives : List Argument → Op} {c : Call} {g : Node} {q : ℕ} → InlineCall P T spot r x gives c g q →
+          In g r q
       in_calls (is_call {s = spot} {x = x} {c = c} {fn = fn} {n = n'} {q = r'} i j d l) =
-          let end = in_point (spot_of (callee spot.frame spot.live (behind_result fn.result_type x) c) n' r') fn.end l in
+          let end = in_point (spot_of (callee spot.frame spot.live (result_receiver fn.result_type x) c) n' r') fn.end l in
           in_seq in_act (in_catch (in_seq (in_all d) (in_seq end (in_seq in_act (in_seq in_act in_act)))))
 
-pub assertions_denied : (P : Program) (g : Node) → IsGraph P g → AreAsserted (sites_of P) g
+pub assertions_denied : (P : Program) (g : Node) → IsInlinedTree P g → AreAsserted (sites_of P) g
 assertions_denied P g graph =
     subst (AreAsserted (sites_of P)) (sym graph.parts) (λ p asserted. (whole p).denied.within (omega arith) (below p asserted) asserted)
   where
     whole : (p : ℕ) → In (sites_of P) p (seq graph.body (point graph.last)) 0 (suc graph.last)
     whole p = in_seq (sites_of P) p (in_all (sites_of P) p P graph.inlined)
-        (in_point (sites_of P) p (move (main_spot P) graph.live graph.last) P.main.end graph.ends)
+        (in_point (sites_of P) p (move (main_inline_state P) graph.live graph.last) P.main.end graph.ends)
 
     below : (p : ℕ) → IsAssertion (sites_of P) p → p < suc graph.last
     below p (s, there, asserts) = let inside = slice_get_within (sites_of P) p s there in omega (arith, inside, graph.all)

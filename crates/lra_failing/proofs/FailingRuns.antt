@@ -12,10 +12,10 @@ use Rattle.lra_program.specs.Program.{Program}
 use Rattle.lra_program.specs.Step.{Config, next}
 use Rattle.lra_program.specs.Run.{Fails, IsFailing, IsOn, Point, Reaches, Steps, label_on, start}
 use Rattle.lra_program.specs.Sites.{Site, sites_of}
-use Rattle.lra_program.specs.Trails.{Alone, Becomes, Met, Piece, Walks, met_on, passes}
+use Rattle.lra_program.specs.Traces.{NoChange, Becomes, TraceEvent, RunSegment, TracedSteps, with_visit, visit}
 use Rattle.lra_program.specs.WellFormed.{IsWellFormed}
-use Rattle.lra_operations.specs.Agree.{IsGraph, point_of}
-use Rattle.lra_operations.specs.Graph.{Node}
+use Rattle.lra_operations.specs.Agree.{IsInlinedTree, point_of}
+use Rattle.lra_operations.specs.Tree.{Node}
 use Rattle.lra_agreement.proofs.Agreement.{graphs_agree}
 use Rattle.lra_agreement.proofs.DistinctSites.{distinct_sites}
 use Rattle.lra_ways.specs.Ways.{comes_to}
@@ -40,7 +40,7 @@ reaches_next P c d run step = record {
   steps = steps_on P run.length (start P run.draws) c d run.steps step;
 }
 
-module _ (P : Program) (g : Node) (well : IsWellFormed P) (is : IsGraph P g) (held : ℕ → List ℤ → Type 0) (p : ℕ) (asserts : Site)
+module _ (P : Program) (g : Node) (well : IsWellFormed P) (is : IsInlinedTree P g) (held : ℕ → List ℤ → Type 0) (p : ℕ) (asserts : Site)
     (assertion : slice_get (sites_of P) p ≡ Some asserts)
     -- held is what a path leads from, and where the assertion fails
     (before : (c : Config) (q r : ℕ) (s t : Site) (behind : List ℤ) → slice_get (sites_of P) q ≡ Some s → slice_get (sites_of P) r ≡ Some t → Reaches P c
@@ -64,7 +64,7 @@ module _ (P : Program) (g : Node) (well : IsWellFormed P) (is : IsGraph P g) (he
     pub reached : Reaches P there
     pub on : IsOn there (point_of site)
     pub steps : ℕ
-    pub quiet : (xs : List (Met Point)) → Walks Alone P steps c xs there xs
+    pub quiet : (xs : List (TraceEvent Point)) → TracedSteps NoChange P steps c xs there xs
     pub holds : held number there.state.store
     pub here : (q : ℕ) (s : Site) → slice_get (sites_of P) q ≡ Some s → IsOn c (point_of s) → held q c.state.store
 
@@ -84,7 +84,7 @@ module _ (P : Program) (g : Node) (well : IsWellFormed P) (is : IsGraph P g) (he
   }
 
   module _ (c d : Config) (run : Reaches P c) (step : next P c ≡ Some d) (ahead : Ahead d) where
-    becomes : (o : Option ℕ) → Becomes Alone o c.state c.state
+    becomes : (o : Option ℕ) → Becomes NoChange o c.state c.state
     becomes None = refl
     becomes (Some label) = refl
 
@@ -102,16 +102,17 @@ module _ (P : Program) (g : Node) (well : IsWellFormed P) (is : IsGraph P g) (he
         d,
         becomes (label_on c.items),
         step,
-        subst (λ o. Walks Alone P ahead.steps d (met_on o c.here.path c.state xs) ahead.there xs) (sym off) (ahead.quiet xs),
+        subst (λ o. TracedSteps NoChange P ahead.steps d (with_visit o c.here.path c.state xs) ahead.there xs) (sym off) (ahead.quiet xs),
       );
       holds = ahead.holds;
       here = λ q s at on. absurd (none-some s.label (sym off ∙ on.label));
     }
 
-    piece_on : (label : ℕ) (q : Point) → label_on c.items ≡ Some label → record { path = c.here.path; label = label } ≡ q → Piece Alone P q c ahead.there
+    piece_on : (label : ℕ) (q : Point) → label_on c.items ≡ Some label → record { path = c.here.path; label = label } ≡ q →
+        RunSegment NoChange P q c ahead.there
     piece_on label q on same =
         let point : Point = record { path = c.here.path; label = label } in
-        subst (λ (r : Point). Piece Alone P r c ahead.there) same (
+        subst (λ (r : Point). RunSegment NoChange P r c ahead.there) same (
           record { label = on; path = refl },
           suc ahead.steps,
           λ xs. (
@@ -119,8 +120,8 @@ module _ (P : Program) (g : Node) (well : IsWellFormed P) (is : IsGraph P g) (he
             d,
             becomes (label_on c.items),
             step,
-            subst (λ o. Walks Alone P ahead.steps d (met_on o c.here.path c.state xs) ahead.there (passes point c.state ∷ xs)) (sym on)
-                (ahead.quiet (passes point c.state ∷ xs)),
+            subst (λ o. TracedSteps NoChange P ahead.steps d (with_visit o c.here.path c.state xs) ahead.there (visit point c.state ∷ xs)) (sym on)
+                (ahead.quiet (visit point c.state ∷ xs)),
           ),
         )
 
@@ -181,7 +182,7 @@ module _ (P : Program) (g : Node) (well : IsWellFormed P) (is : IsGraph P g) (he
 
 module _ {V H : Type 0} (m : Abstraction V H) (b : BackwardAbstraction V) (laws : Laws m) (P : Program) (g : Node) (forward values : List V) (f flag : Option ℕ)
     (p : ℕ)
-    (well : IsWellFormed P) (is : IsGraph P g) (fit : PathsFit P.globals (sites_of P) g) (wide : AreWide m (sites_of P) forward)
+    (well : IsWellFormed P) (is : IsInlinedTree P g) (fit : PathsFit P.globals (sites_of P) g) (wide : AreWide m (sites_of P) forward)
     (holds : HoldsAtPoints m P forward)
     (z : Backs (dropping m b) P.globals (sites_of P) g forward f p values flag) where
   abbrev Held : ℕ → List ℤ → Type 0

@@ -7,9 +7,9 @@ use Rattle.std.proofs.lemmas.Option.{same_Some}
 use Rattle.lra_domain.specs.Abstraction.{Abstraction}
 use Rattle.lra_program.specs.Program.{Stmt, BlockItems, Program}
 use Rattle.lra_program.specs.Sites.{Site, sites_of}
-use Rattle.lra_operations.specs.Graph.{normal, Node, point, seq}
-use Rattle.lra_operations.specs.Agree.{IsGraph}
-use Rattle.lra_operations.specs.Inlined.{Spot, Inl, InlAll, Loops}
+use Rattle.lra_operations.specs.Tree.{normal, Node, point, seq}
+use Rattle.lra_operations.specs.Agree.{IsInlinedTree}
+use Rattle.lra_operations.specs.Inlined.{InlineState, InlineStmt, InlineItems, InlineLoop}
 use Rattle.lra_operations.specs.Inlined.{as_nothing, as_block, as_absent, as_assign, as_write, as_write_call, as_call, as_if, as_loop, as_for}
 use Rattle.lra_operations.specs.Inlined.{as_break, as_continue, as_return, as_return_value, as_return_call, as_end, as_end_value, as_end_call, as_assert}
 use Rattle.lra_operations.specs.Inlined.{as_assume, as_switch, as_none, as_declaration, as_array, as_statement, is_loop}
@@ -91,11 +91,11 @@ module _ (T : List Site) where
 
 -- trees of programs -------------------------------------------------------------------------------------------------------
 
-loop_stops : {P : Program} {T : List Site} {spot : Spot} {r : ℕ} {s : Stmt} {g : Node} {q : ℕ} → Loops P T spot r s g q → Stops T g
+loop_stops : {P : Program} {T : List Site} {spot : InlineState} {r : ℕ} {s : Stmt} {g : Node} {q : ℕ} → InlineLoop P T spot r s g q → Stops T g
 loop_stops (is_loop i d e) = (_, _, i, record { enters = refl; ends = refl })
 
 mutual
-  one_begins : {P : Program} {T : List Site} {spot : Spot} {s : Stmt} {g : Node} {q : ℕ} → Inl P T spot s g q → Begins T g
+  one_begins : {P : Program} {T : List Site} {spot : InlineState} {s : Stmt} {g : Node} {q : ℕ} → InlineStmt P T spot s g q → Begins T g
   one_begins (as_nothing i) = inr (at_point _ _ _ i)
   one_begins (as_block d i) = inr (in_either _ _ _ (all_begin d) (behind_point _ _ _ _ i))
   one_begins as_absent = inl (record { enters = refl; ends = refl })
@@ -118,13 +118,13 @@ mutual
   one_begins (as_assume i) = inr (behind_point _ _ _ _ i)
   one_begins (as_switch i d) = inr (behind_point _ _ _ _ i)
 
-  all_begin : {P : Program} {T : List Site} {spot : Spot} {s : BlockItems} {g : Node} {n q : ℕ} → InlAll P T spot s g n q → Begins T g
+  all_begin : {P : Program} {T : List Site} {spot : InlineState} {s : BlockItems} {g : Node} {n q : ℕ} → InlineItems P T spot s g n q → Begins T g
   all_begin as_none = inl (record { enters = refl; ends = refl })
   all_begin (as_declaration i j e) = inr (in_first _ _ _ (behind_point _ _ _ _ i))
   all_begin (as_array i e) = inr (in_first _ _ _ (behind_point _ _ _ _ i))
   all_begin (as_statement d e) = in_sequence _ _ _ (one_begins d) (all_begin e)
 
-graph_stops : (P : Program) (g : Node) → IsGraph P g → Stops (sites_of P) g
+graph_stops : (P : Program) (g : Node) → IsInlinedTree P g → Stops (sites_of P) g
 graph_stops P g is = subst (Stops (sites_of P)) (sym is.parts)
     (in_either (sites_of P) is.body (point is.last) (all_begin is.inlined) (at_point (sites_of P) is.last _ is.ends))
 

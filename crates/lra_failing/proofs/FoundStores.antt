@@ -18,7 +18,7 @@ use Rattle.lra_program.specs.Program.{Cond}
 use Rattle.lra_program.specs.Step.{test}
 use Rattle.lra_program.specs.Sites.{Site}
 use Rattle.lra_program.specs.declared.program.GlobalVariable.{GlobalVariable}
-use Rattle.lra_operations.specs.Graph.{Node}
+use Rattle.lra_operations.specs.Tree.{Node}
 use Rattle.lra_flow.specs.MovesOf.{guard}
 use Rattle.lra_flow.specs.Pass.{noted}
 use Rattle.lra_flow.proofs.Covers.{stays_has}

@@ -17,7 +17,7 @@ use Rattle.lra_program.specs.declared.receivers.Cell.TheVariants.{Variable, Wait
 use Rattle.lra_program.specs.declared.receivers.Target.{Target}
 use Rattle.lra_program.specs.Value.{Argument}
 use Rattle.lra_program.specs.Program.{Cond, literal, compare, nonzero, opposite, both_of, either_of}
-use Rattle.lra_program.specs.Step.{Op, append, fill, give, give_element, give_any, push_for, keep}
+use Rattle.lra_program.specs.Step.{Op, append, fill, store_value, store_element, havoc, push_for, truncate_to}
 use Rattle.lra_program.specs.Step as step
 use Rattle.lra_linear_spec.specs.declared.ConKind.TheVariants.{Ge}
 use Rattle.lra_linear_forms.specs.Form.{Form}
@@ -218,12 +218,12 @@ op_leads : (op : Op) (n : ℕ) → n ≤ most_live → OpFits op n → SidesLead
 op_leads (append t) n few fits = within_leads t n (make (embed 1)) n (suc n)
     (make_leads (embed 1) n (suc n) (omega (arith, fits)) (let one : n + 1 ≡ suc n = omega arith in one))
 op_leads (fill a) n few fits = stay_leads n n refl
-op_leads (give base x y) n few fits = target_leads x.target (seen_of n base y) n few fits (seen_fits n base y)
-op_leads (give_element base x y) n few fits = stay_leads n n refl
-op_leads (give_any x) n few fits = target_leads x.target Unseen n few fits tt
+op_leads (store_value base x y) n few fits = target_leads x.target (seen_of n base y) n few fits (seen_fits n base y)
+op_leads (store_element base x y) n few fits = stay_leads n n refl
+op_leads (havoc x) n few fits = target_leads x.target Unseen n few fits tt
 op_leads (step.push base given) n few fits = push_leads base given n fits
 op_leads (push_for base x given) n few fits = push_leads base given n fits
-op_leads (keep k) n few fits = drop_leads (n - k) n (omega arith)
+op_leads (truncate_to k) n few fits = drop_leads (n - k) n (omega arith)
 op_leads (step.test base c wanted) n few fits = guard_leads n few base wanted c
 
 -- what is done on a way ------------------------------------------------------------------------------------------------

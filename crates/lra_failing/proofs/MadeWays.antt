@@ -6,13 +6,14 @@ use Rattle.std.specs.List.{All, list_any}
 use Rattle.std.proofs.lemmas.List.Elements.{All-nil, All-append, All-weaker}
 use Rattle.lra_base.specs.declared.case_labels.CaseLabel.{CaseLabel}
 use Rattle.lra_base.specs.declared.case_labels.CaseLabel.TheVariants.{Default}
-use Rattle.lra_base.specs.CaseLabels.{are_alike}
+use Rattle.lra_base.specs.CaseLabels.{is_same_case}
 use Rattle.lra_program.specs.Program.{Expr, Cond}
 use Rattle.lra_program.specs.Sites.{Site}
 use Rattle.lra_program.specs.Step.{Op, test}
-use Rattle.lra_operations.specs.declared.asides.Aside.{Aside}
-use Rattle.lra_operations.specs.Graph.{Exit, broken, continued, returned, How, normal, jump, Node, empty, aside, point, act, check, seq, choose, iterate, catch}
-use Rattle.lra_operations.specs.Graph.{leave, select, Arms, no_arms, entry, arm, entries_of}
+use Rattle.lra_operations.specs.declared.probes.Probe.{Probe}
+use Rattle.lra_operations.specs.Tree.{Exit, broken, continued, returned, Completion, normal, jump, Node, empty, probe, point, act, check, seq, choose, iterate}
+use Rattle.lra_operations.specs.Tree.{catch}
+use Rattle.lra_operations.specs.Tree.{leave, select, Arms, no_arms, entry, arm, entries_of}
 use Rattle.lra_operations.proofs.ArmRows.{arms_row}
 use Rattle.lra_flow.specs.Live.{dims_behind, live_after}
 use Rattle.lra_flow.specs.Room.{most_live}
@@ -67,21 +68,21 @@ module _ (T : List Site) where
   OutFits m x = (s : Site) → slice_get T x.source ≡ Some s → StepsFit s.live m x.ops
 
   -- so left, a tree leaves so many
-  abbrev pub LeavesWith : Node → ℕ → How → ℕ → Type 0
+  abbrev pub LeavesWith : Node → ℕ → Completion → ℕ → Type 0
   LeavesWith g n normal m = live_after g n ≡ m
   LeavesWith g n (jump k) m = JumpsWith g n k m
 
-  abbrev pub PassFits : Node → ℕ → How → List Step → Type 0
+  abbrev pub PassFits : Node → ℕ → Completion → List Step → Type 0
   PassFits g n h ops = (m : ℕ) × LeavesWith g n h m × StepsFit n m ops
 
-  abbrev pub LeftFits : Node → ℕ → How → Suffix → Type 0
+  abbrev pub LeftFits : Node → ℕ → Completion → Suffix → Type 0
   LeftFits g n h x = (m : ℕ) × LeavesWith g n h m × OutFits m x
 
   -- the ways of a tree at whose beginning n live
   pub record WaysFit (g : Node) (n : ℕ) : Type 0 where
-    pub passes : (h : How) → All (PassFits g n h) (through g h)
+    pub passes : (h : Completion) → All (PassFits g n h) (through g h)
     pub enters : All (WayFits n) (enter g)
-    pub leaves : (h : How) → All (LeftFits g n h) (outs g h)
+    pub leaves : (h : Completion) → All (LeftFits g n h) (outs g h)
     pub goes_on : All SegmentFits (inside g)
 
   -- steps --------------------------------------------------------------------------------------------------------------
@@ -116,21 +117,21 @@ module _ (T : List Site) where
     goes_on = All-nil SegmentFits;
   }
     where
-      passes : (h : How) → All (PassFits empty n h) (through empty h)
+      passes : (h : Completion) → All (PassFits empty n h) (through empty h)
       passes normal = all_one (PassFits empty n normal) [] (n, refl, refl)
       passes (jump j) = All-nil (PassFits empty n (jump j))
 
-  fit_aside : (q : ℕ) (what : Aside) (n : ℕ) → WaysFit (aside q what) n
+  fit_aside : (q : ℕ) (what : Probe) (n : ℕ) → WaysFit (probe q what) n
   fit_aside q what n = record {
     passes = passes;
     enters = All-nil (WayFits n);
-    leaves = λ h. All-nil (LeftFits (aside q what) n h);
+    leaves = λ h. All-nil (LeftFits (probe q what) n h);
     goes_on = All-nil SegmentFits;
   }
     where
-      passes : (h : How) → All (PassFits (aside q what) n h) (through (aside q what) h)
-      passes normal = all_one (PassFits (aside q what) n normal) [] (n, refl, refl)
-      passes (jump j) = All-nil (PassFits (aside q what) n (jump j))
+      passes : (h : Completion) → All (PassFits (probe q what) n h) (through (probe q what) h)
+      passes normal = all_one (PassFits (probe q what) n normal) [] (n, refl, refl)
+      passes (jump j) = All-nil (PassFits (probe q what) n (jump j))
 
   fit_point : (q n : ℕ) → LiveAt T q n → WaysFit (point q) n
   fit_point q n here = record {
@@ -140,7 +141,7 @@ module _ (T : List Site) where
     goes_on = All-nil SegmentFits;
   }
     where
-      leaves : (h : How) → All (LeftFits (point q) n h) (outs (point q) h)
+      leaves : (h : Completion) → All (LeftFits (point q) n h) (outs (point q) h)
       leaves normal = all_one (LeftFits (point q) n normal) (record { source = q; ops = [] }) (n, refl, λ s is. sym (here s is))
       leaves (jump j) = All-nil (LeftFits (point q) n (jump j))
 
@@ -152,7 +153,7 @@ module _ (T : List Site) where
     goes_on = All-nil SegmentFits;
   }
     where
-      passes : (h : How) → All (PassFits (act q op) n h) (through (act q op) h)
+      passes : (h : Completion) → All (PassFits (act q op) n h) (through (act q op) h)
       passes normal = all_one (PassFits (act q op) n normal) (does op ∷ []) (dims_behind op n, refl, (fits, few, refl))
       passes (jump j) = All-nil (PassFits (act q op) n (jump j))
 
@@ -164,7 +165,7 @@ module _ (T : List Site) where
     goes_on = All-nil SegmentFits;
   }
     where
-      passes : (h : How) → All (PassFits (check q base c) n h) (through (check q base c) h)
+      passes : (h : Completion) → All (PassFits (check q base c) n h) (through (check q base c) h)
       passes normal = all_one (PassFits (check q base c) n normal) (does (test base c true) ∷ []) (n, refl, (tt, few, refl))
       passes (jump j) = All-nil (PassFits (check q base c) n (jump j))
 
@@ -176,7 +177,7 @@ module _ (T : List Site) where
     goes_on = All-nil SegmentFits;
   }
     where
-      passes : (h : How) → All (PassFits (leave l k) n h) (through (leave l k) h)
+      passes : (h : Completion) → All (PassFits (leave l k) n h) (through (leave l k) h)
       passes normal = All-nil (PassFits (leave l k) n normal)
       passes (jump j) = all_if (PassFits (leave l k) n (jump j)) (same_exit j k) ([] ∷ []) []
           (λ same. all_one (PassFits (leave l k) n (jump j)) [] (n, (sym (exits_same j k same), refl), refl))
@@ -187,7 +188,7 @@ module _ (T : List Site) where
     abbrev between : ℕ
     between = live_after a n
 
-    seq_passes : (h : How) → All (PassFits (seq a b) n h) (each_then (through a normal) (through b h))
+    seq_passes : (h : Completion) → All (PassFits (seq a b) n h) (each_then (through a normal) (through b h))
     seq_passes normal = all_pairs (PassFits a n normal) (PassFits b between normal) (PassFits (seq a b) n normal) (λ k i. i ++ k)
         (λ i k one two. (two.0, two.1, steps_then i k n between two.0 (pass_normal a n i one) two.2)) (through a normal) (through b normal)
         (x.passes normal) (y.passes normal)
@@ -195,13 +196,13 @@ module _ (T : List Site) where
         (λ i k one two. (two.0, inr two.1, steps_then i k n between two.0 (pass_normal a n i one) two.2)) (through a normal) (through b (jump j))
         (x.passes normal) (y.passes (jump j))
 
-    passes_both : (h : How) → All (PassFits (seq a b) n h) (through (seq a b) h)
+    passes_both : (h : Completion) → All (PassFits (seq a b) n h) (through (seq a b) h)
     passes_both normal = seq_passes normal
     passes_both (jump j) = All-append (PassFits (seq a b) n (jump j)) (through a (jump j)) (each_then (through a normal) (through b (jump j)))
         (All-weaker (PassFits a n (jump j)) (PassFits (seq a b) n (jump j)) (λ ops h. (h.0, inl h.1, h.2)) (through a (jump j)) (x.passes (jump j)))
         (seq_passes (jump j))
 
-    outs_then : (h : How) → All (LeftFits (seq a b) n h) (then_outs (outs a normal) (through b h))
+    outs_then : (h : Completion) → All (LeftFits (seq a b) n h) (then_outs (outs a normal) (through b h))
     outs_then normal = all_pairs (LeftFits a n normal) (PassFits b between normal) (LeftFits (seq a b) n normal) then_out
         (λ i k one two. (two.0, two.1, out_then between two.0 i k (left_normal a n i one) two.2)) (outs a normal) (through b normal) (x.leaves normal)
         (y.passes normal)
@@ -209,12 +210,12 @@ module _ (T : List Site) where
         (λ i k one two. (two.0, inr two.1, out_then between two.0 i k (left_normal a n i one) two.2)) (outs a normal) (through b (jump j)) (x.leaves normal)
         (y.passes (jump j))
 
-    outs_later : (h : How) → All (LeftFits (seq a b) n h) (outs b h)
+    outs_later : (h : Completion) → All (LeftFits (seq a b) n h) (outs b h)
     outs_later normal = All-weaker (LeftFits b between normal) (LeftFits (seq a b) n normal) (λ i h. (h.0, h.1, h.2)) (outs b normal) (y.leaves normal)
     outs_later (jump j) =
         All-weaker (LeftFits b between (jump j)) (LeftFits (seq a b) n (jump j)) (λ i h. (h.0, inr h.1, h.2)) (outs b (jump j)) (y.leaves (jump j))
 
-    leaves_both : (h : How) → All (LeftFits (seq a b) n h) (outs (seq a b) h)
+    leaves_both : (h : Completion) → All (LeftFits (seq a b) n h) (outs (seq a b) h)
     leaves_both normal = All-append (LeftFits (seq a b) n normal) (then_outs (outs a normal) (through b normal)) (outs b normal) (outs_then normal)
         (outs_later normal)
     leaves_both (jump j) =
@@ -246,7 +247,7 @@ module _ (T : List Site) where
   steps_tested base c wanted n few m ops h = (tt, few, h)
 
   module _ (q base : ℕ) (c : Cond) (a b : Node) (n : ℕ) (few : n ≤ most_live) (x : WaysFit a n) (y : WaysFit b n) (same : live_after b n ≡ live_after a n) where
-    choice_passes : (h : How) → ((m : ℕ) → LeavesWith a n h m → LeavesWith (choose q base c a b) n h m)
+    choice_passes : (h : Completion) → ((m : ℕ) → LeavesWith a n h m → LeavesWith (choose q base c a b) n h m)
         → ((m : ℕ) → LeavesWith b n h m → LeavesWith (choose q base c a b) n h m)
         → All (PassFits (choose q base c a b) n h) (through (choose q base c a b) h)
     choice_passes h left right =
@@ -256,18 +257,18 @@ module _ (T : List Site) where
         (all_made (PassFits b n h) (PassFits (choose q base c a b) n h) (tested base c false)
         (λ ops k. (k.0, right k.0 k.1, steps_tested base c false n few k.0 ops k.2)) (through b h) (y.passes h))
 
-    choice_leaves : (h : How) → ((m : ℕ) → LeavesWith a n h m → LeavesWith (choose q base c a b) n h m)
+    choice_leaves : (h : Completion) → ((m : ℕ) → LeavesWith a n h m → LeavesWith (choose q base c a b) n h m)
         → ((m : ℕ) → LeavesWith b n h m → LeavesWith (choose q base c a b) n h m)
         → All (LeftFits (choose q base c a b) n h) (outs (choose q base c a b) h)
     choice_leaves h left right = All-append (LeftFits (choose q base c a b) n h) (outs a h) (outs b h)
         (All-weaker (LeftFits a n h) (LeftFits (choose q base c a b) n h) (λ i k. (k.0, left k.0 k.1, k.2)) (outs a h) (x.leaves h))
         (All-weaker (LeftFits b n h) (LeftFits (choose q base c a b) n h) (λ i k. (k.0, right k.0 k.1, k.2)) (outs b h) (y.leaves h))
 
-    passes_either : (h : How) → All (PassFits (choose q base c a b) n h) (through (choose q base c a b) h)
+    passes_either : (h : Completion) → All (PassFits (choose q base c a b) n h) (through (choose q base c a b) h)
     passes_either normal = choice_passes normal (λ m k. k) (λ m k. sym same ∙ k)
     passes_either (jump j) = choice_passes (jump j) (λ m k. inl k) (λ m k. inr k)
 
-    leaves_either : (h : How) → All (LeftFits (choose q base c a b) n h) (outs (choose q base c a b) h)
+    leaves_either : (h : Completion) → All (LeftFits (choose q base c a b) n h) (outs (choose q base c a b) h)
     leaves_either normal = choice_leaves normal (λ m k. k) (λ m k. sym same ∙ k)
     leaves_either (jump j) = choice_leaves (jump j) (λ m k. inl k) (λ m k. inr k)
 
@@ -293,7 +294,7 @@ module _ (T : List Site) where
     to_here : (r : Site) → slice_get T q ≡ Some r → (k : ℕ) (ops : List Step) → StepsFit k (live_after a n) ops → StepsFit k r.live ops
     to_here r is k ops h = subst (λ m. StepsFit k m ops) (same ∙ here r is) h
 
-    loop_leaves : (h : How) → All (LeftFits (iterate q base c a) n h) (outs (iterate q base c a) h)
+    loop_leaves : (h : Completion) → All (LeftFits (iterate q base c a) n h) (outs (iterate q base c a) h)
     loop_leaves normal = all_one (LeftFits (iterate q base c a) n normal) (record { source = q; ops = does (test base c false) ∷ [] })
         (n, refl, λ s is. from_here s is n (does (test base c false) ∷ []) (tt, few, refl))
     loop_leaves (jump j) = All-append (LeftFits (iterate q base c a) n (jump j)) (map (out_of_body q base c) (through a (jump j))) (outs a (jump j))
@@ -331,7 +332,7 @@ module _ (T : List Site) where
 
   -- jumps that are caught ------------------------------------------------------------------------------------------------
   module _ (q : ℕ) (k : Exit) (a : Node) (n : ℕ) (x : WaysFit a n) (caught : (m : ℕ) → JumpsWith a n k m → m ≡ live_after a n) where
-    catch_passes : (h : How) → All (PassFits (catch q k a) n h) (through (catch q k a) h)
+    catch_passes : (h : Completion) → All (PassFits (catch q k a) n h) (through (catch q k a) h)
     catch_passes normal = All-append (PassFits (catch q k a) n normal) (through a normal) (through a (jump k))
         (All-weaker (PassFits a n normal) (PassFits (catch q k a) n normal) (λ ops h. (h.0, h.1, h.2)) (through a normal) (x.passes normal))
         (All-weaker (PassFits a n (jump k)) (PassFits (catch q k a) n normal) (λ ops h. (h.0, sym (caught h.0 h.1), h.2)) (through a (jump k))
@@ -341,7 +342,7 @@ module _ (T : List Site) where
         (λ apart. All-weaker (PassFits a n (jump j)) (PassFits (catch q k a) n (jump j)) (λ ops h. (h.0, (exits_apart j k apart, h.1), h.2))
         (through a (jump j)) (x.passes (jump j)))
 
-    catch_leaves : (h : How) → All (LeftFits (catch q k a) n h) (outs (catch q k a) h)
+    catch_leaves : (h : Completion) → All (LeftFits (catch q k a) n h) (outs (catch q k a) h)
     catch_leaves normal = All-append (LeftFits (catch q k a) n normal) (outs a normal) (outs a (jump k))
         (All-weaker (LeftFits a n normal) (LeftFits (catch q k a) n normal) (λ i h. (h.0, h.1, h.2)) (outs a normal) (x.leaves normal))
         (All-weaker (LeftFits a n (jump k)) (LeftFits (catch q k a) n normal) (λ i h. (h.0, sym (caught h.0 h.1), h.2)) (outs a (jump k)) (x.leaves (jump k)))
@@ -367,25 +368,25 @@ module _ (T : List Site) where
   row_jumps (arm a arms) n fits k m (inr h) = inr (row_jumps arms n fits.2 k m (subst (λ i. JumpsWith (arms_row arms) i k m) fits.1 h))
 
   -- so left, arms leave so many
-  abbrev pub ArmsLeaveWith : Arms → ℕ → How → ℕ → Type 0
+  abbrev pub ArmsLeaveWith : Arms → ℕ → Completion → ℕ → Type 0
   ArmsLeaveWith arms n normal m = n ≡ m
   ArmsLeaveWith arms n (jump k) m = ArmsJumpWith arms n k m
 
-  abbrev pub LabelFits : Arms → ℕ → How → List Step → Type 0
+  abbrev pub LabelFits : Arms → ℕ → Completion → List Step → Type 0
   LabelFits arms n h ops = (m : ℕ) × ArmsLeaveWith arms n h m × StepsFit n m ops
 
-  row_leaves : (arms : Arms) (n : ℕ) → ArmsFit arms n → (h : How) (m : ℕ) → LeavesWith (arms_row arms) n h m → ArmsLeaveWith arms n h m
+  row_leaves : (arms : Arms) (n : ℕ) → ArmsFit arms n → (h : Completion) (m : ℕ) → LeavesWith (arms_row arms) n h m → ArmsLeaveWith arms n h m
   row_leaves arms n fits normal m e = sym (row_after arms n fits) ∙ e
   row_leaves arms n fits (jump k) m h = row_jumps arms n fits k m h
 
-  arm_leaves : (a : Node) (arms : Arms) (n : ℕ) (h : How) (m : ℕ) → ArmsLeaveWith arms n h m → ArmsLeaveWith (arm a arms) n h m
+  arm_leaves : (a : Node) (arms : Arms) (n : ℕ) (h : Completion) (m : ℕ) → ArmsLeaveWith arms n h m → ArmsLeaveWith (arm a arms) n h m
   arm_leaves a arms n normal m e = e
   arm_leaves a arms n (jump k) m h = inr h
 
   -- from the labels of arms, and of their trees in a row
   pub record LabelsFit (arms : Arms) (n : ℕ) : Type 0 where
     pub row : WaysFit (arms_row arms) n
-    pub passes : (base : ℕ) (e : Expr) (labels : List CaseLabel) (h : How) → All (LabelFits arms n h) (through_labels (λ l. goes base e labels l) arms h)
+    pub passes : (base : ℕ) (e : Expr) (labels : List CaseLabel) (h : Completion) → All (LabelFits arms n h) (through_labels (λ l. goes base e labels l) arms h)
     pub enters : (base : ℕ) (e : Expr) (labels : List CaseLabel) → All (WayFits n) (enter_labels (λ l. goes base e labels l) arms)
 
   steps_labelled : (base : ℕ) (e : Expr) (labels : List CaseLabel) (l : CaseLabel) (n : ℕ) → n ≤ most_live → (m : ℕ) (ops : List Step) → StepsFit n m ops
@@ -400,7 +401,7 @@ module _ (T : List Site) where
   }
 
   module _ (l : CaseLabel) (arms : Arms) (n : ℕ) (few : n ≤ most_live) (fits : ArmsFit arms n) (x : LabelsFit arms n) where
-    entry_passes : (base : ℕ) (e : Expr) (labels : List CaseLabel) (h : How) → All (LabelFits arms n h)
+    entry_passes : (base : ℕ) (e : Expr) (labels : List CaseLabel) (h : Completion) → All (LabelFits arms n h)
         (through_labels (λ k. goes base e labels k) (entry l arms) h)
     entry_passes base e labels h =
         let first = goes base e labels l in
@@ -428,20 +429,20 @@ module _ (T : List Site) where
     enters = y.enters;
   }
 
-  past_all : (base : ℕ) (e : Expr) (labels : List CaseLabel) (arms : Arms) (n : ℕ) → n ≤ most_live → (b : Bool) (h : How) → All (LabelFits arms n h)
+  past_all : (base : ℕ) (e : Expr) (labels : List CaseLabel) (arms : Arms) (n : ℕ) → n ≤ most_live → (b : Bool) (h : Completion) → All (LabelFits arms n h)
       (past_labels (λ l. goes base e labels l) b h)
   past_all base e labels arms n few true h = All-nil (LabelFits arms n h)
   past_all base e labels arms n few false normal = all_one (LabelFits arms n normal) (goes base e labels Default ∷ []) (n, refl, (tt, few, refl))
   past_all base e labels arms n few false (jump j) = All-nil (LabelFits arms n (jump j))
 
-  select_leaves : (q base : ℕ) (e : Expr) (arms : Arms) (n : ℕ) (h : How) (m : ℕ) → ArmsLeaveWith arms n h m → LeavesWith (select q base e arms) n h m
+  select_leaves : (q base : ℕ) (e : Expr) (arms : Arms) (n : ℕ) (h : Completion) (m : ℕ) → ArmsLeaveWith arms n h m → LeavesWith (select q base e arms) n h m
   select_leaves q base e arms n normal m k = k
   select_leaves q base e arms n (jump j) m k = k
 
   fit_select : (q base : ℕ) (e : Expr) (arms : Arms) (n : ℕ) → n ≤ most_live → ArmsFit arms n → LabelsFit arms n → WaysFit (select q base e arms) n
   fit_select q base e arms n few fits x =
       let labels = entries_of arms in
-      let default = list_any (are_alike Default) labels in
+      let default = list_any (is_same_case Default) labels in
       record {
         passes = λ h.
             let labelled = through_labels (λ l. goes base e labels l) arms h in
@@ -460,7 +461,7 @@ module _ (T : List Site) where
   mutual
     pub tree_ways : (g : Node) (n : ℕ) → n ≤ most_live → TreeFits g n → PointsHave T g n → WaysFit g n
     tree_ways empty n few fits have = fit_empty n
-    tree_ways (aside here what) n few fits have = fit_aside here what n
+    tree_ways (probe here what) n few fits have = fit_aside here what n
     tree_ways (point q) n few fits have = fit_point q n have
     tree_ways (act q op) n few fits have = fit_act q op n few fits
     tree_ways (check q base c) n few fits have = fit_check q base c n few

@@ -7,7 +7,7 @@ use Rattle.std.proofs.lemmas.List.Elements.{All-contains}
 use Rattle.lra_linear_spec.proofs.Membership.{all_from, filter_from}
 use Rattle.lra_program.specs.declared.program.GlobalVariable.{GlobalVariable}
 use Rattle.lra_program.specs.Sites.{Site}
-use Rattle.lra_operations.specs.Graph.{Node}
+use Rattle.lra_operations.specs.Tree.{Node}
 use Rattle.lra_flow.specs.Room.{most_live}
 use Rattle.lra_outcomes.specs.Fits.{TreeFits}
 use Rattle.lra_iter.specs.Lives.{PointsHave}

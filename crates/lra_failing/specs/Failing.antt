@@ -7,8 +7,8 @@ use Rattle.lra_program.specs.Program.{Program}
 use Rattle.lra_program.specs.Run.{At, Fails}
 use Rattle.lra_program.specs.Sites.{Site, sites_of}
 use Rattle.lra_program.specs.WellFormed.{IsWellFormed}
-use Rattle.lra_operations.specs.Agree.{IsGraph, point_of}
-use Rattle.lra_operations.specs.Graph.{Node}
+use Rattle.lra_operations.specs.Agree.{IsInlinedTree, point_of}
+use Rattle.lra_operations.specs.Tree.{Node}
 use Rattle.lra_back.specs.Operations.{dropping}
 use Rattle.lra_back.specs.Traced.{AreWide, Backs, FailsFrom, NothingLeftAtStart, PathsFit}
 
@@ -31,6 +31,6 @@ pub record HoldWhereRunsFail {V H : Type 0} (m : Abstraction V H) (P : Program) 
 -- what is found by going back over values that hold in all runs
 abbrev pub TracedAreSound : {V H : Type 0} → Abstraction V H → BackwardAbstraction V → Type 0
 TracedAreSound {V} m b = (P : Program) (g : Node) (forward values : List V) (f flag : Option ℕ) (p : ℕ) →
-    IsWellFormed P → IsGraph P g → PathsFit P.globals (sites_of P) g → AreWide m (sites_of P) forward →
+    IsWellFormed P → IsInlinedTree P g → PathsFit P.globals (sites_of P) g → AreWide m (sites_of P) forward →
     HoldsAtPoints m P forward → Backs (dropping m b) P.globals (sites_of P) g forward f p values flag →
     HoldWhereRunsFail m P g p values

@@ -4,8 +4,8 @@ use Rattle.lra_domain.specs.Abstraction.{Abstraction}
 use Rattle.lra_program.specs.Program.{Program}
 use Rattle.lra_program.specs.declared.program.GlobalVariable.{GlobalVariable}
 use Rattle.lra_program.specs.Sites.{Site, sites_of}
-use Rattle.lra_operations.specs.Agree.{IsGraph}
-use Rattle.lra_operations.specs.Graph.{Node}
+use Rattle.lra_operations.specs.Agree.{IsInlinedTree}
+use Rattle.lra_operations.specs.Tree.{Node}
 use Rattle.lra_flow.specs.Analysis.{IsUnreachable}
 use Rattle.lra_flow.specs.Room.{most_live}
 use Rattle.lra_outcomes.specs.Fits.{TreeFits}
@@ -23,7 +23,7 @@ TreesHavePathsThatFit = (globals : List GlobalVariable) (sites : List Site) (g :
 
 -- right behind each point that asserts its condition may be false, and no other condition is
 abbrev pub AssertionsAreDenied : Type 0
-AssertionsAreDenied = (P : Program) (g : Node) → IsGraph P g → AreAsserted (sites_of P) g
+AssertionsAreDenied = (P : Program) (g : Node) → IsInlinedTree P g → AreAsserted (sites_of P) g
 
 -- paths from the start lead to this point of the program, and to no other one
 pub record IsFirst (P : Program) (g : Node) (q : ℕ) : Type 0 where
@@ -33,7 +33,7 @@ pub record IsFirst (P : Program) (g : Node) (q : ℕ) : Type 0 where
 
 -- each program has such a point
 abbrev pub OnePointIsFirst : Type 0
-OnePointIsFirst = (P : Program) (g : Node) → IsGraph P g → (q : ℕ) × IsFirst P g q
+OnePointIsFirst = (P : Program) (g : Node) → IsInlinedTree P g → (q : ℕ) × IsFirst P g q
 
 -- nothing is left at the start exactly where nothing is left at that point
 abbrev pub NothingLeftAtFirst : {V H : Type 0} → Abstraction V H → Type 0

@@ -9,8 +9,8 @@ use Rattle.std.proofs.lemmas.Option.{none-some, same_Some}
 use Rattle.lra_linear_spec.proofs.Membership.{contains_none, contains_head, contains_tail, contains_cases, filter_has, map_has}
 use Rattle.lra_domain.specs.declared.Exactness.{Exactness}
 use Rattle.lra_program.specs.Step.{Op}
-use Rattle.lra_operations.specs.Asked.{Asked, asking_in}
-use Rattle.lra_operations.specs.Graph.{Node}
+use Rattle.lra_operations.specs.CheckedOperations.{OpAtPoint, ops_where}
+use Rattle.lra_operations.specs.Tree.{Node}
 use Rattle.lra_doings.specs.Doings.{done_in, done_view}
 use Rattle.lra_doings.specs.declared.doings.Done.{Done}
 use Rattle.lra_doings.proofs.Filtered.{asking_filtered}
@@ -61,13 +61,13 @@ module _ {V H A : Type 0} (ops : Operations V H) (Told : Op → V → A → Exac
     keeps = λ q j h. (j, h);
   }
 
-  pub one_fills : (a : Asked) (j : Verdict A) (t : List (Option (Verdict A))) → a.point < length t → AskedTold ops Told values a j.answer j.exactness
+  pub one_fills : (a : OpAtPoint) (j : Verdict A) (t : List (Option (Verdict A))) → a.point < length t → AskedTold ops Told values a j.answer j.exactness
       → Fills ops Told values (a ∷ []) t (slice_set t a.point (Some j))
   one_fills a j t inside judged = record {
     long = length-set t a.point (Some j);
     is_asked = there;
     has_asked = λ b h. elim (contains_cases a b [] h) [
-      | inl e ↦ (j, subst (λ (x : Asked). Holds (slice_set t a.point (Some j)) x.point j) e here)
+      | inl e ↦ (j, subst (λ (x : OpAtPoint). Holds (slice_set t a.point (Some j)) x.point j) e here)
       | inr none ↦ absurd (contains_none b none)
     ];
     keeps = λ q k h. elim (cases_eq a.point q) [
@@ -87,7 +87,7 @@ module _ {V H A : Type 0} (ops : Operations V H) (Told : Op → V → A → Exac
         | inr other ↦ inl (sym (elsewhere_set t a.point q (Some j) other) ∙ h)
       ]
 
-  pub then_fills : (xs ys : List Asked) (t u w : List (Option (Verdict A))) → Fills ops Told values xs t u → Fills ops Told values ys u w → Fills ops Told values (xs ++ ys) t w
+  pub then_fills : (xs ys : List OpAtPoint) (t u w : List (Option (Verdict A))) → Fills ops Told values xs t u → Fills ops Told values ys u w → Fills ops Told values (xs ++ ys) t w
   then_fills xs ys t u w first second = record {
     long = second.long ∙ first.long;
     is_asked = λ q j h. elim (second.is_asked q j h) [
@@ -105,20 +105,20 @@ module _ {V H A : Type 0} (ops : Operations V H) (Told : Op → V → A → Exac
   }
 
   -- behind those of which it is asked among what is done before
-  module _ (asks : Op → Bool) (xs : List Asked) (a : Asked) where
-    abbrev asked_here : List Asked
+  module _ (asks : Op → Bool) (xs : List OpAtPoint) (a : OpAtPoint) where
+    abbrev asked_here : List OpAtPoint
     asked_here = asked_by asks (a ∷ [])
 
     apart : asked_by asks (xs ++ a ∷ []) ≡ asked_by asks xs ++ asked_here
-    apart = filter-append (λ (b : Asked). asks b.op) xs (a ∷ [])
+    apart = filter-append (λ (b : OpAtPoint). asks b.op) xs (a ∷ [])
 
     here_asked : (b : Bool) → asks a.op ≡ b → asked_here ≡ (if b then a ∷ [] else [])
     here_asked b is = ap (λ (c : Bool). if c then a ∷ [] else []) is
 
-    fills_behind : (here : List Asked) (old t u : List (Option (Verdict A))) → asked_here ≡ here → Fills ops Told values (asked_by asks xs) old t
+    fills_behind : (here : List OpAtPoint) (old t u : List (Option (Verdict A))) → asked_here ≡ here → Fills ops Told values (asked_by asks xs) old t
         → Fills ops Told values here t u → Fills ops Told values (asked_by asks (xs ++ a ∷ [])) old u
-    fills_behind here old t u is before one = subst (λ (ys : List Asked). Fills ops Told values ys old u)
-        (sym (apart ∙ ap (λ (ys : List Asked). asked_by asks xs ++ ys) is)) (then_fills (asked_by asks xs) here old t u before one)
+    fills_behind here old t u is before one = subst (λ (ys : List OpAtPoint). Fills ops Told values ys old u)
+        (sym (apart ∙ ap (λ (ys : List OpAtPoint). asked_by asks xs ++ ys) is)) (then_fills (asked_by asks xs) here old t u before one)
 
     pub unasked_fills : (old t : List (Option (Verdict A))) → asks a.op ≡ false → Fills ops Told values (asked_by asks xs) old t
         → Fills ops Told values (asked_by asks (xs ++ a ∷ [])) old t
@@ -132,8 +132,9 @@ module _ {V H A : Type 0} (ops : Operations V H) (Told : Op → V → A → Exac
         (subst (Fills ops Told values (a ∷ []) t) (sym written) (one_fills a j t inside (v, w, c, d, there, declared, told, worst)))
 
 -- each of which it is asked has a value
-pub asked_inside : (asks : Op → Bool) (n : ℕ) (xs : List Asked) (a : Asked) → Contains xs a → asks a.op ≡ true → AreBelow n (asked_by asks xs) → a.point < n
-asked_inside asks n xs a there is below = below a (filter_has (λ (b : Asked). asks b.op) xs a there is)
+pub asked_inside : (asks : Op → Bool) (n : ℕ) (xs : List OpAtPoint) (a : OpAtPoint) → Contains xs a → asks a.op ≡ true → AreBelow n (asked_by asks xs) →
+    a.point < n
+asked_inside asks n xs a there is below = below a (filter_has (λ (b : OpAtPoint). asks b.op) xs a there is)
 
 -- what a table tells -----------------------------------------------------------------------------------------------------
 
@@ -240,10 +241,10 @@ ordered {A} n (Some v ∷ t) zero (suc k) j l less e d =
 ordered n (Some v ∷ t) (suc i) (suc k) j l less e d = ordered (suc n) t i k j l (omega (arith, less)) e d
 
 -- those of which it is asked among all that is done in a tree
-pub same_asked : (asks : Op → Bool) (g : Node) (xs : List Asked) → xs ≡ done_in None g → asked_by asks xs ≡ asking_in asks None g
+pub same_asked : (asks : Op → Bool) (g : Node) (xs : List OpAtPoint) → xs ≡ done_in None g → asked_by asks xs ≡ ops_where asks None g
 same_asked asks g xs is = ap (asked_by asks) is ∙ sym (asking_filtered asks None g)
 
-pub below_asked : (asks : Op → Bool) (n : ℕ) (g : Node) (xs : List Asked) → xs ≡ done_in None g → AreBelow n (asking_in asks None g)
+pub below_asked : (asks : Op → Bool) (n : ℕ) (g : Node) (xs : List OpAtPoint) → xs ≡ done_in None g → AreBelow n (ops_where asks None g)
     → AreBelow n (asked_by asks xs)
 below_asked asks n g xs is below = subst (AreBelow n) (sym (same_asked asks g xs is)) below
 
@@ -251,7 +252,7 @@ pub empty_long : {A : Type 0} (n : ℕ) (t : List (Option (Verdict A))) → t �
 empty_long {A} n t is = ap length is ∙ length-replicate {A = Option (Verdict A)} n None
 
 module _ {V H A : Type 0} (ops : Operations V H) (Told : Op → V → A → Exactness → Type 0) (values : List V) (asks : Op → Bool) (g : Node)
-    (xs : List Asked) (n : ℕ) (none t : List (Option (Verdict A))) (all : xs ≡ done_in None g) (empty : none ≡ replicate n None)
+    (xs : List OpAtPoint) (n : ℕ) (none t : List (Option (Verdict A))) (all : xs ≡ done_in None g) (empty : none ≡ replicate n None)
     (fills : Fills ops Told values (asked_by asks xs) none t) where
   on_one : (k : ℕ) (v : Verdict A) → Holds t k v → IsFoundOn ops Told (asked_by asks xs) values (finding_of k v)
   on_one k v h = elim (fills.is_asked k v h) [
@@ -260,7 +261,7 @@ module _ {V H A : Type 0} (ops : Operations V H) (Told : Op → V → A → Exac
   ]
 
   pub table_finds : (flagged behind : Option ℕ) (answers : List (ℕ × A)) → answers ≡ map answer_of (findings_from 0 t)
-      → behind ≡ first_flagged flagged (findings_from 0 t) → Finds ops Told (asking_in asks None g) values flagged answers behind
+      → behind ≡ first_flagged flagged (findings_from 0 t) → Finds ops Told (ops_where asks None g) values flagged answers behind
   table_finds flagged behind answers told flags =
       let finds : Finds ops Told (asked_by asks xs) values flagged answers behind = record {
         found = findings_from 0 t;
@@ -274,12 +275,12 @@ module _ {V H A : Type 0} (ops : Operations V H) (Told : Op → V → A → Exac
         told = told;
         flags = flags;
       } in
-      subst (λ (ys : List Asked). Finds ops Told ys values flagged answers behind) (same_asked asks g xs all) finds
+      subst (λ (ys : List OpAtPoint). Finds ops Told ys values flagged answers behind) (same_asked asks g xs all) finds
 
 -- by places of the code's list ---------------------------------------------------------------------------------------------
 
 module _ (asks : Op → Bool) (ds : List Done) (i : ℕ) (x : Done) (inside : i < length ds) (is : x ≡ get_or ds i x) where
-  abbrev pub so_far : ℕ → List Asked
+  abbrev pub so_far : ℕ → List OpAtPoint
   so_far k = map done_view (take k ds)
 
   one_more : so_far (i + 1) ≡ so_far i ++ done_view x ∷ []
@@ -294,14 +295,14 @@ module _ (asks : Op → Bool) (ds : List Done) (i : ℕ) (x : Done) (inside : i 
   module _ {V H A : Type 0} (ops : Operations V H) (Told : Op → V → A → Exactness → Type 0) (values : List V) (old t : List (Option (Verdict A)))
       (before : Fills ops Told values (asked_by asks (so_far i)) old t) where
     pub unasked_more : (b : Bool) → b ≡ asks (done_view x).op → b ≡ false → Fills ops Told values (asked_by asks (so_far (i + 1))) old t
-    unasked_more b same unasked = subst (λ (xs : List Asked). Fills ops Told values (asked_by asks xs) old t) (sym one_more)
+    unasked_more b same unasked = subst (λ (xs : List OpAtPoint). Fills ops Told values (asked_by asks xs) old t) (sym one_more)
         (unasked_fills ops Told values asks (so_far i) (done_view x) old t (sym same ∙ unasked) before)
 
     pub asked_more : (u : List (Option (Verdict A))) (v : V) (j : Verdict A) (b : Bool) → b ≡ asks (done_view x).op → b ≡ true
         → slice_get values x.point ≡ Some v → IsAnswered ops Told (done_view x) v j.answer j.exactness → x.point < length t
         → u ≡ slice_set t x.point (Some j) → Fills ops Told values (asked_by asks (so_far (i + 1))) old u
     asked_more u v j b same asked here answered below written =
-        subst (λ (xs : List Asked). Fills ops Told values (asked_by asks xs) old u) (sym one_more)
+        subst (λ (xs : List OpAtPoint). Fills ops Told values (asked_by asks xs) old u) (sym one_more)
         (asked_fills ops Told values asks (so_far i) (done_view x) old t u v j (sym same ∙ asked) before here answered below written)
 
 pub whole_filled : {V H A : Type 0} (ops : Operations V H) (Told : Op → V → A → Exactness → Type 0) (values : List V) (asks : Op → Bool)

@@ -11,7 +11,7 @@ use Rattle.lra_program.specs.Program.{Expr, type_of, Cond}
 use Rattle.lra_program.specs.Overflow.{cond_computes}
 use Rattle.lra_program.specs.ProgramViews.{all_of, any_of}
 use Rattle.lra_program.specs.Step.{Op}
-use Rattle.lra_operations.specs.Asked.{Asked}
+use Rattle.lra_operations.specs.CheckedOperations.{OpAtPoint}
 use Rattle.lra_flow.specs.Linear.{form_of}
 use Rattle.lra_flow.specs.Operations.{Operations, dropping}
 use Rattle.lra_flow.specs.Judging.{CondTold, Declares, Finding, IsFoundOn}
@@ -62,17 +62,17 @@ module _ {V H : Type 0} (ops : Operations V H) {A : Type 0} where
   IsTold Both One base c v old e new = HasAnswers (λ xs. CondTold ops Both One base c v xs e) old new
 
   -- the answer for what is done at a point with this value
-  abbrev pub IsAnswered : (Op → V → A → Exactness → Type 0) → Asked → V → A → Exactness → Type 0
+  abbrev pub IsAnswered : (Op → V → A → Exactness → Type 0) → OpAtPoint → V → A → Exactness → Type 0
   IsAnswered Told a v x e = (w : V) × (c d : Exactness) × Declares ops a.fresh v c w × Told a.op w x d × (e ≡ worse c d)
 
 -- tables -----------------------------------------------------------------------------------------------------------
 
 -- each of them has a value
-abbrev pub AreBelow : ℕ → List Asked → Type 0
-AreBelow n asked = (a : Asked) → Contains asked a → a.point < n
+abbrev pub AreBelow : ℕ → List OpAtPoint → Type 0
+AreBelow n asked = (a : OpAtPoint) → Contains asked a → a.point < n
 
 -- those of which it is asked
-abbrev pub asked_by : (Op → Bool) → List Asked → List Asked
+abbrev pub asked_by : (Op → Bool) → List OpAtPoint → List OpAtPoint
 asked_by asks xs = filter (λ a. asks a.op) xs
 
 module _ {A : Type 0} where
@@ -91,9 +91,9 @@ module _ {A : Type 0} where
 
   -- the table has the verdicts on these, over what it had
   pub record Fills {V H : Type 0} (ops : Operations V H) (Told : Op → V → A → Exactness → Type 0) (values : List V)
-      (asked : List Asked) (old new : List (Option (Verdict A))) : Type 0 where
+      (asked : List OpAtPoint) (old new : List (Option (Verdict A))) : Type 0 where
     pub long : length new ≡ length old
     pub is_asked : (q : ℕ) (j : Verdict A) → Holds new q j →
         Holds old q j ⊎ IsFoundOn ops Told asked values (finding_of q j)
-    pub has_asked : (a : Asked) → Contains asked a → (j : Verdict A) × Holds new a.point j
+    pub has_asked : (a : OpAtPoint) → Contains asked a → (j : Verdict A) × Holds new a.point j
     pub keeps : (q : ℕ) (j : Verdict A) → Holds old q j → (k : Verdict A) × Holds new q k

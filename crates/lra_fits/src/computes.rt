@@ -6,7 +6,7 @@ ghost use Rattle.lra_program.specs.Overflow.{arguments_compute, cond_computes, e
 ghost use Rattle.lra_program.specs.Overflow.{op_computes};
 ghost use Rattle.lra_program.specs.Receivers.{parameter_of};
 ghost use Rattle.lra_program.specs.ProgramViews.{all_of, argument_view, cond_view, expr_view};
-ghost use Rattle.lra_operations.specs.GraphViews.{op_view};
+ghost use Rattle.lra_operations.specs.TreeViews.{op_view};
 ghost use Rattle.lra_fits.specs.Judged.{some_computes};
 
 use lra_base::NumberType;
@@ -83,7 +83,7 @@ pub fn giving_computes(receiver: Receiver, e: &Expr) -> bool
 pub fn parameter(number_type: NumberType) -> Receiver
     ensures { result ≡ parameter_of number_type }
 {
-    Receiver::nobody().behind_result(Some(number_type))
+    Receiver::nobody().result_receiver(Some(number_type))
 }
 
 /// Whether something is computed where arguments are given.
@@ -105,9 +105,9 @@ pub fn operation_computes(op: &Op) -> bool
     ensures { result ≡ op_computes (op_view op.now) }
 {
     match op {
-        Op::Append(_) | Op::Fill(_) | Op::GiveAny(_) | Op::Keep(_) => false,
-        Op::Give(_, receiver, e) => giving_computes(*receiver, e),
-        Op::GiveElement(_, element, e) => {
+        Op::Append(_) | Op::Fill(_) | Op::Havoc(_) | Op::TruncateTo(_) => false,
+        Op::StoreValue(_, receiver, e) => giving_computes(*receiver, e),
+        Op::StoreElement(_, element, e) => {
             let receiver = Receiver::waiting(element.array);
             expression_computes(&element.index) || giving_computes(receiver, e)
         }

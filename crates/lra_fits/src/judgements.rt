@@ -1,8 +1,8 @@
 //! What is judged of a whole program.
 
 ghost use Rattle.std.specs.Prelude.{◌<◌, None, length, All, IfOk};
-ghost use Rattle.lra_operations.specs.Asked.{asked_in};
-ghost use Rattle.lra_operations.specs.GraphViews.{node_view};
+ghost use Rattle.lra_operations.specs.CheckedOperations.{computing_ops};
+ghost use Rattle.lra_operations.specs.TreeViews.{node_view};
 ghost use Rattle.lra_flow.specs.Fits.{Judges};
 ghost use Rattle.lra_flow.specs.Operations.{dropping};
 ghost use Rattle.lra_flow.specs.Room.{most_live};
@@ -30,7 +30,7 @@ pub fn judge<D: Domain>(
     flagged: Option<usize>,
 ) -> Result<Fitting, AllocError>
     requires few { All (λ v. D.abstraction.dims v < most_live) values.now }
-    requires below { AreBelow (length values.now) (asked_in None (node_view tree.now)) }
+    requires below { AreBelow (length values.now) (computing_ops None (node_view tree.now)) }
     ensures { IfOk result (λ f. Judges D.abstraction (dropping D.abstraction) (node_view tree.now)
         values.now flagged f.verdicts.items f.flagged) }
 {

@@ -3,7 +3,7 @@
 ghost use Rattle.std.specs.Prelude.{◌≡◌, ◌≤◌, IfOk};
 ghost use Rattle.std.specs.List.{list_all};
 ghost use Rattle.lra_program.specs.Overflow.{op_computes};
-ghost use Rattle.lra_operations.specs.GraphViews.{op_view};
+ghost use Rattle.lra_operations.specs.TreeViews.{op_view};
 ghost use Rattle.lra_doings.specs.Doings.{doing_view};
 ghost use Rattle.lra_flow.specs.Fits.{BothJudged, OneJudged, OpFits};
 ghost use Rattle.lra_flow.specs.Operations.{dropping};
@@ -79,12 +79,12 @@ fn answer_operation<D: Domain>(
         value.now answers.old.items e answers.new.items) }
 {
     match op {
-        Op::Append(_) | Op::Fill(_) | Op::GiveAny(_) | Op::Keep(_) => Ok(Exactness::Exact),
-        Op::Give(base, receiver, e) => {
+        Op::Append(_) | Op::Fill(_) | Op::Havoc(_) | Op::TruncateTo(_) => Ok(Exactness::Exact),
+        Op::StoreValue(base, receiver, e) => {
             judge_given(alloc, *base, value, *receiver, e, answers)?;
             Ok(Exactness::Exact)
         }
-        Op::GiveElement(base, element, e) => {
+        Op::StoreElement(base, element, e) => {
             judge_element(alloc, *base, value, element, e, answers)?;
             Ok(Exactness::Exact)
         }

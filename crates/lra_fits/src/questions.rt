@@ -4,8 +4,8 @@ ghost use Rattle.std.specs.Prelude.{◌≡◌, ◌≤◌, ◌<◌, Bool, None, S
 ghost use Rattle.std.specs.Prelude.{IfOk, OnOk};
 ghost use Rattle.lra_domain.specs.declared.Exactness.{Exactness};
 ghost use Rattle.lra_program.specs.Step.{Op as ProgramOp};
-ghost use Rattle.lra_operations.specs.Asked.{asking_in};
-ghost use Rattle.lra_operations.specs.GraphViews.{node_view};
+ghost use Rattle.lra_operations.specs.CheckedOperations.{ops_where};
+ghost use Rattle.lra_operations.specs.TreeViews.{node_view};
 ghost use Rattle.lra_doings.specs.Doings.{doing_view, done_view};
 ghost use Rattle.lra_flow.specs.Judging.{Finds, answer_of, first_flagged};
 ghost use Rattle.lra_flow.specs.Operations.{dropping};
@@ -170,9 +170,9 @@ pub fn find<D: Domain, Q: Question<D>>(
     flagged: Option<usize>,
 ) -> Result<Found<Q::Answer>, AllocError>
     requires few { All (λ v. D.abstraction.dims v < most_live) values.now }
-    requires below { AreBelow (length values.now) (asking_in Q.asks None (node_view tree.now)) }
+    requires below { AreBelow (length values.now) (ops_where Q.asks None (node_view tree.now)) }
     ensures { IfOk result (λ f. Finds (dropping D.abstraction) Q.told
-        (asking_in Q.asks None (node_view tree.now)) values.now flagged f.answers.items f.flagged) }
+        (ops_where Q.asks None (node_view tree.now)) values.now flagged f.answers.items f.flagged) }
 {
     let doings = list_doings(alloc, tree)?;
     let mut table = empty_table(alloc, values.len())?;

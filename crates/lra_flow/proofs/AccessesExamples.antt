@@ -12,7 +12,7 @@ use Rattle.lra_base.specs.declared.number_types.NumberType.TheVariants.{Int, Lon
 use Rattle.lra_program.specs.declared.arrays.Array.{Array}
 use Rattle.lra_program.specs.Program.{Expr, literal, input, element, Element, nonzero, both_of, either_of}
 use Rattle.lra_program.specs.Accesses.{expr_accesses}
-use Rattle.lra_program.specs.Step.{Op, give_element}
+use Rattle.lra_program.specs.Step.{Op, store_element}
 use Rattle.lra_flow.specs.Operations.{Operations}
 use Rattle.lra_flow.specs.MovesOf.{tested}
 use Rattle.lra_flow.specs.Pass.{Leaves}
@@ -81,7 +81,7 @@ module _ {V H : Type 0} (m : Abstraction V H) (ops : Operations V H) (v : V) whe
 
   -- a[0] = a[input()]: the element that gets a value comes before what it gets
   abbrev gets_input : Op
-  gets_input = give_element 0 inner (element a (at 40) input)
+  gets_input = store_element 0 inner (element a (at 40) input)
 
   target_first : (b c : Bool) (e : Exactness) → AccessJudged m ops v 0 inner b e → AccessJudged m ops v 0 (a_at input 40) c Exact →
       OpInside m ops gets_input v ((at 32, b) ∷ (at 40, c) ∷ []) (worse e Exact)

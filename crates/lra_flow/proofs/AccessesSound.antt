@@ -16,13 +16,13 @@ use Rattle.lra_base.specs.Operators.{below}
 use Rattle.lra_base.specs.declared.number_types.NumberType.{NumberType}
 use Rattle.lra_program.specs.Program.{Element, Cond, compare, nonzero, opposite, both_of, either_of}
 use Rattle.lra_program.specs.Arrays.{place_among}
-use Rattle.lra_program.specs.Value.{◌>>=◌, Scene}
-use Rattle.lra_program.specs.Step.{State, scene_at, Op, append, fill, give, give_element, give_any, push, push_for, keep, test}
+use Rattle.lra_program.specs.Value.{◌>>=◌, Environment}
+use Rattle.lra_program.specs.Step.{State, environment_at, Op, append, fill, store_value, store_element, havoc, push, push_for, truncate_to, test}
 use Rattle.lra_program.specs.Accesses.{expr_accesses, cond_accesses, arguments_accesses, aim_accesses}
-use Rattle.lra_program.specs.Accesses.{ExprStrays, ArgumentsStray, CondStrays, OpStrays, IsOutside}
+use Rattle.lra_program.specs.Accesses.{ExprOutOfBounds, ArgumentsOutOfBounds, CondOutOfBounds, OpOutOfBounds, IsOutside}
 use Rattle.lra_program.proofs.AccessLaws.{HasOutside, get_left, get_right, expr_outside, cond_outside, arguments_outside, aimed_outside}
 use Rattle.lra_program.proofs.TypeLaws.{bind_some}
-use Rattle.lra_operations.specs.Asked.{FreshMeets}
+use Rattle.lra_operations.specs.CheckedOperations.{HoldsWithFresh}
 use Rattle.lra_flow.specs.Linear.{form_of, fitting, at_least_zero, less_by, comparison_test, TestHolds}
 use Rattle.lra_linear_forms.specs.Form.{opposite_form}
 use Rattle.lra_flow.specs.MovesOf.{tested}
@@ -99,7 +99,7 @@ module _ {V H : Type 0} (m : Abstraction V H) (base : ℕ) where
   cond_long (either_of c d) v js e (xs, ys, w, f, g, h, one, leaves, two, is, flags) =
       ap length is ∙ both_long xs ys (cond_accesses c) (cond_accesses d) (cond_long c v xs f one) (cond_long d w ys h two)
 
-module _ {V H : Type 0} (m : Abstraction V H) (laws : Laws m) (s : Scene) where
+module _ {V H : Type 0} (m : Abstraction V H) (laws : Laws m) (s : Environment) where
   module _ (v : V) (held : Has m v s.store) where
     no_parts : (w : V) → Has m w s.store → IsUnreachable m w → ⊥
     no_parts w has none = laws.partless w has.0 none s.store has.1
@@ -140,13 +140,13 @@ module _ {V H : Type 0} (m : Abstraction V H) (laws : Laws m) (s : Scene) where
   -- conditions -----------------------------------------------------------------------------------------------------------
 
   left_below : (c : Cond) (v : V) (xs : Told) (f : Exactness) (draws : List ℤ) (n : ℕ) → CondInside m (dropping m) s.base c v xs f →
-      CondStrays c s draws n → n < length xs
+      CondOutOfBounds c s draws n → n < length xs
   left_below c v xs f draws n one strays =
       let (x, at, out) = cond_outside c s draws n strays in
       subst (λ (k : ℕ). n < k) (sym (cond_long m s.base c v xs f one)) (slice_get_within (cond_accesses c) n x at)
 
   cond_inside : (c : Cond) (v : V) (js : Told) (e : Exactness) (draws : List ℤ) (n : ℕ) → Has m v s.store → CondInside m (dropping m) s.base c v js e →
-      SaysInside js n → CondStrays c s draws n → ⊥
+      SaysInside js n → CondOutOfBounds c s draws n → ⊥
   cond_inside (compare op a b) v js e draws n held judged told strays =
       each_inside v held (expr_accesses a ++ expr_accesses b) js e n judged told (cond_outside (compare op a b) s draws n strays)
   cond_inside (nonzero a) v js e draws n held judged told strays =
@@ -167,30 +167,30 @@ module _ {V H : Type 0} (m : Abstraction V H) (laws : Laws m) (s : Scene) where
 
 module _ {V H : Type 0} (m : Abstraction V H) (laws : Laws m) where
   op_inside : (op : Op) (v : V) (js : Told) (e : Exactness) (s : State) (n : ℕ) → Has m v s.store → OpInside m (dropping m) op v js e →
-      SaysInside js n → OpStrays op s n → ⊥
+      SaysInside js n → OpOutOfBounds op s n → ⊥
   op_inside (append t) v js e s n held judged told strays = strays
   op_inside (fill a) v js e s n held judged told strays = strays
-  op_inside (give base x a) v js e s n held judged told strays =
-      each_inside m laws (scene_at base s) v held (expr_accesses a) js e n judged told (expr_outside a (scene_at base s) s.draws n strays)
-  op_inside (give_element base x a) v js e s n held judged told strays =
-      each_inside m laws (scene_at base s) v held (aim_accesses x ++ expr_accesses a) js e n judged told
-      (aimed_outside base x (expr_accesses a) (λ t k. ExprStrays a (scene_at base t) t.draws k)
-      (λ t k. expr_outside a (scene_at base t) t.draws k) s n strays)
-  op_inside (give_any x) v js e s n held judged told strays = strays
+  op_inside (store_value base x a) v js e s n held judged told strays =
+      each_inside m laws (environment_at base s) v held (expr_accesses a) js e n judged told (expr_outside a (environment_at base s) s.draws n strays)
+  op_inside (store_element base x a) v js e s n held judged told strays =
+      each_inside m laws (environment_at base s) v held (aim_accesses x ++ expr_accesses a) js e n judged told
+      (aimed_outside base x (expr_accesses a) (λ t k. ExprOutOfBounds a (environment_at base t) t.draws k)
+      (λ t k. expr_outside a (environment_at base t) t.draws k) s n strays)
+  op_inside (havoc x) v js e s n held judged told strays = strays
   op_inside (push base given) v js e s n held judged told strays =
-      each_inside m laws (scene_at base s) v held (arguments_accesses given) js e n judged told
-      (arguments_outside given (scene_at base s) s.draws n strays)
+      each_inside m laws (environment_at base s) v held (arguments_accesses given) js e n judged told
+      (arguments_outside given (environment_at base s) s.draws n strays)
   op_inside (push_for base x given) v js e s n held judged told strays =
-      each_inside m laws (scene_at base s) v held (aim_accesses x ++ arguments_accesses given) js e n judged told
-      (aimed_outside base x (arguments_accesses given) (λ t k. ArgumentsStray given (scene_at base t) t.draws k)
-      (λ t k. arguments_outside given (scene_at base t) t.draws k) s n strays)
-  op_inside (keep k) v js e s n held judged told strays = strays
+      each_inside m laws (environment_at base s) v held (aim_accesses x ++ arguments_accesses given) js e n judged told
+      (aimed_outside base x (arguments_accesses given) (λ t k. ArgumentsOutOfBounds given (environment_at base t) t.draws k)
+      (λ t k. arguments_outside given (environment_at base t) t.draws k) s n strays)
+  op_inside (truncate_to k) v js e s n held judged told strays = strays
   op_inside (test base c wanted) v js e s n held judged told strays =
-      cond_inside m laws (scene_at base s) c v js e s.draws n held judged told strays
+      cond_inside m laws (environment_at base s) c v js e s.draws n held judged told strays
 
   asked_inside : (fresh : Option NumberType) (op : Op) (v w : V) (js : Told) (c d : Exactness) (s : State) (n : ℕ) → Has m v s.store →
       Declares (dropping m) fresh v c w → OpInside m (dropping m) op w js d → SaysInside js n →
-      FreshMeets (λ o t. OpStrays o t n) fresh op s → ⊥
+      HoldsWithFresh (λ o t. OpOutOfBounds o t n) fresh op s → ⊥
   asked_inside None op v w js c d s n held (same, exact) judged told strays =
       op_inside op w js d s n (subst (λ (x : V). Has m x s.store) (sym same) held) judged told strays
   asked_inside (Some t) op v w js c d s n held made judged told (k, ran, strays) =

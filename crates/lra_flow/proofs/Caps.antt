@@ -14,9 +14,9 @@ use Rattle.lra_domain.specs.Laws.{Laws}
 use Rattle.lra_base.specs.declared.case_labels.CaseLabel.{CaseLabel}
 use Rattle.lra_base.specs.declared.case_labels.CaseLabel.TheVariants.{Case, Default}
 use Rattle.lra_program.specs.Program.{Expr, Cond, Program}
-use Rattle.lra_operations.specs.declared.asides.Aside.TheVariants.{Entering, Noting}
-use Rattle.lra_operations.specs.Graph.{Exit, broken, continued, returned, Node, empty, point, aside, act, check, seq, choose, iterate, catch, leave, select, Arms}
-use Rattle.lra_operations.specs.Graph.{no_arms, entry, arm, entries_of}
+use Rattle.lra_operations.specs.declared.probes.Probe.TheVariants.{InterferencePoint, RecordWrite}
+use Rattle.lra_operations.specs.Tree.{Exit, broken, continued, returned, Node, empty, point, probe, act, check, seq, choose, iterate, catch, leave, select, Arms}
+use Rattle.lra_operations.specs.Tree.{no_arms, entry, arm, entries_of}
 use Rattle.lra_flow.specs.Plan.{Plan, Widening}
 use Rattle.lra_flow.specs.Operations.{Operations, dropping}
 use Rattle.lra_domain.specs.Moves.{Moves, stay, make, first_then, join_of}
@@ -158,8 +158,8 @@ module _ (V H : Type 0) (ops : Operations V H) (set : Plan) (Good : V → Type 0
       pub pass_good_among : (tree : Node) (f : Option ℕ) (v : V) (r : Result V) → PassAmong V H ops admission set tree f v r → Good v → AreGood r
       pass_good_among empty f v r is g = same_good r _ is (on_good [] v f tt g)
       pass_good_among (point q) f v r is g = same_good r _ is (on_good (value q v ∷ []) v f (g, tt) g)
-      pass_good_among (aside q Entering) f v r (w, e, admitted, is) g = same_good r _ is (on_good [] w (noted q e f) tt (admits v e w admitted g))
-      pass_good_among (aside q (Noting place)) f v r is g = same_good r _ is (on_good (given q place v ∷ []) v f (g, tt) g)
+      pass_good_among (probe q InterferencePoint) f v r (w, e, admitted, is) g = same_good r _ is (on_good [] w (noted q e f) tt (admits v e w admitted g))
+      pass_good_among (probe q (RecordWrite place)) f v r is g = same_good r _ is (on_good (given q place v ∷ []) v f (g, tt) g)
       pass_good_among (act q op) f v r (w, e, done, is) g = same_good r _ is (on_good [] w (noted q e f) tt (made_good (moves_of (ops.dims v) op) v e w done g))
       pass_good_among (check q base c) f v r (u, w, d, e, off, on, is) g =
           same_good r _ is (on_good (failing q u ∷ []) w (noted q e (noted q d f)) (leaves_good base c false v d u off g, tt)

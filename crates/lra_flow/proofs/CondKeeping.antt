@@ -4,7 +4,7 @@ use Rattle.std.specs.Prelude.{not, if◌then◌else◌, IsTrue, ◌⊎◌, int_l
 use Rattle.std.proofs.lemmas.Int.{ints}
 use Rattle.lra_base.specs.Operators.{Comparison, below, at_most, above, at_least, equal, differs}
 use Rattle.lra_program.specs.Program.{Expr, literal, Cond, compare, nonzero, opposite, both_of, either_of}
-use Rattle.lra_program.specs.Value.{Scene, Drawn, is_zero, compares, value_of, truth_of}
+use Rattle.lra_program.specs.Value.{Environment, Drawn, is_zero, compares, value_of, truth_of}
 use Rattle.lra_linear_forms.specs.declared.test.Test.{Test}
 use Rattle.lra_flow.specs.declared.seen.Division.{Division}
 use Rattle.lra_flow.specs.declared.seen.Seen.{Seen}
@@ -108,7 +108,7 @@ module _ (store : List ℤ) where
   comparison_leads op (Divided c d) x y is so = split_leads op (Divided c d) x y is so
   comparison_leads op Unseen x y is so = refl
 
-module _ (s : Scene) where
+module _ (s : Environment) where
   -- the first answer of a condition
   answered : (c : Cond) (draws rest : List ℤ) (so wanted : Bool) → so ≡ wanted → truth_of c s draws ≡ Some (so, rest) → truth_of c s draws ≡ Some (wanted, rest)
   answered c draws rest so wanted e got = subst (λ (b : Bool). truth_of c s draws ≡ Some (b, rest)) e got
@@ -157,7 +157,7 @@ module _ (s : Scene) where
       (s.store, cond_leads a false draws r.1 (answered a draws r.1 r.0 false so got), cond_leads b false r.1 left on)
 
 -- an expression that has the value or, where it is not wanted, another one
-pub value_leads : (s : Scene) (e : Expr) (z : ℤ) (wanted : Bool) (draws left : List ℤ) (y : ℤ) → value_of e s draws ≡ Some (y, left)
+pub value_leads : (s : Environment) (e : Expr) (z : ℤ) (wanted : Bool) (draws left : List ℤ) (y : ℤ) → value_of e s draws ≡ Some (y, left)
     → compares equal y z ≡ wanted
     → MayLead (value_moves (length s.store) s.base wanted e z) s.store s.store
 value_leads s e z wanted draws left y got is =

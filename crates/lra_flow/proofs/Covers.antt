@@ -10,8 +10,8 @@ use Rattle.lra_domain.specs.Laws.{Laws}
 use Rattle.lra_domain.specs.Abstraction.{Abstraction}
 use Rattle.lra_domain.specs.declared.Mode.{Mode}
 use Rattle.lra_domain.specs.declared.Exactness.{Exactness}
-use Rattle.lra_program.specs.Step.{State, scene_at, Op, run_op}
-use Rattle.lra_operations.specs.Graph.{Exit, normal, jump, Node, Ends, Comes, FailsAt, Arms, ArmsEnd, ArmsCome, ArmsFail}
+use Rattle.lra_program.specs.Step.{State, environment_at, Op, run_op}
+use Rattle.lra_operations.specs.Tree.{Exit, normal, jump, Node, Completes, ReachesPoint, FailsAt, Arms, ArmsComplete, ArmsReachPoint, ArmsFail}
 use Rattle.lra_flow.specs.Operations.{dropping}
 use Rattle.lra_flow.specs.Pass.{value, failing, Result, Changes, ValueIs, jumps_of}
 
@@ -43,19 +43,19 @@ ChangesKeep {V} m = (op : Op) (v : V) (e : Exactness) (w : V) → Changes (dropp
 abbrev pub ValuesKeep : {V H : Type 0} → Abstraction V H → Type 0
 ValuesKeep {V} m = (base : ℕ) (e : Expr) (z : ℤ) (wanted : Bool) (v : V) (x : Exactness) (w : V) → ValueIs (dropping m) base e z wanted v x w
     → (s : State) (y : ℤ) (left : List ℤ) →
-    Has m v s.store → value_of e (scene_at base s) s.draws ≡ Some (y, left) → compares equal y z ≡ wanted → Has m w s.store
+    Has m v s.store → value_of e (environment_at base s) s.draws ≡ Some (y, left) → compares equal y z ≡ wanted → Has m w s.store
 
 -- the result has the stores of the tree's runs from this state: behind the tree, at its jumps, at its points and where
 -- an assertion fails
 pub record Covers {V H : Type 0} (m : Abstraction V H) (g : Node) (s : State) (r : Result V) : Type 0 where
-  pub ends : (t : State) → Ends g s normal t → Has m r.normal t.store
-  pub leaves : (k : Exit) (t : State) → Ends g s (jump k) t → SomeHas m (jumps_of k r) t.store
-  pub comes : (p : ℕ) (t : State) → Comes g s p t → (w : V) × Contains r.entries (value p w) × Has m w t.store
+  pub ends : (t : State) → Completes g s normal t → Has m r.normal t.store
+  pub leaves : (k : Exit) (t : State) → Completes g s (jump k) t → SomeHas m (jumps_of k r) t.store
+  pub comes : (p : ℕ) (t : State) → ReachesPoint g s p t → (w : V) × Contains r.entries (value p w) × Has m w t.store
   pub fails : (p : ℕ) → FailsAt g s p → (w : V) × (t : State) × Contains r.entries (failing p w) × Has m w t.store
 
 -- the same of arms, by the label to which a value goes, and whether it was met
 pub record ArmsCover {V H : Type 0} (m : Abstraction V H) (l : CaseLabel) (met : Bool) (arms : Arms) (s : State) (r : Result V) : Type 0 where
-  pub ends : (t : State) → ArmsEnd l met arms s normal t → Has m r.normal t.store
-  pub leaves : (k : Exit) (t : State) → ArmsEnd l met arms s (jump k) t → SomeHas m (jumps_of k r) t.store
-  pub comes : (p : ℕ) (t : State) → ArmsCome l met arms s p t → (w : V) × Contains r.entries (value p w) × Has m w t.store
+  pub ends : (t : State) → ArmsComplete l met arms s normal t → Has m r.normal t.store
+  pub leaves : (k : Exit) (t : State) → ArmsComplete l met arms s (jump k) t → SomeHas m (jumps_of k r) t.store
+  pub comes : (p : ℕ) (t : State) → ArmsReachPoint l met arms s p t → (w : V) × Contains r.entries (value p w) × Has m w t.store
   pub fails : (p : ℕ) → ArmsFail l met arms s p → (w : V) × (t : State) × Contains r.entries (failing p w) × Has m w t.store

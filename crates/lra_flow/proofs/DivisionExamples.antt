@@ -5,7 +5,7 @@ use Rattle.lra_base.specs.declared.number_types.NumberType.TheVariants.{Int, Lon
 use Rattle.lra_program.proofs.RunExamples.{long_variable}
 use Rattle.lra_program.specs.Receivers.{variable_at}
 use Rattle.lra_program.specs.Program.{local, Expr, literal, read, negate, binary, compare, nonzero}
-use Rattle.lra_program.specs.Step.{give}
+use Rattle.lra_program.specs.Step.{store_value}
 use Rattle.lra_base.specs.Operators.{plus, minus, times, over, modulo, equal, differs}
 use Rattle.lra_linear_spec.specs.declared.ConKind.TheVariants.{Ge, Eq}
 use Rattle.lra_linear_forms.specs.Form.{Form}
@@ -68,18 +68,18 @@ is_0 c a b d = test Eq (form c (a ∷ b ∷ d ∷ []))
 
 -- x = x / 3: x >= 0, t and r, r >= 0, 2 - r >= 0, x - 3*t - r = 0; -x - 1 >= 0, t and r, r + 2 >= 0, -r >= 0 and the same; catches a remainder
 -- with the other sign, 3 - r >= 0, one case alone, cases in the other order, and t and r that stay
-third : cases (moves_of 1 (give 0 (variable_at 0 Long) (binary over x (literal Int 3)))) ≡
+third : cases (moves_of 1 (store_value 0 (variable_at 0 Long) (binary over x (literal Int 3)))) ≡
     (test Ge (form (pos 0) (pos 1 ∷ [])) ∷ embed 2 ∷ at_least_0 (pos 0) (pos 0) (pos 0) (pos 1) ∷ at_least_0 (pos 2) (pos 0) (pos 0) (negsuc 0)
     ∷ is_0 (pos 0) (pos 1) (negsuc 2) (negsuc 0) ∷ assign 0 (form (pos 0) (pos 0 ∷ pos 1 ∷ pos 0 ∷ [])) ∷ remove_last 2 ∷ [])
     ∷ (test Ge (form (negsuc 0) (negsuc 0 ∷ [])) ∷ embed 2 ∷ at_least_0 (pos 2) (pos 0) (pos 0) (pos 1) ∷ at_least_0 (pos 0) (pos 0) (pos 0) (negsuc 0)
     ∷ is_0 (pos 0) (pos 1) (negsuc 2) (negsuc 0) ∷ assign 0 (form (pos 0) (pos 0 ∷ pos 1 ∷ pos 0 ∷ [])) ∷ remove_last 2 ∷ []) ∷ []
 third = refl
 
-third_dims : dims_moved (moves_of 1 (give 0 (variable_at 0 Long) (binary over x (literal Int 3)))) 1 ≡ 1
+third_dims : dims_moved (moves_of 1 (store_value 0 (variable_at 0 Long) (binary over x (literal Int 3)))) 1 ≡ 1
 third_dims = refl
 
 -- the tests of an `int` stand behind the join, once: catches them in each case
-int_behind : moves_of 1 (give 0 (variable_at 0 Int) (binary modulo x (literal Int 3)))
+int_behind : moves_of 1 (store_value 0 (variable_at 0 Int) (binary modulo x (literal Int 3)))
     ≡ first_then (in_cases 1 (x_by (pos 3)) (assign 0 (form (pos 0) (pos 0 ∷ pos 0 ∷ pos 1 ∷ []))))
     (first_then (make (test Ge (form (pos 2147483648) (pos 1 ∷ [])))) (make (test Ge (form (pos 2147483647) (negsuc 0 ∷ [])))))
 int_behind = refl
@@ -105,7 +105,7 @@ two_divisions : guard 1 0 true (compare differs (binary over x (literal Int 7)) 
 two_divisions = refl
 
 -- -7 / 2 is -3 and leaves -1: the second case leads there, over the store -7
-seven_halved : MayLead (moves_of 1 (give 0 (variable_at 0 Long) (binary over x (literal Int 2)))) (negsuc 6 ∷ []) (negsuc 2 ∷ [])
+seven_halved : MayLead (moves_of 1 (store_value 0 (variable_at 0 Long) (binary over x (literal Int 2)))) (negsuc 6 ∷ []) (negsuc 2 ∷ [])
 seven_halved = inr (
   negsuc 6 ∷ negsuc 2 ∷ negsuc 0 ∷ [],
   (

@@ -13,7 +13,7 @@ use Rattle.lra_base.specs.declared.number_types.NumberType.{NumberType}
 use Rattle.lra_base.specs.NumberTypes.{wider}
 use Rattle.lra_base.specs.Operators.{Operator, plus, minus, times, over, modulo}
 use Rattle.lra_program.specs.Program.{Expr, literal, read, input, negate, binary, element, type_of}
-use Rattle.lra_program.specs.Value.{◌>>=◌, number, is_zero, Scene, quotient, apply, value_of}
+use Rattle.lra_program.specs.Value.{◌>>=◌, number, is_zero, Environment, quotient, apply, value_of}
 use Rattle.lra_program.proofs.TypeLaws.{bind_some}
 use Rattle.lra_domain.specs.Actions.{Action, assign, Leads}
 use Rattle.lra_domain.specs.Moves.{MayLead}
@@ -435,7 +435,7 @@ share_fits n base (binary op a b) p is =
       (share_wide n op p.1 k.share).width,
     )
 
-share_right : (s : Scene) (e : Expr) (p : Division × Form) (draws left : List ℤ) (z : ℤ) → share_of (length s.store) s.base e ≡ Some p
+share_right : (s : Environment) (e : Expr) (p : Division × Form) (draws left : List ℤ) (z : ℤ) → share_of (length s.store) s.base e ≡ Some p
     → value_of e s draws ≡ Some (z, left)
     → HasValue (Divided p.0 p.1) s.store z
 share_right s (literal t n) p draws left z is ran = cc
@@ -466,7 +466,7 @@ seen_fits n base e = by (form_of n base e) (share_of n base e) refl refl
     by None None is also = tt
 
 -- wherever the expression has a value
-pub seen_right : (s : Scene) (e : Expr) (draws left : List ℤ) (z : ℤ) → value_of e s draws ≡ Some (z, left)
+pub seen_right : (s : Environment) (e : Expr) (draws left : List ℤ) (z : ℤ) → value_of e s draws ≡ Some (z, left)
     → SeenIs (seen_of (length s.store) s.base e) s.store z
 seen_right s e draws left z ran = (seen_fits (length s.store) s.base e, by (form_of (length s.store) s.base e) (share_of (length s.store) s.base e) refl refl)
   where

@@ -7,7 +7,7 @@ use Rattle.lra_domain.specs.declared.Exactness.TheVariants.{Exact, Flagged}
 use Rattle.lra_base.specs.Operators.{plus, times}
 use Rattle.lra_base.specs.declared.number_types.NumberType.TheVariants.{Int, Long}
 use Rattle.lra_program.specs.Program.{Expr, literal, input, negate, binary}
-use Rattle.lra_program.specs.Receivers.{variable_at, behind_result, nobody, converts_to}
+use Rattle.lra_program.specs.Receivers.{variable_at, result_receiver, nobody, converts_to}
 use Rattle.lra_flow.specs.Linear.{constant_form}
 use Rattle.lra_flow.specs.Judging.{Finding, first_flagged, Answers}
 use Rattle.lra_flow.specs.Fits.{IsDivisor, LiesIn, ExprJudged, GivenJudged}
@@ -51,7 +51,7 @@ long_converted = refl
 int_not_converted : converts_to Int (variable_at 0 Int) ≡ false
 int_not_converted = refl
 
-behind_long_converted : converts_to Int (behind_result (Some Long) (variable_at 0 Int)) ≡ true
+behind_long_converted : converts_to Int (result_receiver (Some Long) (variable_at 0 Int)) ≡ true
 behind_long_converted = refl
 
 nobody_converts_not : converts_to Long nobody ≡ false

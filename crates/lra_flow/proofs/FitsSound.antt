@@ -20,16 +20,16 @@ use Rattle.lra_base.specs.NumberTypes.{fits, wider}
 use Rattle.lra_base.proofs.TypeLimits.{limits_of, fits_between, int_is_long, fits_long, fits_wider}
 use Rattle.lra_program.specs.Program.{Expr, literal, read, input, negate, binary, element, type_of, Element, Cond, compare, nonzero, opposite, both_of}
 use Rattle.lra_program.specs.Program.{either_of}
-use Rattle.lra_program.specs.Value.{◌>>=◌, number, is_zero, quotient, apply, Scene, value_of, truth_of, Argument}
-use Rattle.lra_program.specs.declared.receivers.Way.{Way}
-use Rattle.lra_program.specs.declared.receivers.Way.TheVariants.{Wide, Short, Shortened}
+use Rattle.lra_program.specs.Value.{◌>>=◌, number, is_zero, quotient, apply, Environment, value_of, truth_of, Argument}
+use Rattle.lra_program.specs.declared.receivers.ConversionChain.{ConversionChain}
+use Rattle.lra_program.specs.declared.receivers.ConversionChain.TheVariants.{Wide, Short, Shortened}
 use Rattle.lra_program.specs.declared.receivers.Target.{Target}
 use Rattle.lra_program.specs.declared.receivers.Receiver.{Receiver}
 use Rattle.lra_program.specs.Receivers.{waiting_in, lets_through, parameter_of, converts_to, target_accepts, accepts}
-use Rattle.lra_program.specs.Step.{State, scene_at, Op, append, fill, give, give_element, give_any, push, push_for, keep, test, aim}
+use Rattle.lra_program.specs.Step.{State, environment_at, Op, append, fill, store_value, store_element, havoc, push, push_for, truncate_to, test, aim}
 use Rattle.lra_program.specs.Overflow.{ExprOverflows, EitherOverflows, CondOverflows, GivenOverflows, ArgumentsOverflow, OpOverflows}
 use Rattle.lra_program.proofs.TypeLaws.{bind_some, value_has_its_type, refused_converts}
-use Rattle.lra_operations.specs.Asked.{FreshOverflows}
+use Rattle.lra_operations.specs.CheckedOperations.{FreshOverflows}
 use Rattle.lra_flow.specs.Linear.{scaled, operator_form, form_of, form_in, exactly}
 use Rattle.lra_flow.specs.Operations.{dropping}
 use Rattle.lra_flow.specs.MovesOf.{guard}
@@ -92,7 +92,7 @@ has_quotient t f x y n q r =
     ap (λ (o : Option ℤ). o >>= λ _. number t (f x y)) (there t (int_div x y) q) ∙ there t (f x y) r
 
 -- a number of 32 bits comes to every receiver
-way_open : (w : Way) (z : ℤ) → fits Int z ≡ true → lets_through w z ≡ true
+way_open : (w : ConversionChain) (z : ℤ) → fits Int z ≡ true → lets_through w z ≡ true
 way_open Wide z e = refl
 way_open Short z e = e
 way_open Shortened z e = e
@@ -108,7 +108,7 @@ target_open (Some t) z e = by t.number_type
 given_goes : (x : Receiver) (t : NumberType) (z : ℤ) → fits t z ≡ true → (converts_to t x ≡ true → fits Int z ≡ true) → accepts x z ≡ false → ⊥
 given_goes x t z fit converted refused =
     let short = converted (refused_converts t x z fit refused) in
-    not_both (accepts x z) (both_true (way_open x.way z short) (target_open x.target z short)) refused
+    not_both (accepts x z) (both_true (way_open x.conversions z short) (target_open x.target z short)) refused
 
 argument_goes : (t u : NumberType) (z : ℤ) → fits u z ≡ true → (converts_to u (parameter_of t) ≡ true → fits Int z ≡ true) → number t z ≡ None → ⊥
 argument_goes Int Int z fit converted stop = some_none (number Int z) z (there Int z fit) stop
@@ -135,7 +135,7 @@ last_so b e = (and_parts b true e).0
 
 -- one value ------------------------------------------------------------------------------------------------------------
 
-module _ {V H : Type 0} (m : Abstraction V H) (laws : Laws m) (s : Scene) where
+module _ {V H : Type 0} (m : Abstraction V H) (laws : Laws m) (s : Environment) where
   module _ (v : V) (held : Has m v s.store) where
     sized : m.dims v ≡ length s.store
     sized = sym (laws.sized v s.store held.0 held.1)
@@ -320,19 +320,20 @@ module _ {V H : Type 0} (m : Abstraction V H) (laws : Laws m) where
       → ⊥
   op_goes (append t) v bs e s held judged all stops = stops
   op_goes (fill a) v bs e s held judged all stops = stops
-  op_goes (give base x a) v bs e s held judged all stops = receiver_goes m laws (scene_at base s) v held x a bs s.draws judged.0 all stops
-  op_goes (give_element base x a) v bs e s held ((xs, ys, first, later, is), exact) all (inl stops) =
-      expr_goes m laws (scene_at base s) v held x.index xs s.draws first (split_so bs xs ys is all).0 stops
-  op_goes (give_element base x a) v bs e s held ((xs, ys, first, later, is), exact) all (inr (n, aimed, stops)) =
-      receiver_goes m laws (scene_at base n) v (still_held base x v s n held aimed) (waiting_in x.array) a ys n.draws later (split_so bs xs ys is all).1 stops
-  op_goes (give_any x) v bs e s held judged all stops = stops
-  op_goes (push base given) v bs e s held judged all stops = arguments_go m laws (scene_at base s) v held given bs s.draws judged.0 all stops
+  op_goes (store_value base x a) v bs e s held judged all stops = receiver_goes m laws (environment_at base s) v held x a bs s.draws judged.0 all stops
+  op_goes (store_element base x a) v bs e s held ((xs, ys, first, later, is), exact) all (inl stops) =
+      expr_goes m laws (environment_at base s) v held x.index xs s.draws first (split_so bs xs ys is all).0 stops
+  op_goes (store_element base x a) v bs e s held ((xs, ys, first, later, is), exact) all (inr (n, aimed, stops)) =
+      receiver_goes m laws (environment_at base n) v (still_held base x v s n held aimed) (waiting_in x.array) a ys n.draws later (split_so bs xs ys is all).1
+      stops
+  op_goes (havoc x) v bs e s held judged all stops = stops
+  op_goes (push base given) v bs e s held judged all stops = arguments_go m laws (environment_at base s) v held given bs s.draws judged.0 all stops
   op_goes (push_for base x given) v bs e s held ((xs, ys, first, later, is), exact) all (inl stops) =
-      expr_goes m laws (scene_at base s) v held x.index xs s.draws first (split_so bs xs ys is all).0 stops
+      expr_goes m laws (environment_at base s) v held x.index xs s.draws first (split_so bs xs ys is all).0 stops
   op_goes (push_for base x given) v bs e s held ((xs, ys, first, later, is), exact) all (inr (n, aimed, stops)) =
-      arguments_go m laws (scene_at base n) v (still_held base x v s n held aimed) given ys n.draws later (split_so bs xs ys is all).1 stops
-  op_goes (keep n) v bs e s held judged all stops = stops
-  op_goes (test base c wanted) v bs e s held judged all stops = cond_goes m laws (scene_at base s) c v bs e s.draws held judged all stops
+      arguments_go m laws (environment_at base n) v (still_held base x v s n held aimed) given ys n.draws later (split_so bs xs ys is all).1 stops
+  op_goes (truncate_to n) v bs e s held judged all stops = stops
+  op_goes (test base c wanted) v bs e s held judged all stops = cond_goes m laws (environment_at base s) c v bs e s.draws held judged all stops
 
   asked_goes : (fresh : Option NumberType) (op : Op) (v w : V) (bs : List Bool) (c d : Exactness) (s : State) → Has m v s.store → Declares (dropping m) fresh
       v c w

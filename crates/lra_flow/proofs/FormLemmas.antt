@@ -16,7 +16,7 @@ use Rattle.lra_base.specs.declared.number_types.NumberType.{NumberType}
 use Rattle.lra_base.specs.NumberTypes.{fits, wider}
 use Rattle.lra_program.specs.Program.{Expr, literal, read, input, negate, binary, element, type_of, compare}
 use Rattle.lra_program.proofs.TypeLaws.{bind_some}
-use Rattle.lra_program.specs.Value.{◌>>=◌, number, is_word, is_zero, index_of, Scene, apply, compares, value_of, truth_of}
+use Rattle.lra_program.specs.Value.{◌>>=◌, number, is_word, is_zero, index_of, Environment, apply, compares, value_of, truth_of}
 use Rattle.lra_flow.specs.Linear.{fitting, entrywise, combined, scaled, is_constant, operator_form, constant_form, live_form, variable_form, form_of, form_in, exactly, OperatorFormsAreExact, FormsAreRight, TestHolds, negated_form, less_by, less_one}
 use Rattle.lra_flow.specs.Linear.{at_least_zero, comparison_test, difference_in, TestsAreRight, DiffersIsRight}
 
@@ -378,7 +378,7 @@ differs_by_tests d less more store x y e is also =
     )
 
 -- what a comparison with a value evaluates
-pub record Compared (s : Scene) (op : Comparison) (a b : Expr) (draws left : List ℤ) (so : Bool) : Type 0 where
+pub record Compared (s : Environment) (op : Comparison) (a b : Expr) (draws left : List ℤ) (so : Bool) : Type 0 where
   pub x : ℤ
   pub y : ℤ
   pub middle : List ℤ
@@ -387,7 +387,7 @@ pub record Compared (s : Scene) (op : Comparison) (a b : Expr) (draws left : Lis
   pub has_y : value_of b s middle ≡ Some (y, last)
   pub is : compares op x y ≡ so
 
-pub compared : (s : Scene) (op : Comparison) (a b : Expr) (draws left : List ℤ) (so : Bool) → truth_of (compare op a b) s draws ≡ Some (so, left) →
+pub compared : (s : Environment) (op : Comparison) (a b : Expr) (draws left : List ℤ) (so : Bool) → truth_of (compare op a b) s draws ≡ Some (so, left) →
     Compared s op a b draws left so
 compared s op a b draws left so e =
     let (r, got, on) = bind_some (value_of a s draws) (λ r. value_of b s r.1 >>= λ q. Some (compares op r.0 q.0, q.1)) (so, left) e in
@@ -395,7 +395,7 @@ compared s op a b draws left so e =
     record { x = r.0; y = q.0; middle = r.1; last = q.1; has_x = got; has_y = got_too; is = some_first (compares op r.0 q.0) so q.1 left end }
 
 -- the difference of two expressions has the difference of their values, also where that passes 64 bits
-pub difference_is_right : (s : Scene) (a b : Expr) (d : Form) (draws middle last : List ℤ) (x y : ℤ) → difference_in s a b ≡ Some d
+pub difference_is_right : (s : Environment) (a b : Expr) (d : Form) (draws middle last : List ℤ) (x y : ℤ) → difference_in s a b ≡ Some d
     → value_of a s draws ≡ Some (x, middle) → value_of b s middle ≡ Some (y, last) → form_value d s.store ≡ x -ℤ y
 difference_is_right s a b d draws middle last x y is ran ran_too =
     let (g, of, to) = bind_some (form_in s a) (λ x. form_in s b >>= λ y. operator_form minus x y) d is in

@@ -18,9 +18,10 @@ use Rattle.lra_program.specs.Receivers.{waiting_in, lets_through, target_accepts
 use Rattle.lra_program.specs.Arrays.{elements_of, place_among}
 use Rattle.lra_program.specs.declared.arrays.Array.{Array}
 use Rattle.lra_program.specs.Program.{Expr, literal, read, input, negate, binary, element, type_of, Cond}
-use Rattle.lra_program.specs.Value.{◌>>=◌, number, index_of, Scene, apply, Argument, Drawn, draw, draws_of, value_of, values_of, truth_of}
-use Rattle.lra_program.specs.Step.{State, Op, append, fill, give, give_element, give_any, push, push_for, keep, put, put_in, put_waiting, receive, kept_if}
-use Rattle.lra_program.specs.Step.{drawn_for, pushed, filled, aim, scene_at, run_op}
+use Rattle.lra_program.specs.Value.{◌>>=◌, number, index_of, Environment, apply, Argument, Drawn, first_draw, draws_of, value_of, values_of, truth_of}
+use Rattle.lra_program.specs.Step.{State, Op, append, fill, store_value, store_element, havoc, push, push_for, truncate_to, put, put_in, put_waiting, receive}
+use Rattle.lra_program.specs.Step.{kept_if}
+use Rattle.lra_program.specs.Step.{drawn_for, pushed, filled, aim, environment_at, run_op}
 use Rattle.lra_program.proofs.TypeLaws.{bind_some, number_fits}
 use Rattle.lra_program.proofs.StepLaws.{aim_keeps, store_waiting}
 use Rattle.lra_program.specs.Step as step
@@ -50,11 +51,11 @@ get_longer (x ∷ xs) more zero z e = e
 get_longer (x ∷ xs) more (suc k) z e = get_longer xs more k z e
 
 -- with more variables behind
-abbrev longer : Scene → List ℤ → Scene
+abbrev longer : Environment → List ℤ → Environment
 longer s more = record s { store = s.store ++ more }
 
 -- these change no value
-value_longer : (e : Expr) (s : Scene) (more draws : List ℤ) (r : ℤ × List ℤ) → value_of e s draws ≡ Some r → value_of e (longer s more) draws ≡ Some r
+value_longer : (e : Expr) (s : Environment) (more draws : List ℤ) (r : ℤ × List ℤ) → value_of e s draws ≡ Some r → value_of e (longer s more) draws ≡ Some r
 value_longer (literal t n) s more draws r is = is
 value_longer (read x) s more draws r is =
     let (y, got, to) = bind_some (slice_get s.store (index_of s.base x.slot)) (λ y. number x.number_type y >>= λ z. Some (z, draws)) r is in
@@ -126,7 +127,7 @@ last_long xs z = let one : suc (length xs) ≡ length xs + 1 = omega arith in on
 -- least changes ---------------------------------------------------------------------------------------------------------
 
 -- the variable gets the expression's value
-set_leads : (s : Scene) (x : ℕ) (e : Expr) (draws left : List ℤ) (z : ℤ) → value_of e s draws ≡ Some (z, left)
+set_leads : (s : Environment) (x : ℕ) (e : Expr) (draws left : List ℤ) (z : ℤ) → value_of e s draws ≡ Some (z, left)
     → MayLead (set_to (length s.store) x (seen_of (length s.store) s.base e)) s.store (slice_set s.store x z)
 set_leads s x e draws left z ran = seen_set (seen_of (length s.store) s.base e) s.store x z (seen_right s e draws left z ran)
 
@@ -135,7 +136,7 @@ set_last [] z = refl
 set_last (x ∷ xs) z = ap (λ (ys : List ℤ). x ∷ ys) (set_last xs z)
 
 -- a new variable with the value of an argument that is evaluated without the variables behind
-argument_leads : (s : Scene) (t : NumberType) (e : Expr) (more draws left : List ℤ) (z : ℤ) → value_of e s draws ≡ Some (z, left) → fits t z ≡ true
+argument_leads : (s : Environment) (t : NumberType) (e : Expr) (more draws left : List ℤ) (z : ℤ) → value_of e s draws ≡ Some (z, left) → fits t z ≡ true
     → (let all : List ℤ = s.store ++ more in
     MayLead (within_type t (suc (length all)) (length all) (append_set (length all) (seen_of (suc (length all)) s.base e))) all (all ++ z ∷ []))
 argument_leads s t e more draws left z ran fit =
@@ -155,7 +156,7 @@ argument_leads s t e more draws left z ran fit =
       subst (λ (xs : List ℤ). MayLead (set_to (suc (length all)) (length all) (seen_of (suc (length all)) s.base e)) next xs) (set_last all z) there,
     )
 
-arguments_lead : (s : Scene) (given : List Argument) (more draws : List ℤ) (r : List ℤ × List ℤ) → values_of given s draws ≡ Some r
+arguments_lead : (s : Environment) (given : List Argument) (more draws : List ℤ) (r : List ℤ × List ℤ) → values_of given s draws ≡ Some r
     → (let all : List ℤ = s.store ++ more in MayLead (push_all (length all) s.base given) all (all ++ r.0))
 arguments_lead s [] more draws r is =
     let p : List ℤ × List ℤ = ([], draws) in
@@ -193,7 +194,7 @@ received x s t (Some r) e = by (accepts x r.0) refl e
     by true ok h = record {
       drawn = r;
       is = refl;
-      accepted = (and_parts (lets_through x.way r.0) (target_accepts x.target r.0) ok).1;
+      accepted = (and_parts (lets_through x.conversions r.0) (target_accepts x.target r.0) ok).1;
       stored = store_is (put x.target r.0 (record s { draws = r.1 })) t h;
     }
     by false ok h = cc
@@ -214,31 +215,32 @@ target_leads : (o : Option Target) (w : Seen) (s : State) (z : ℤ) → target_a
 target_leads None w s z ok led = refl
 target_leads (Some t) w s z ok led = cell_leads t.number_type t.cell w s z ok led
 
-given_leads : (base : ℕ) (x : Receiver) (e : Expr) (s t : State) → receive x s (value_of e (scene_at base s) s.draws) ≡ Some t
+given_leads : (base : ℕ) (x : Receiver) (e : Expr) (s t : State) → receive x s (value_of e (environment_at base s) s.draws) ≡ Some t
     → MayLead (set_target (length s.store) x.target (seen_of (length s.store) base e)) s.store t.store
 given_leads base x e s t is =
-    let r = received x s t (value_of e (scene_at base s) s.draws) is in
+    let r = received x s t (value_of e (environment_at base s) s.draws) is in
     let w = seen_of (length s.store) base e in
     subst (λ (xs : List ℤ). MayLead (set_target (length s.store) x.target w) s.store xs) r.stored
-    (target_leads x.target w (record s { draws = r.drawn.1 }) r.drawn.0 r.accepted (λ k. set_leads (scene_at base s) k e s.draws r.drawn.1 r.drawn.0 r.is))
+    (target_leads x.target w (record s { draws = r.drawn.1 }) r.drawn.0 r.accepted
+    (λ k. set_leads (environment_at base s) k e s.draws r.drawn.1 r.drawn.0 r.is))
 
 any_leads : (o : Option Target) (x : Receiver) (s t : State) → x.target ≡ o → drawn_for o x s ≡ Some t
     → MayLead (set_target (length s.store) o Unseen) s.store t.store
 any_leads None x s t same is = sym (store_is s t is)
 any_leads (Some y) x s t same is =
-    let r = received x s t (draw s.draws) is in
+    let r = received x s t (first_draw s.draws) is in
     let left : State = record s { draws = r.drawn.1 } in
     let stored : (put (Some y) r.drawn.0 left).store ≡ t.store = subst (λ (o : Option Target). (put o r.drawn.0 left).store ≡ t.store) same r.stored in
     subst (λ (xs : List ℤ). MayLead (set_target (length s.store) (Some y) Unseen) s.store xs) stored
     (target_leads (Some y) Unseen left r.drawn.0 (subst (λ (o : Option Target). target_accepts o r.drawn.0 ≡ true) same r.accepted)
     (λ k. (r.drawn.0, refl)))
 
-pushed_leads : (base : ℕ) (given : List Argument) (s t : State) (o : Drawn (List ℤ)) → values_of given (scene_at base s) s.draws ≡ o → pushed s o ≡ Some t
+pushed_leads : (base : ℕ) (given : List Argument) (s t : State) (o : Drawn (List ℤ)) → values_of given (environment_at base s) s.draws ≡ o → pushed s o ≡ Some t
     → MayLead (push_all (length s.store) base given) s.store t.store
 pushed_leads base given s t None ran is = cc
 pushed_leads base given s t (Some r) ran is =
     let store = s.store in
-    let lead : MayLead (push_all (length (store ++ [])) base given) (store ++ []) ((store ++ []) ++ r.0) = arguments_lead (scene_at base s) given [] s.draws r ran in
+    let lead : MayLead (push_all (length (store ++ [])) base given) (store ++ []) ((store ++ []) ++ r.0) = arguments_lead (environment_at base s) given [] s.draws r ran in
     let same : MayLead (push_all (length store) base given) store (store ++ r.0) = subst (λ (xs : List ℤ). MayLead (push_all (length xs) base given) xs (xs ++ r.0)) (append-nil store) lead in
     subst (λ (xs : List ℤ). MayLead (push_all (length store) base given) store xs) (store_is (record s { store = store ++ r.0; draws = r.1 }) t is) same
 
@@ -255,12 +257,13 @@ dropped_leads store n (suc k) e =
     ap (λ (i : ℕ). take i store) (sym kept)
 
 -- a condition that was as wanted leaves the store
-tested_leads : (base : ℕ) (c : Cond) (wanted : Bool) (s t : State) (left : List ℤ) → truth_of c (scene_at base s) s.draws ≡ Some (wanted, left) → Some (record s { draws = left }) ≡ Some t
+tested_leads : (base : ℕ) (c : Cond) (wanted : Bool) (s t : State) (left : List ℤ) → truth_of c (environment_at base s) s.draws ≡ Some (wanted, left) → Some (record s { draws = left }) ≡ Some t
     → MayLead (guard (length s.store) base wanted c) s.store t.store
 tested_leads base c wanted s t left ran is =
-    subst (λ (xs : List ℤ). MayLead (guard (length s.store) base wanted c) s.store xs) (store_is (record s { draws = left }) t is) (cond_leads (scene_at base s) c wanted s.draws left ran)
+    subst (λ (xs : List ℤ). MayLead (guard (length s.store) base wanted c) s.store xs) (store_is (record s { draws = left }) t is) (cond_leads (environment_at base s) c wanted s.draws left ran)
 
-test_leads : (base : ℕ) (c : Cond) (wanted : Bool) (s t : State) (o : Drawn Bool) → truth_of c (scene_at base s) s.draws ≡ o → step.tested wanted s o ≡ Some t
+test_leads : (base : ℕ) (c : Cond) (wanted : Bool) (s t : State) (o : Drawn Bool) → truth_of c (environment_at base s) s.draws ≡ o →
+    step.tested wanted s o ≡ Some t
     → MayLead (guard (length s.store) base wanted c) s.store t.store
 test_leads base c wanted s t None ran is = cc
 test_leads base c true s t (Some (true, left)) ran is = tested_leads base c true s t left ran is
@@ -276,26 +279,26 @@ filled_keeps a s t (Some r) is = sym (store_is (record s { arrays = (a.declared,
 -- the moves of a least change lead where it leads
 pub op_leads : (op : Op) (s t : State) → run_op op s ≡ Some t → MayLead (moves_of (length s.store) op) s.store t.store
 op_leads (append x) s t is =
-    let (r, got, on) = bind_some (draw s.draws) (λ r. number x r.0 >>= λ z. Some (record s { store = s.store ++ z ∷ []; draws = r.1 })) t is in
+    let (r, got, on) = bind_some (first_draw s.draws) (λ r. number x r.0 >>= λ z. Some (record s { store = s.store ++ z ∷ []; draws = r.1 })) t is in
     let (z, held, to) = bind_some (number x r.0) (λ z. Some (record s { store = s.store ++ z ∷ []; draws = r.1 })) t on in
     let next = s.store ++ z ∷ [] in
     subst (λ (xs : List ℤ). MayLead (moves_of (length s.store) (append x)) s.store xs) (store_is (record s { store = next; draws = r.1 }) t to)
     (within_type_keeps x (make (embed 1)) (suc (length s.store)) s.store next (length s.store) z (last_long s.store z) (inl (get_last s.store z)) (number_fits x r.0 z held) (z ∷ [], refl, refl))
 op_leads (fill a) s t is = filled_keeps a s t (draws_of a.number_type a.length s.draws) is
-op_leads (give base x e) s t is = given_leads base x e s t is
-op_leads (give_element base x e) s t is =
-    let (m, aimed, on) = bind_some (aim base x s) (λ m. receive (waiting_in x.array) m (value_of e (scene_at base m) m.draws)) t is in
+op_leads (store_value base x e) s t is = given_leads base x e s t is
+op_leads (store_element base x e) s t is =
+    let (m, aimed, on) = bind_some (aim base x s) (λ m. receive (waiting_in x.array) m (value_of e (environment_at base m) m.draws)) t is in
     given_leads base (waiting_in x.array) e m t on ∙ aim_keeps base x s m aimed
-op_leads (give_any x) s t is = any_leads x.target x s t refl is
-op_leads (push base given) s t is = pushed_leads base given s t (values_of given (scene_at base s) s.draws) refl is
+op_leads (havoc x) s t is = any_leads x.target x s t refl is
+op_leads (push base given) s t is = pushed_leads base given s t (values_of given (environment_at base s) s.draws) refl is
 op_leads (push_for base x given) s t is =
-    let (m, aimed, on) = bind_some (aim base x s) (λ m. pushed m (values_of given (scene_at base m) m.draws)) t is in
+    let (m, aimed, on) = bind_some (aim base x s) (λ m. pushed m (values_of given (environment_at base m) m.draws)) t is in
     subst (λ (xs : List ℤ). MayLead (push_all (length xs) base given) xs t.store) (aim_keeps base x s m aimed)
-    (pushed_leads base given m t (values_of given (scene_at base m) m.draws) refl on)
-op_leads (keep n) s t is =
+    (pushed_leads base given m t (values_of given (environment_at base m) m.draws) refl on)
+op_leads (truncate_to n) s t is =
     subst (λ (xs : List ℤ). MayLead (drop_last (length s.store - n)) s.store xs) (store_is (record s { store = take n s.store }) t is)
     (dropped_leads s.store n (length s.store - n) refl)
-op_leads (step.test base c wanted) s t is = test_leads base c wanted s t (truth_of c (scene_at base s) s.draws) refl is
+op_leads (step.test base c wanted) s t is = test_leads base c wanted s t (truth_of c (environment_at base s) s.draws) refl is
 
 -- globals ----------------------------------------------------------------------------------------------------------------
 

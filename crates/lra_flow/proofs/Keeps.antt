@@ -3,8 +3,8 @@ use Rattle.std.proofs.Common.{ℕ, ℤ, List, Option, sym, subst, inl, inr}
 use Rattle.lra_domain.specs.declared.Exactness.{Exactness}
 use Rattle.lra_domain.specs.Abstraction.{Abstraction}
 use Rattle.lra_domain.specs.Laws.{Laws}
-use Rattle.lra_program.specs.Step.{State, scene_at}
-use Rattle.lra_operations.specs.Graph.{Node}
+use Rattle.lra_program.specs.Step.{State, environment_at}
+use Rattle.lra_operations.specs.Tree.{Node}
 use Rattle.lra_flow.specs.Plan.{Plan}
 use Rattle.lra_flow.specs.Operations.{dropping}
 use Rattle.lra_domain.specs.Moves.{Moves, stay, make, first_then, join_of, MayLead}
@@ -34,7 +34,7 @@ module _ (V H : Type 0) (m : Abstraction V H) (laws : Laws m) where
   values_keep base e z wanted v x w made s y left h got is =
       moves_keep (value_moves (m.dims v) base wanted e z) v x w made s.store s.store h
       (subst (λ (n : ℕ). MayLead (value_moves n base wanted e z) s.store s.store) (laws.sized v s.store h.0 h.1)
-      (value_leads (scene_at base s) e z wanted s.draws left y got is))
+      (value_leads (environment_at base s) e z wanted s.draws left y got is))
 
 -- from one of its value's stores, a pass with drops covers the tree's runs
 pub pass_covers : {V H : Type 0} (m : Abstraction V H) → Laws m → (set : Plan) (g : Node) (f : Option ℕ) (v : V) (r : Result V) →

@@ -5,7 +5,7 @@ use Rattle.lra_base.specs.declared.number_types.NumberType.TheVariants.{Int, Lon
 use Rattle.lra_program.proofs.RunExamples.{long_variable}
 use Rattle.lra_program.specs.Program.{local, Expr, literal, read, input, binary, compare, nonzero, opposite, both_of, either_of}
 use Rattle.lra_base.specs.Operators.{plus, minus, times, over, below, above, at_least, differs}
-use Rattle.lra_program.specs.Value.{Scene, value_of, truth_of}
+use Rattle.lra_program.specs.Value.{Environment, value_of, truth_of}
 use Rattle.lra_linear_spec.specs.declared.ConKind.TheVariants.{Ge}
 use Rattle.lra_linear_forms.specs.Form.{Form}
 use Rattle.lra_flow.specs.Linear.{TestHolds, form_of, comparison_test}
@@ -49,7 +49,7 @@ greater_test : comparison_test above (form (pos 0) (pos 1 ∷ negsuc 0 ∷ [])) 
 greater_test = refl
 
 -- x < y at -2^63 and 2^63 - 1, whose difference has no value: the comparison is true, and its test passes; catches a test of the difference's value
-abbrev at_ends : Scene
+abbrev at_ends : Environment
 at_ends = record { base = 0; store = negsuc 9223372036854775807 ∷ pos 9223372036854775807 ∷ []; arrays = [] }
 
 test_past_words : (truth_of (compare below x y) at_ends [] ≡ Some (true, [])) × (value_of (binary minus x y) at_ends [] ≡ None)

@@ -19,7 +19,7 @@ use Rattle.lra_program.specs.declared.receivers.Cell.TheVariants.{Variable, Wait
 use Rattle.lra_program.specs.declared.receivers.Target.{Target}
 use Rattle.lra_program.specs.Value.{Argument}
 use Rattle.lra_program.specs.Program.{Expr, literal, Cond, compare, nonzero, opposite, both_of, either_of}
-use Rattle.lra_program.specs.Step.{Op, append, fill, give, give_element, give_any, push, push_for, keep, test}
+use Rattle.lra_program.specs.Step.{Op, append, fill, store_value, store_element, havoc, push, push_for, truncate_to, test}
 use Rattle.lra_flow.specs.Linear as linear
 use Rattle.lra_flow.specs.Linear.{comparison_test, difference_form}
 use Rattle.lra_flow.specs.declared.seen.Division.{Division}
@@ -81,12 +81,12 @@ target_steps live (Some t) w = cell_steps live t.number_type t.cell w
 abbrev pub steps_of : ℕ → Op → List Step
 steps_of live (append t) = within_steps t (suc live) live (act (embed 1) ∷ [])
 steps_of live (fill a) = []
-steps_of live (give base x e) = target_steps live x.target (seen_of live base e)
-steps_of live (give_element base x e) = []
-steps_of live (give_any x) = target_steps live x.target Unseen
+steps_of live (store_value base x e) = target_steps live x.target (seen_of live base e)
+steps_of live (store_element base x e) = []
+steps_of live (havoc x) = target_steps live x.target Unseen
 steps_of live (push base given) = all_pushed live base given
 steps_of live (push_for base x given) = all_pushed live base given
-steps_of live (keep n) = last_dropped (live - n)
+steps_of live (truncate_to n) = last_dropped (live - n)
 steps_of live (test base c wanted) = []
 
 abbrev pub values_first : ℕ → List GlobalVariable → List Step
@@ -447,12 +447,12 @@ module _ (V H : Type 0) (ops : Operations V H) where
   changes_agree (append t) v e w =
       within_agree V H ops t (suc (ops.dims v)) (ops.dims v) (make (embed 1)) (act (embed 1) ∷ []) (one_made V H ops (embed 1)) v e w
   changes_agree (fill a) v e w = (λ h. h, λ h. h)
-  changes_agree (give base x y) v e w = target_agrees V H ops (ops.dims v) x.target (seen_of (ops.dims v) base y) v e w
-  changes_agree (give_element base x y) v e w = (λ h. h, λ h. h)
-  changes_agree (give_any x) v e w = target_agrees V H ops (ops.dims v) x.target Unseen v e w
+  changes_agree (store_value base x y) v e w = target_agrees V H ops (ops.dims v) x.target (seen_of (ops.dims v) base y) v e w
+  changes_agree (store_element base x y) v e w = (λ h. h, λ h. h)
+  changes_agree (havoc x) v e w = target_agrees V H ops (ops.dims v) x.target Unseen v e w
   changes_agree (push base given) v e w = push_agrees V H ops (ops.dims v) base given v e w
   changes_agree (push_for base x given) v e w = push_agrees V H ops (ops.dims v) base given v e w
-  changes_agree (keep n) v e w = drop_agrees V H ops (ops.dims v - n) v e w
+  changes_agree (truncate_to n) v e w = drop_agrees V H ops (ops.dims v - n) v e w
   changes_agree (test base c wanted) v e w = leaves_agree base c wanted v e w
 
 pub given_agree : (live base : ℕ) (c : Cond) → given_rows live base c ≡ inequalities live (pushed_rows live base (pushed true c))

@@ -9,9 +9,9 @@ use Rattle.lra_domain.specs.declared.Exactness.TheVariants.{Exact}
 use Rattle.lra_base.specs.declared.refusals.Place.{Place}
 use Rattle.lra_program.specs.Program.{Expr, Element}
 use Rattle.lra_program.specs.Accesses.{expr_accesses, arguments_accesses, aim_accesses}
-use Rattle.lra_program.specs.Step.{Op, append, fill, give, give_element, give_any, push, push_for, keep, test}
-use Rattle.lra_operations.specs.Asked.{Asked, accessed_in}
-use Rattle.lra_operations.specs.Graph.{Node}
+use Rattle.lra_program.specs.Step.{Op, append, fill, store_value, store_element, havoc, push, push_for, truncate_to, test}
+use Rattle.lra_operations.specs.CheckedOperations.{OpAtPoint, accessing_ops}
+use Rattle.lra_operations.specs.Tree.{Node}
 use Rattle.lra_flow.specs.Linear.{form_of}
 use Rattle.lra_flow.specs.MovesOf.{tested}
 use Rattle.lra_flow.specs.Operations.{Operations, defined, dropping, straining}
@@ -53,15 +53,15 @@ module _ {V H : Type 0} (m : Abstraction V H) (ops : Operations V H) (single : S
   one_op : (op : Op) (v : V) (js ks : Told) (e f : Exactness) → OpInside m ops op v js e → OpInside m ops op v ks f → js ≡ ks
   one_op (append t) v js ks e f x y = one_each v 0 [] js ks e f x y
   one_op (fill a) v js ks e f x y = one_each v 0 [] js ks e f x y
-  one_op (give base z a) v js ks e f x y = one_each v base (expr_accesses a) js ks e f x y
-  one_op (give_element base z a) v js ks e f x y = one_each v base (aim_accesses z ++ expr_accesses a) js ks e f x y
-  one_op (give_any z) v js ks e f x y = one_each v 0 [] js ks e f x y
+  one_op (store_value base z a) v js ks e f x y = one_each v base (expr_accesses a) js ks e f x y
+  one_op (store_element base z a) v js ks e f x y = one_each v base (aim_accesses z ++ expr_accesses a) js ks e f x y
+  one_op (havoc z) v js ks e f x y = one_each v 0 [] js ks e f x y
   one_op (push base given) v js ks e f x y = one_each v base (arguments_accesses given) js ks e f x y
   one_op (push_for base z given) v js ks e f x y = one_each v base (aim_accesses z ++ arguments_accesses given) js ks e f x y
-  one_op (keep n) v js ks e f x y = one_each v 0 [] js ks e f x y
+  one_op (truncate_to n) v js ks e f x y = one_each v 0 [] js ks e f x y
   one_op (test base c wanted) v js ks e f x y = one_cond ops single (BothInside m ops) (OneInside m ops) both_one one_one base c v js ks e f x y
 
-  pub one_asked_inside : (values : List V) (a : Asked) (js ks : Told) (e f : Exactness) → AskedInside m ops values a js e → AskedInside m ops values a ks f
+  pub one_asked_inside : (values : List V) (a : OpAtPoint) (js ks : Told) (e f : Exactness) → AskedInside m ops values a js e → AskedInside m ops values a ks f
       → js ≡ ks
   one_asked_inside values a js ks e f x y = one_asked_told ops single (OpInside m ops) one_op values a js ks e f x y
 
@@ -99,12 +99,12 @@ module _ {V H : Type 0} (m : Abstraction V H) (b : Operations V H) (Keeps : Exac
   op_moved : (op : Op) (v : V) (js : Told) (e : Exactness) → Keeps e → OpInside m (dropping m) op v js e → OpInside m b op v js e
   op_moved (append t) v js e k h = each_moved v 0 [] js e k h
   op_moved (fill a) v js e k h = each_moved v 0 [] js e k h
-  op_moved (give base x a) v js e k h = each_moved v base (expr_accesses a) js e k h
-  op_moved (give_element base x a) v js e k h = each_moved v base (aim_accesses x ++ expr_accesses a) js e k h
-  op_moved (give_any x) v js e k h = each_moved v 0 [] js e k h
+  op_moved (store_value base x a) v js e k h = each_moved v base (expr_accesses a) js e k h
+  op_moved (store_element base x a) v js e k h = each_moved v base (aim_accesses x ++ expr_accesses a) js e k h
+  op_moved (havoc x) v js e k h = each_moved v 0 [] js e k h
   op_moved (push base given) v js e k h = each_moved v base (arguments_accesses given) js e k h
   op_moved (push_for base x given) v js e k h = each_moved v base (aim_accesses x ++ arguments_accesses given) js e k h
-  op_moved (keep n) v js e k h = each_moved v 0 [] js e k h
+  op_moved (truncate_to n) v js e k h = each_moved v 0 [] js e k h
   op_moved (test base c wanted) v js e k h =
       cond_moved m b Keeps Fine matters moves same_dims (BothInside m (dropping m)) (BothInside m b) (OneInside m (dropping m)) (OneInside m b)
       (λ base x y v js e k h. each_moved v base (expr_accesses x ++ expr_accesses y) js e k h)
@@ -113,7 +113,7 @@ module _ {V H : Type 0} (m : Abstraction V H) (b : Operations V H) (Keeps : Exac
   accesses_moved : (g : Node) (values : List V) (flagged : Option ℕ) (inside : List (ℕ × Told)) (behind : Option ℕ) → Fine behind →
       JudgesAccesses m (dropping m) g values flagged inside behind → JudgesAccesses m b g values flagged inside behind
   accesses_moved g values flagged inside behind fine j =
-      finds_moved m b Keeps Fine matters moves same_dims (OpInside m (dropping m)) (OpInside m b) op_moved (accessed_in None g) values flagged inside behind
+      finds_moved m b Keeps Fine matters moves same_dims (OpInside m (dropping m)) (OpInside m b) op_moved (accessing_ops None g) values flagged inside behind
       fine j
 
 -- without a flag what is judged is so by the written iteration's operations; a first flag is where one of them strains

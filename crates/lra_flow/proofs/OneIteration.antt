@@ -10,8 +10,8 @@ use Rattle.lra_domain.specs.declared.Exactness.{Exactness}
 use Rattle.lra_base.specs.declared.case_labels.CaseLabel.{CaseLabel}
 use Rattle.lra_base.specs.declared.case_labels.CaseLabel.TheVariants.{Case, Default}
 use Rattle.lra_program.specs.Program.{Expr, Cond, Program}
-use Rattle.lra_operations.specs.declared.asides.Aside.TheVariants.{Entering, Noting}
-use Rattle.lra_operations.specs.Graph.{Node, empty, point, aside, act, check, seq, choose, iterate, catch, leave, select, Arms, no_arms, entry, arm, entries_of}
+use Rattle.lra_operations.specs.declared.probes.Probe.TheVariants.{InterferencePoint, RecordWrite}
+use Rattle.lra_operations.specs.Tree.{Node, empty, point, probe, act, check, seq, choose, iterate, catch, leave, select, Arms, no_arms, entry, arm, entries_of}
 use Rattle.lra_flow.specs.Plan.{Plan, Widening, mode_at}
 use Rattle.lra_flow.specs.Operations.{Operations, defined}
 use Rattle.lra_domain.specs.Moves.{Moves, stay, make, first_then, join_of}
@@ -144,8 +144,8 @@ module _ (V H : Type 0) (ops : Operations V H) (single : Single ops) where
     pub one_pass : (set : Plan) (g : Node) → IsOne (Pass V H ops set g)
     one_pass set empty f v r s is same = is ∙ sym same
     one_pass set (point q) f v r s is same = is ∙ sym same
-    one_pass set (aside q Entering) f v r s (w, e, (a, b), is) (x, d, (k, l), same) = is ∙ rw (a ∙ sym k, b ∙ sym l) refl ∙ sym same
-    one_pass set (aside q (Noting place)) f v r s is same = is ∙ sym same
+    one_pass set (probe q InterferencePoint) f v r s (w, e, (a, b), is) (x, d, (k, l), same) = is ∙ rw (a ∙ sym k, b ∙ sym l) refl ∙ sym same
+    one_pass set (probe q (RecordWrite place)) f v r s is same = is ∙ sym same
     one_pass set (act q op) f v r s (w, e, a, is) (x, d, b, same) =
         let (y, z) = one_made (moves_of (ops.dims v) op) v e d w x a b in is ∙ rw (y, z) refl ∙ sym same
     one_pass set (check q base c) f v r s (u, w, d, e, off, on, is) (x, y, i, j, off', on', same) =

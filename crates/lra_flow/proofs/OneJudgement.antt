@@ -11,9 +11,9 @@ use Rattle.lra_program.specs.declared.receivers.Receiver.{Receiver}
 use Rattle.lra_program.specs.Receivers.{waiting_in, parameter_of, converts_to}
 use Rattle.lra_program.specs.Program.{Expr, literal, read, input, negate, binary, element, type_of}
 use Rattle.lra_program.specs.Value.{Argument}
-use Rattle.lra_program.specs.Step.{Op, append, fill, give, give_element, give_any, push, push_for, keep, test}
-use Rattle.lra_operations.specs.Asked.{Asked, asked_in}
-use Rattle.lra_operations.specs.Graph.{Node}
+use Rattle.lra_program.specs.Step.{Op, append, fill, store_value, store_element, havoc, push, push_for, truncate_to, test}
+use Rattle.lra_operations.specs.CheckedOperations.{OpAtPoint, computing_ops}
+use Rattle.lra_operations.specs.Tree.{Node}
 use Rattle.lra_flow.specs.Operations.{Operations, defined, dropping, straining}
 use Rattle.lra_flow.specs.Judging.{Answers}
 use Rattle.lra_flow.specs.Fits.{ExprJudged, ConversionJudged, GivenJudged, ArgumentsJudged, BothJudged, OneJudged, OpJudged, OpFits}
@@ -70,20 +70,20 @@ module _ {V H : Type 0} (m : Abstraction V H) where
     one_op : (op : Op) (v : V) (bs cs : List Bool) (e f : Exactness) → OpJudged m ops op v bs e → OpJudged m ops op v cs f → bs ≡ cs
     one_op (append t) v bs cs e f x y = x.0 ∙ sym y.0
     one_op (fill a) v bs cs e f x y = x.0 ∙ sym y.0
-    one_op (give base x a) v bs cs e f k l = one_given v base x a bs cs k.0 l.0
-    one_op (give_element base x a) v bs cs e f ((xs, us, one, two, is), exact) ((ys, ws, first, second, same), also) =
+    one_op (store_value base x a) v bs cs e f k l = one_given v base x a bs cs k.0 l.0
+    one_op (store_element base x a) v bs cs e f ((xs, us, one, two, is), exact) ((ys, ws, first, second, same), also) =
         is ∙ rw (one_expr v base x.index xs ys one first, one_given v base (waiting_in x.array) a us ws two second) refl ∙ sym same
-    one_op (give_any x) v bs cs e f k l = k.0 ∙ sym l.0
+    one_op (havoc x) v bs cs e f k l = k.0 ∙ sym l.0
     one_op (push base given) v bs cs e f k l = one_arguments v base given bs cs k.0 l.0
     one_op (push_for base x given) v bs cs e f ((xs, us, one, two, is), exact) ((ys, ws, first, second, same), also) =
         is ∙ rw (one_expr v base x.index xs ys one first, one_arguments v base given us ws two second) refl ∙ sym same
-    one_op (keep n) v bs cs e f x y = x.0 ∙ sym y.0
+    one_op (truncate_to n) v bs cs e f x y = x.0 ∙ sym y.0
     one_op (test base c wanted) v bs cs e f x y = one_cond ops single (BothJudged m) (OneJudged m) both_one one_one base c v bs cs e f x y
 
     one_fits : (op : Op) (v : V) (b c : Bool) (e f : Exactness) → OpFits m ops op v b e → OpFits m ops op v c f → b ≡ c
     one_fits op v b c e f (bs, judged, is) (cs, also, same) = is ∙ ap (list_all (λ x. x)) (one_op op v bs cs e f judged also) ∙ sym same
 
-    pub one_asked : (values : List V) (a : Asked) (b c : Bool) (e f : Exactness) → AskedJudged m ops values a b e → AskedJudged m ops values a c f → b ≡ c
+    pub one_asked : (values : List V) (a : OpAtPoint) (b c : Bool) (e f : Exactness) → AskedJudged m ops values a b e → AskedJudged m ops values a c f → b ≡ c
     one_asked values a b c e f x y = one_asked_told ops single (OpFits m ops) one_fits values a b c e f x y
 
 -- from drops to what is defined --------------------------------------------------------------------------------------------
@@ -94,12 +94,12 @@ module _ {V H : Type 0} (m : Abstraction V H) (b : Operations V H) (Keeps : Exac
   op_moved : (op : Op) (v : V) (bs : List Bool) (e : Exactness) → Keeps e → OpJudged m (dropping m) op v bs e → OpJudged m b op v bs e
   op_moved (append t) v bs e k h = h
   op_moved (fill a) v bs e k h = h
-  op_moved (give base x a) v bs e k h = h
-  op_moved (give_element base x a) v bs e k h = h
-  op_moved (give_any x) v bs e k h = h
+  op_moved (store_value base x a) v bs e k h = h
+  op_moved (store_element base x a) v bs e k h = h
+  op_moved (havoc x) v bs e k h = h
   op_moved (push base given) v bs e k h = h
   op_moved (push_for base x given) v bs e k h = h
-  op_moved (keep n) v bs e k h = h
+  op_moved (truncate_to n) v bs e k h = h
   op_moved (test base c wanted) v bs e k h = cond_moved m b Keeps Fine matters moves same_dims (BothJudged m) (BothJudged m) (OneJudged m) (OneJudged m)
       (λ base x y v bs e k h. h) (λ base x v bs e k h. h) base c v bs e k h
 
@@ -109,7 +109,8 @@ module _ {V H : Type 0} (m : Abstraction V H) (b : Operations V H) (Keeps : Exac
   judges_moved : (g : Node) (values : List V) (flagged : Option ℕ) (fitting : List (ℕ × Bool)) (behind : Option ℕ) → Fine behind → Judges m (dropping m) g
       values flagged fitting behind → Judges m b g values flagged fitting behind
   judges_moved g values flagged fitting behind fine j =
-      finds_moved m b Keeps Fine matters moves same_dims (OpFits m (dropping m)) (OpFits m b) fits_moved (asked_in None g) values flagged fitting behind fine j
+      finds_moved m b Keeps Fine matters moves same_dims (OpFits m (dropping m)) (OpFits m b) fits_moved (computing_ops None g) values flagged fitting behind
+      fine j
 
 -- without a flag what is judged is so by the written iteration's operations; a first flag is where one of them strains
 pub judged_written : {V H : Type 0} (m : Abstraction V H) → Laws m → (b : Bool) (g : Node) (values : List V) (flagged : Option ℕ) (fitting : List (ℕ × Bool))

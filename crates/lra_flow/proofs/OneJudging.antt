@@ -9,7 +9,7 @@ use Rattle.lra_domain.specs.declared.Exactness.{Exactness}
 use Rattle.lra_base.specs.declared.number_types.NumberType.{NumberType}
 use Rattle.lra_program.specs.Program.{Expr, Cond, compare, nonzero, opposite, both_of, either_of}
 use Rattle.lra_program.specs.Step.{Op, append}
-use Rattle.lra_operations.specs.Asked.{Asked}
+use Rattle.lra_operations.specs.CheckedOperations.{OpAtPoint}
 use Rattle.lra_flow.specs.Operations.{Operations, dropping}
 use Rattle.lra_flow.specs.MovesOf.{moves_of}
 use Rattle.lra_flow.specs.Pass.{noted, Leaves}
@@ -53,7 +53,8 @@ module _ {V H : Type 0} (ops : Operations V H) (single : Single ops) where
   one_declared (Some t) v e f w x a b = (one_made V H ops single (moves_of (ops.dims v) (append t)) v e f w x a b).1
 
   module _ {A : Type 0} (Told : OfOp V A) (one_told : (op : Op) (v : V) (x y : A) (e f : Exactness) → Told op v x e → Told op v y f → x ≡ y) where
-    pub one_asked_told : (values : List V) (a : Asked) (x y : A) (e f : Exactness) → AskedTold ops Told values a x e → AskedTold ops Told values a y f → x ≡ y
+    pub one_asked_told : (values : List V) (a : OpAtPoint) (x y : A) (e f : Exactness) → AskedTold ops Told values a x e → AskedTold ops Told values a y f →
+        x ≡ y
     one_asked_told values a x y e f (v, w, g, h, at, behind, told, flags) (u, z, i, j, there, after, also, too) =
         let first : v ≡ u = same_Some v u (sym at ∙ there) in
         let after_too : Declares ops a.fresh v i z = subst (λ (k : V). Declares ops a.fresh k i z) (sym first) after in
@@ -101,12 +102,13 @@ module _ {V H : Type 0} (m : Abstraction V H) (b : Operations V H) (Keeps : Exac
       (here.1, λ j h. elim (contains_cases x j js h) [ inl same ↦ subst (λ (y : Finding A). Keeps y.exactness) same here.0 | inr later ↦ rest.1 j later ])
 
   module _ {A : Type 0} (Told NewTold : OfOp V A) (told_moved : (op : Op) (v : V) (x : A) (e : Exactness) → Keeps e → Told op v x e → NewTold op v x e) where
-    asked_moved : (values : List V) (a : Asked) (x : A) (e : Exactness) → Keeps e → AskedTold (dropping m) Told values a x e → AskedTold b NewTold values a x e
+    asked_moved : (values : List V) (a : OpAtPoint) (x : A) (e : Exactness) → Keeps e → AskedTold (dropping m) Told values a x e →
+        AskedTold b NewTold values a x e
     asked_moved values a x e k (v, w, c, d, at, behind, told, flags) =
         let parts = matters.parts c d (subst Keeps flags k) in
         (v, w, c, d, at, declared_moved a.fresh v c w parts.0 behind, told_moved a.op w x d parts.1 told, flags)
 
-    pub finds_moved : (asked : List Asked) (values : List V) (flagged : Option ℕ) (answers : List (ℕ × A)) (behind : Option ℕ) → Fine behind →
+    pub finds_moved : (asked : List OpAtPoint) (values : List V) (flagged : Option ℕ) (answers : List (ℕ × A)) (behind : Option ℕ) → Fine behind →
         Finds (dropping m) Told asked values flagged answers behind → Finds b NewTold asked values flagged answers behind
     finds_moved asked values flagged answers behind fine j =
         let kept = all_kept j.found flagged (subst Fine j.flags fine) in

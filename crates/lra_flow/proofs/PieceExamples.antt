@@ -14,8 +14,8 @@ use Rattle.lra_linear_spec.specs.declared.ConKind.TheVariants.{Ge}
 use Rattle.lra_domain.specs.Moves.{Moves}
 use Rattle.lra_program.specs.Program.{local, Expr, literal, read, input, binary, compare, opposite, either_of}
 use Rattle.lra_base.specs.Operators.{plus, below, equal}
-use Rattle.lra_program.specs.Step.{append, give, push, keep}
-use Rattle.lra_operations.specs.Graph.{broken, returned}
+use Rattle.lra_program.specs.Step.{append, store_value, push, truncate_to}
+use Rattle.lra_operations.specs.Tree.{broken, returned}
 use Rattle.lra_domain.specs.Moves.{stay, make, first_then}
 use Rattle.lra_flow.specs.Plan.{standard, limited, by_thresholds, mode_at}
 use Rattle.lra_flow.specs.MovesOf.{moves_of, first_values}
@@ -65,21 +65,21 @@ push_int = refl
 int_fresh : moves_of 0 (append Int) ≡ of_int (make (embed 1)) (pos 1 ∷ []) (negsuc 0 ∷ [])
 int_fresh = refl
 
-int_given : moves_of 1 (give 0 (variable_at 0 Int) (literal Int 3)) ≡ of_int (make (assign 0 (form (pos 3) (pos 0 ∷ [])))) (pos 1 ∷ []) (negsuc 0 ∷ [])
+int_given : moves_of 1 (store_value 0 (variable_at 0 Int) (literal Int 3)) ≡ of_int (make (assign 0 (form (pos 3) (pos 0 ∷ [])))) (pos 1 ∷ []) (negsuc 0 ∷ [])
 int_given = refl
 
-long_given : moves_of 1 (give 0 (variable_at 0 Long) (literal Int 3)) ≡ make (assign 0 (form (pos 3) (pos 0 ∷ [])))
+long_given : moves_of 1 (store_value 0 (variable_at 0 Long) (literal Int 3)) ≡ make (assign 0 (form (pos 3) (pos 0 ∷ [])))
 long_given = refl
 
 -- of three variables the newest two go; where none goes nothing is done
-keep_one : moves_of 3 (keep 1) ≡ make (remove_last 2)
+keep_one : moves_of 3 (truncate_to 1) ≡ make (remove_last 2)
 keep_one = refl
 
-keep_all : moves_of 3 (keep 3) ≡ stay
+keep_all : moves_of 3 (truncate_to 3) ≡ stay
 keep_all = refl
 
 -- a value without a variable that gets it changes nothing
-no_target : moves_of 1 (give 0 nobody input) ≡ stay
+no_target : moves_of 1 (store_value 0 nobody input) ≡ stay
 no_target = refl
 
 -- two globals, -3 and 5

@@ -9,20 +9,20 @@ use Rattle.lra_domain.specs.Abstraction.{Abstraction}
 use Rattle.lra_domain.specs.Laws.{Laws}
 use Rattle.lra_domain.specs.declared.Exactness.{Exactness}
 use Rattle.lra_program.specs.Program.{Expr, Cond}
-use Rattle.lra_program.specs.Step.{State, scene_at, run_op, test}
+use Rattle.lra_program.specs.Step.{State, environment_at, run_op, test}
 use Rattle.lra_program.specs.Value.{value_of, compares}
 use Rattle.lra_base.specs.Operators.{equal}
 use Rattle.lra_base.specs.declared.case_labels.CaseLabel.{CaseLabel}
 use Rattle.lra_base.specs.declared.case_labels.CaseLabel.TheVariants.{Case, Default}
-use Rattle.lra_base.specs.CaseLabels.{are_alike, goal_of}
+use Rattle.lra_base.specs.CaseLabels.{is_same_case, goal_of}
 use Rattle.std.specs.Ordering.{int_eq}
 use Rattle.std.proofs.lemmas.Bool.Decides.{Decides-int_eq}
 use Rattle.std.proofs.lemmas.Int.{ints}
 use Rattle.std.specs.List.{list_any}
 use Rattle.std.specs.Prelude.{◌||◌, if◌then◌else◌}
-use Rattle.lra_operations.specs.declared.asides.Aside.TheVariants.{Entering, Noting}
-use Rattle.lra_operations.specs.Graph.{Exit, broken, continued, returned, normal, Node, empty, point, aside, act, check, seq, choose, iterate, catch, leave, Rounds, Ends}
-use Rattle.lra_operations.specs.Graph.{select, Arms, no_arms, entry, arm, entries_of, Selects}
+use Rattle.lra_operations.specs.declared.probes.Probe.TheVariants.{InterferencePoint, RecordWrite}
+use Rattle.lra_operations.specs.Tree.{Exit, broken, continued, returned, normal, Node, empty, point, probe, act, check, seq, choose, iterate, catch, leave, LoopRounds, Completes}
+use Rattle.lra_operations.specs.Tree.{select, Arms, no_arms, entry, arm, entries_of, Selects}
 use Rattle.lra_flow.specs.Plan.{Plan, Widening, mode_at}
 use Rattle.lra_flow.specs.Operations.{dropping}
 use Rattle.lra_flow.specs.Pass.{Entry, value, failing, Result, noted, jumps_of, first_of_call, values_behind, in_turn, behind, jumps, AreJoined, GoesRound, Grows, Narrows, Pass}
@@ -103,7 +103,7 @@ module _ (V H : Type 0) (m : Abstraction V H) (laws : Laws m) (keeps : ChangesKe
 
 -- once round a loop
 abbrev Round : ℕ → Cond → Node → State → State → Type 0
-Round base c a u v = (w : State) × (run_op (test base c true) u ≡ Some w) × Ends a w normal v
+Round base c a u v = (w : State) × (run_op (test base c true) u ≡ Some w) × Completes a w normal v
 
 module _ (V H : Type 0) (m : Abstraction V H) (laws : Laws m) (keeps : ChangesKeep m) (set : Plan) (q base : ℕ) (c : Cond) (a : Node)
     (inside : (f : Option ℕ) (v : V) (r : Result V) → Pass V H (dropping m) set a f v r → (s : State) → Has m v s.store → Covers m a s r) where
@@ -132,9 +132,9 @@ module _ (V H : Type 0) (m : Abstraction V H) (laws : Laws m) (keeps : ChangesKe
   -- narrowed, the value still has all that some rounds reach from the first one
   narrows_keeps : (more : ℕ) (first u : V) (x : Result V) (v : V) (r : Result V) → Narrows V H (dropping m) q base c (Pass V H (dropping m) set a) more first u x v r
       → (s : State) → Has m first s.store
-      → ((n : ℕ) (t : State) → Rounds (Round base c a) n s t → Has m u t.store)
+      → ((n : ℕ) (t : State) → LoopRounds (Round base c a) n s t → Has m u t.store)
       → ((g : Option ℕ) × GoesRound V H (dropping m) q base c (Pass V H (dropping m) set a) g u x)
-      → ((n : ℕ) (t : State) → Rounds (Round base c a) n s t → Has m v t.store) × ((g : Option ℕ) × GoesRound V H (dropping m) q base c (Pass V H (dropping m) set a) g v r)
+      → ((n : ℕ) (t : State) → LoopRounds (Round base c a) n s t → Has m v t.store) × ((g : Option ℕ) × GoesRound V H (dropping m) q base c (Pass V H (dropping m) set a) g v r)
   narrows_keeps zero first u x v r (same, is) s k all turned = (
     λ n t rounds. subst (λ (y : V). Has m y t.store) (sym same) (all n t rounds),
     (
@@ -146,12 +146,12 @@ module _ (V H : Type 0) (m : Abstraction V H) (laws : Laws m) (keeps : ChangesKe
   narrows_keeps (suc more) first u x v r (next, y, e, joined, turn, rest) s k all turned =
       narrows_keeps more first next y v r rest s k reached (noted q e x.flag, turn)
     where
-      reached : (n : ℕ) (t : State) → Rounds (Round base c a) n s t → Has m next t.store
+      reached : (n : ℕ) (t : State) → LoopRounds (Round base c a) n s t → Has m next t.store
       reached zero t is = covered_has m laws first next joined.0.formed joined.0.left t.store (subst (λ (z : State). Has m first z.store) (sym is) k)
       reached (suc n) t (w, before, one) = covered_has m laws x.normal next joined.0.formed joined.0.right t.store (round_keeps turned.0 u x turned.1 w t (all n w before) one)
 
   closed_rounds : (h : H) → ((s t : State) → HeadHas m h s.store → Round base c a s t → HeadHas m h t.store) → (s : State) → HeadHas m h s.store
-      → (n : ℕ) (t : State) → Rounds (Round base c a) n s t → HeadHas m h t.store
+      → (n : ℕ) (t : State) → LoopRounds (Round base c a) n s t → HeadHas m h t.store
   closed_rounds h closed s k zero t is = subst (λ (z : State). HeadHas m h z.store) (sym is) k
   closed_rounds h closed s k (suc n) t (w, before, one) = closed w t (closed_rounds h closed s k n w before) one
 
@@ -176,22 +176,22 @@ either false b e f = f
 
 module _ (V H : Type 0) (m : Abstraction V H) (laws : Laws m) (keeps : ChangesKeep m) (holds : ValuesKeep m) where
   -- what comes in at a label that is the value's, and what has no match
-  module _ (base : ℕ) (e : Expr) (s : State) (z : ℤ) (left : List ℤ) (got : value_of e (scene_at base s) s.draws ≡ Some (z, left)) where
+  module _ (base : ℕ) (e : Expr) (s : State) (z : ℤ) (left : List ℤ) (got : value_of e (environment_at base s) s.draws ≡ Some (z, left)) where
     no_match : (labels : List CaseLabel) (v : V) (x : Exactness) (w : V) → MatchesNone (dropping m) base e labels v x w
-        → list_any (are_alike (Case z)) labels ≡ false → Has m v s.store → Has m w s.store
+        → list_any (is_same_case (Case z)) labels ≡ false → Has m v s.store → Has m w s.store
     no_match [] v x w (same, exact) none h = subst (λ (y : V). Has m y s.store) (sym same) h
     no_match (Case y ∷ labels) v x w (u, c, d, one, rest, worst) none h =
-        let (here, later) = neither (int_eq z y) (list_any (are_alike (Case z)) labels) none in
+        let (here, later) = neither (int_eq z y) (list_any (is_same_case (Case z)) labels) none in
         no_match labels u d w rest later (holds base e y false v c u one s z left h got (unequal z y here))
     no_match (Default ∷ labels) v x w rest none h = no_match labels v x w rest none h
 
     pub enters_has : (labels : List CaseLabel) (k : CaseLabel) (v other : V) (c x : Exactness) (u : V) → MatchesNone (dropping m) base e labels v c other
         → Has m v s.store
-        → Enters (dropping m) base e k v other x u → are_alike (goal_of z labels) k ≡ true → Has m u s.store
-    enters_has labels k v other c x u none h enters alike = by (list_any (are_alike (Case z)) labels) k refl enters alike
+        → Enters (dropping m) base e k v other x u → is_same_case (goal_of z labels) k ≡ true → Has m u s.store
+    enters_has labels k v other c x u none h enters alike = by (list_any (is_same_case (Case z)) labels) k refl enters alike
       where
-        by : (b : Bool) (k : CaseLabel) → list_any (are_alike (Case z)) labels ≡ b → Enters (dropping m) base e k v other x u
-            → are_alike (if b then Case z else Default) k ≡ true → Has m u s.store
+        by : (b : Bool) (k : CaseLabel) → list_any (is_same_case (Case z)) labels ≡ b → Enters (dropping m) base e k v other x u
+            → is_same_case (if b then Case z else Default) k ≡ true → Has m u s.store
         by true (Case y) i made a = holds base e y true v x u made s z left h got (equals z y a)
         by true Default i made a = absurd (let no : false ≡ true = a in cc)
         by false (Case y) i made a = absurd (let no : false ≡ true = a in cc)
@@ -199,12 +199,12 @@ module _ (V H : Type 0) (m : Abstraction V H) (laws : Laws m) (keeps : ChangesKe
 
     -- where the label isn't met at the end, no label is `default`, and there is no match
     pub out_has : (labels : List CaseLabel) (v other : V) (c : Exactness) → MatchesNone (dropping m) base e labels v c other → Has m v s.store
-        → list_any (are_alike (goal_of z labels)) labels ≡ false
-        → (list_any (are_alike Default) labels ≡ false) × Has m other s.store
-    out_has labels v other c none h never = by (list_any (are_alike (Case z)) labels) refl never
+        → list_any (is_same_case (goal_of z labels)) labels ≡ false
+        → (list_any (is_same_case Default) labels ≡ false) × Has m other s.store
+    out_has labels v other c none h never = by (list_any (is_same_case (Case z)) labels) refl never
       where
-        by : (b : Bool) → list_any (are_alike (Case z)) labels ≡ b → list_any (are_alike (if b then Case z else Default)) labels ≡ false
-            → (list_any (are_alike Default) labels ≡ false) × Has m other s.store
+        by : (b : Bool) → list_any (is_same_case (Case z)) labels ≡ b → list_any (is_same_case (if b then Case z else Default)) labels ≡ false
+            → (list_any (is_same_case Default) labels ≡ false) × Has m other s.store
         by true i a = absurd (let no : true ≡ false = sym i ∙ a in cc)
         by false i a = (a, no_match labels v c other none i h)
 
@@ -235,11 +235,11 @@ module _ (V H : Type 0) (m : Abstraction V H) (laws : Laws m) (keeps : ChangesKe
   abbrev pub Waits : ℕ → Expr → Bool → V → V → CaseLabel → Bool → List CaseLabel → List ℤ → Type 0
   Waits base e d v other l true labels st = Unit {0}
   Waits base e d v other l false labels st =
-      ((k : CaseLabel) (x : Exactness) (u : V) → Enters (dropping m) base e k v other x u → are_alike l k ≡ true → Has m u st) ×
-      (list_any (are_alike l) labels ≡ false → (d ≡ false) × Has m other st)
+      ((k : CaseLabel) (x : Exactness) (u : V) → Enters (dropping m) base e k v other x u → is_same_case l k ≡ true → Has m u st) ×
+      (list_any (is_same_case l) labels ≡ false → (d ≡ false) × Has m other st)
 
   pub entered : (base : ℕ) (e : Expr) (d : Bool) (v other : V) (l k : CaseLabel) (labels : List CaseLabel) (st : List ℤ) (met alike : Bool) (o : Option V)
-      (x y : Exactness) (u w : V) → are_alike l k ≡ alike
+      (x y : Exactness) (u w : V) → is_same_case l k ≡ alike
       → Enters (dropping m) base e k v other x u → JoinsRunning (dropping m) o u y w → Runs met o st → Waits base e d v other l met (k ∷ labels) st
       → Runs (met || alike) (Some w) st
   entered base e d v other l k labels st true alike None x y u w i enters joins runs waits = absurd runs
@@ -247,11 +247,11 @@ module _ (V H : Type 0) (m : Abstraction V H) (laws : Laws m) (keeps : ChangesKe
   entered base e d v other l k labels st false true o x y u w i enters joins runs waits = joins_right o u y w joins st (waits.0 k x u enters i)
   entered base e d v other l k labels st false false o x y u w i enters joins runs waits = tt
 
-  pub waits_on : (base : ℕ) (e : Expr) (d : Bool) (v other : V) (l k : CaseLabel) (labels : List CaseLabel) (st : List ℤ) (met alike : Bool) → are_alike l k ≡ alike
+  pub waits_on : (base : ℕ) (e : Expr) (d : Bool) (v other : V) (l k : CaseLabel) (labels : List CaseLabel) (st : List ℤ) (met alike : Bool) → is_same_case l k ≡ alike
       → Waits base e d v other l met (k ∷ labels) st → Waits base e d v other l (met || alike) labels st
   waits_on base e d v other l k labels st true alike i waits = tt
   waits_on base e d v other l k labels st false true i waits = tt
-  waits_on base e d v other l k labels st false false i waits = (waits.0, λ none. waits.1 (either (are_alike l k) (list_any (are_alike l) labels) i none))
+  waits_on base e d v other l k labels st false false i waits = (waits.0, λ none. waits.1 (either (is_same_case l k) (list_any (is_same_case l) labels) i none))
 
   mutual
     pub covers : (set : Plan) (g : Node) (f : Option ℕ) (v : V) (r : Result V) → Pass V H (dropping m) set g f v r → (s : State) → Has m v s.store
@@ -273,13 +273,14 @@ module _ (V H : Type 0) (m : Abstraction V H) (laws : Laws m) (keeps : ChangesKe
       );
       fails = λ p e. absurd e;
     })
-    covers set (aside q Entering) f v r (w, x, (same, exact), is) s k = subst (λ (y : Result V). Covers m (aside q Entering) s y) (sym is) (record {
-      ends = λ t e. subst (λ (z : State). Has m w z.store) (sym e) (subst (λ (y : V). Has m y s.store) (sym same) k);
-      leaves = λ j t e. absurd e;
-      comes = λ p t e. absurd e;
-      fails = λ p e. absurd e;
-    })
-    covers set (aside q (Noting place)) f v r is s k = subst (λ (y : Result V). Covers m (aside q (Noting place)) s y) (sym is) (record {
+    covers set (probe q InterferencePoint) f v r (w, x, (same, exact), is) s k =
+        subst (λ (y : Result V). Covers m (probe q InterferencePoint) s y) (sym is) (record {
+          ends = λ t e. subst (λ (z : State). Has m w z.store) (sym e) (subst (λ (y : V). Has m y s.store) (sym same) k);
+          leaves = λ j t e. absurd e;
+          comes = λ p t e. absurd e;
+          fails = λ p e. absurd e;
+        })
+    covers set (probe q (RecordWrite place)) f v r is s k = subst (λ (y : Result V). Covers m (probe q (RecordWrite place)) s y) (sym is) (record {
       ends = λ t e. subst (λ (z : State). Has m v z.store) (sym e) k;
       leaves = λ j t e. absurd e;
       comes = λ p t e. absurd e;
@@ -305,7 +306,7 @@ module _ (V H : Type 0) (m : Abstraction V H) (laws : Laws m) (keeps : ChangesKe
     })
     covers set (seq a b) f v r (x, y, one, two, is) s k =
         let i = covers set a f v x one s k in
-        let j : (t : State) → Ends a s normal t → Covers m b t y = λ t e. covers set b x.flag x.normal y two t (i.ends t e) in
+        let j : (t : State) → Completes a s normal t → Covers m b t y = λ t e. covers set b x.flag x.normal y two t (i.ends t e) in
         subst (λ (z : Result V). Covers m (seq a b) s z) (sym is) (record {
           ends = λ t e. (j e.0 e.1).ends t e.2;
           leaves = λ h t e. elim e [
@@ -404,7 +405,7 @@ module _ (V H : Type 0) (m : Abstraction V H) (laws : Laws m) (keeps : ChangesKe
     })
     covers set (select q base e arms) f v r (other, x, none, pass) s k =
         let labels = entries_of arms in
-        let d = list_any (are_alike Default) labels in
+        let d = list_any (is_same_case Default) labels in
         let inside : (l : CaseLabel) (t : State) → Selects base e arms s l t → ArmsCover m l false arms t r =
         λ l t (z, got, same, is). arms_cover set q base e d v other arms (noted q x f) None r pass l false t tt
         (subst (λ (st : List ℤ). Waits base e d v other l false labels st) (sym (ap (λ (x : State). x.store) same))
@@ -437,9 +438,9 @@ module _ (V H : Type 0) (m : Abstraction V H) (laws : Laws m) (keeps : ChangesKe
         comes_behind false o d runs waits out = let (none, has) = waits.1 refl in comes_other o other x w
             (subst (λ (b : Bool). ComesOut (dropping m) b o other x w) none out) s.store has
     arms_cover set q base e d v other (entry k arms) f running r (u, w, x, y, enters, joins, rest) l met s runs waits =
-        let i = arms_cover set q base e d v other arms (noted q y (noted q x f)) (Some w) r rest l (met || are_alike l k) s
-        (entered base e d v other l k (entries_of arms) s.store met (are_alike l k) running x y u w refl enters joins runs waits)
-        (waits_on base e d v other l k (entries_of arms) s.store met (are_alike l k) refl waits) in
+        let i = arms_cover set q base e d v other arms (noted q y (noted q x f)) (Some w) r rest l (met || is_same_case l k) s
+        (entered base e d v other l k (entries_of arms) s.store met (is_same_case l k) running x y u w refl enters joins runs waits)
+        (waits_on base e d v other l k (entries_of arms) s.store met (is_same_case l k) refl waits) in
         record { ends = i.ends; leaves = i.leaves; comes = i.comes; fails = i.fails }
     arms_cover set q base e d v other (arm a arms) f running r (w, x, y, from, one, rest, is) l false s runs waits =
         let i = arms_cover set q base e d v other arms x.flag (Some x.normal) y rest l false s tt waits in
@@ -452,7 +453,8 @@ module _ (V H : Type 0) (m : Abstraction V H) (laws : Laws m) (keeps : ChangesKe
     arms_cover set q base e d v other (arm a arms) f None r pass l true s runs waits = absurd runs
     arms_cover set q base e d v other (arm a arms) f (Some u) r (w, x, y, from, one, rest, is) l true s runs waits =
         let i = covers set a f w x one s (subst (λ (z : V). Has m z s.store) (sym from) runs) in
-        let j : (t : State) → Ends a s normal t → ArmsCover m l true arms t y = λ t b. arms_cover set q base e d v other arms x.flag (Some x.normal) y rest l
+        let j : (t : State) → Completes a s normal t → ArmsCover m l true arms t y =
+        λ t b. arms_cover set q base e d v other arms x.flag (Some x.normal) y rest l
         true t (i.ends t b) tt in
         subst (λ (z : Result V). ArmsCover m l true (arm a arms) s z) (sym is) (record {
           ends = λ t b. (j b.0 b.1).ends t b.2;

@@ -6,8 +6,8 @@ use Rattle.lra_base.specs.declared.number_types.NumberType.TheVariants.{Int, Lon
 use Rattle.lra_program.proofs.RunExamples.{long_variable}
 use Rattle.lra_program.specs.Receivers.{variable_at}
 use Rattle.lra_program.specs.Program.{local, Expr, literal, read, input, binary, Cond, compare, nonzero, opposite, either_of}
-use Rattle.lra_program.specs.Step.{give, keep, push, test}
-use Rattle.lra_operations.specs.Graph.{Node, continued, returned, empty, point, act, check, seq, choose, iterate, catch}
+use Rattle.lra_program.specs.Step.{store_value, truncate_to, push, test}
+use Rattle.lra_operations.specs.Tree.{Node, continued, returned, empty, point, act, check, seq, choose, iterate, catch}
 use Rattle.lra_flow.specs.Given.{given_rows}
 use Rattle.lra_flow.specs.Plan.{standard, limited, by_thresholds, plan_of}
 use Rattle.lra_flow.specs.Thresholds.{all_rows, condition_rows, constant_rows, loop_rows, rows_in, rows_once}
@@ -64,11 +64,11 @@ less n = compare below x_var (literal Int n)
 -- for (..; x < 1; (a call with assume x < 2)) { if (x < 3) assert(x < 4); else while (x < 5) ; x = x + 7; }: the loop's own, then its step, then its
 -- body; catches a step behind its body, as the tree has it, and a condition that is left out in a branch, a loop or a call
 abbrev step_tree : Node
-step_tree = seq (act 2 (push 1 [])) (catch 2 returned (seq (act 3 (test 0 (less 2) true)) (act 2 (keep 1))))
+step_tree = seq (act 2 (push 1 [])) (catch 2 returned (seq (act 3 (test 0 (less 2) true)) (act 2 (truncate_to 1))))
 
 abbrev body_tree : Node
 body_tree = seq (choose 4 0 (less 3) (check 5 0 (less 4)) (catch 6 continued (iterate 6 0 (less 5) (seq (point 7) empty))))
-    (act 8 (give 0 (variable_at 0 Long) (binary plus x_var (literal Int 7))))
+    (act 8 (store_value 0 (variable_at 0 Long) (binary plus x_var (literal Int 7))))
 
 in_text_order : rows_in 1 (iterate 1 0 (less 1) (seq (catch 1 continued body_tree) step_tree))
     ≡ condition_rows 1 0 (less 1) ++ (condition_rows 1 0 (less 2) ++ (condition_rows 1 0 (less 3) ++ (condition_rows 1 0 (less 4) ++ condition_rows 1 0 (less 5))))

@@ -8,9 +8,9 @@ use Rattle.lra_domain.specs.declared.Exactness.{Exactness}
 use Rattle.lra_base.specs.declared.case_labels.CaseLabel.{CaseLabel}
 use Rattle.lra_base.specs.declared.case_labels.CaseLabel.TheVariants.{Case, Default}
 use Rattle.lra_program.specs.Program.{Expr, Cond}
-use Rattle.lra_operations.specs.declared.asides.Aside.TheVariants.{Entering, Noting}
-use Rattle.lra_operations.specs.Graph.{Exit, broken, continued, returned, Node, empty, point, aside, act, check, seq, choose, iterate, catch, leave, select, Arms}
-use Rattle.lra_operations.specs.Graph.{no_arms, entry, arm, entries_of}
+use Rattle.lra_operations.specs.declared.probes.Probe.TheVariants.{InterferencePoint, RecordWrite}
+use Rattle.lra_operations.specs.Tree.{Exit, broken, continued, returned, Node, empty, point, probe, act, check, seq, choose, iterate, catch, leave, select, Arms}
+use Rattle.lra_operations.specs.Tree.{no_arms, entry, arm, entries_of}
 use Rattle.lra_flow.specs.Plan.{Plan, Widening, mode_at}
 use Rattle.lra_domain.specs.Abstraction.{worse}
 use Rattle.lra_flow.specs.Operations.{Operations}
@@ -141,10 +141,10 @@ module _ (V H : Type 0) (a b : Operations V H) (Keeps : Exactness → Type 0) (F
           → Fine f × PassAmong V H (aligned a b) second set g f v r
       passes_among set empty f v r k is = (subst (λ (x : Result V). Fine x.flag) is k, is)
       passes_among set (point q) f v r k is = (subst (λ (x : Result V). Fine x.flag) is k, is)
-      passes_among set (aside q Entering) f v r k (w, e, h, is) =
+      passes_among set (probe q InterferencePoint) f v r k (w, e, h, is) =
           let p = matters.before q e f (subst (λ (x : Result V). Fine x.flag) is k) in
           (p.1, (w, e, takes v e w p.0 h, is))
-      passes_among set (aside q (Noting place)) f v r k is = (subst (λ (x : Result V). Fine x.flag) is k, is)
+      passes_among set (probe q (RecordWrite place)) f v r k is = (subst (λ (x : Result V). Fine x.flag) is k, is)
       passes_among set (act q op) f v r k (w, e, h, is) =
           let p = matters.before q e f (subst (λ (x : Result V). Fine x.flag) is k) in
           (p.1, (w, e, made (moves_of (a.dims v) op) v e w p.0 h, is))

@@ -6,7 +6,7 @@ use Rattle.lra_domain.specs.Laws.{Laws}
 use Rattle.lra_domain.specs.declared.Exactness.{Exactness}
 use Rattle.lra_domain.specs.declared.Exactness.TheVariants.{Exact, Flagged}
 use Rattle.lra_program.specs.Program.{Program}
-use Rattle.lra_operations.specs.Graph.{Node}
+use Rattle.lra_operations.specs.Tree.{Node}
 use Rattle.lra_flow.specs.Plan.{Plan}
 use Rattle.lra_domain.specs.Abstraction.{worse}
 use Rattle.lra_flow.specs.Operations.{Operations, defined, dropping, straining}

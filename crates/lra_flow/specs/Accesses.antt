@@ -13,10 +13,11 @@ use Rattle.lra_base.specs.declared.refusals.Place.{Place}
 use Rattle.lra_base.specs.Operators.{below}
 use Rattle.lra_program.specs.Program.{Expr, Cond, Element}
 use Rattle.lra_program.specs.Value.{◌>>=◌}
-use Rattle.lra_program.specs.Step.{State, Op, append, fill, give, give_element, give_any, push, push_for, keep, test}
-use Rattle.lra_program.specs.Accesses.{expr_accesses, arguments_accesses, aim_accesses, OpStrays}
-use Rattle.lra_operations.specs.Graph.{Node}
-use Rattle.lra_operations.specs.Asked.{Asked, accessed_in, AskedMeets}
+use Rattle.lra_program.specs.Step.{State, Op, append, fill, store_value, store_element, havoc, push, push_for}
+use Rattle.lra_program.specs.Step.{truncate_to, test}
+use Rattle.lra_program.specs.Accesses.{expr_accesses, arguments_accesses, aim_accesses, OpOutOfBounds}
+use Rattle.lra_operations.specs.Tree.{Node}
+use Rattle.lra_operations.specs.CheckedOperations.{OpAtPoint, accessing_ops, HoldsAtPoint}
 use Rattle.lra_flow.specs.Linear.{form_of, at_least_zero, less_by, comparison_test}
 use Rattle.lra_flow.specs.MovesOf.{tested}
 use Rattle.lra_flow.specs.Operations.{Operations, dropping}
@@ -64,26 +65,27 @@ module _ {V H : Type 0} (m : Abstraction V H) (ops : Operations V H) where
   abbrev pub OpInside : Op → V → List (Place × Bool) → Exactness → Type 0
   OpInside (append t) v js e = EachJudged v 0 [] js e
   OpInside (fill a) v js e = EachJudged v 0 [] js e
-  OpInside (give base x a) v js e = EachJudged v base (expr_accesses a) js e
-  OpInside (give_element base x a) v js e = EachJudged v base (aim_accesses x ++ expr_accesses a) js e
-  OpInside (give_any x) v js e = EachJudged v 0 [] js e
+  OpInside (store_value base x a) v js e = EachJudged v base (expr_accesses a) js e
+  OpInside (store_element base x a) v js e = EachJudged v base (aim_accesses x ++ expr_accesses a) js e
+  OpInside (havoc x) v js e = EachJudged v 0 [] js e
   OpInside (push base given) v js e = EachJudged v base (arguments_accesses given) js e
   OpInside (push_for base x given) v js e = EachJudged v base (aim_accesses x ++ arguments_accesses given) js e
-  OpInside (keep n) v js e = EachJudged v 0 [] js e
+  OpInside (truncate_to n) v js e = EachJudged v 0 [] js e
   OpInside (test base c wanted) v js e = CondInside base c v js e
 
   -- by the values at the points: what is told of each, in their order
-  abbrev pub AskedInside : List V → Asked → List (Place × Bool) → Exactness → Type 0
+  abbrev pub AskedInside : List V → OpAtPoint → List (Place × Bool) → Exactness → Type 0
   AskedInside values a js e = AskedTold ops OpInside values a js e
 
   -- all of a tree: what is found at the points where it accesses arrays; flags come behind all that is flagged before
   abbrev pub JudgesAccesses : Node → List V → Option ℕ → List (ℕ × List (Place × Bool)) → Option ℕ → Type 0
   JudgesAccesses g values flagged inside behind =
-      Finds ops OpInside (accessed_in None g) values flagged inside behind
+      Finds ops OpInside (accessing_ops None g) values flagged inside behind
 
 -- An access that is judged to be inside by a value with a run's store isn't one by which that run strays.
 abbrev pub InsideNeverStray : {V H : Type 0} → Abstraction V H → Type 0
-InsideNeverStray {V} m = (values : List V) (a : Asked) (js : List (Place × Bool)) (e : Exactness) (v : V) (s : State)
+InsideNeverStray {V} m =
+    (values : List V) (a : OpAtPoint) (js : List (Place × Bool)) (e : Exactness) (v : V) (s : State)
     (n : ℕ) (place : Place) → slice_get values a.point ≡ Some v → m.well_formed v → m.gamma v s.store
     → AskedInside m (dropping m) values a js e → slice_get js n ≡ Some (place, true)
-    → AskedMeets (λ op t. OpStrays op t n) a s → ⊥
+    → HoldsAtPoint (λ op t. OpOutOfBounds op t n) a s → ⊥

@@ -16,9 +16,10 @@ use Rattle.lra_program.specs.declared.receivers.Receiver.{Receiver}
 use Rattle.lra_program.specs.Receivers.{waiting_in, parameter_of, converts_to}
 use Rattle.lra_program.specs.Program.{Expr, literal, read, input, negate, binary, element, type_of, Cond}
 use Rattle.lra_program.specs.Value.{Argument}
-use Rattle.lra_program.specs.Step.{State, Op, append, fill, give, give_element, give_any, push, push_for, keep, test}
-use Rattle.lra_operations.specs.Graph.{Node}
-use Rattle.lra_operations.specs.Asked.{Asked, asked_in, AskedOverflows}
+use Rattle.lra_program.specs.Step.{State, Op, append, fill, store_value, store_element, havoc, push, push_for}
+use Rattle.lra_program.specs.Step.{truncate_to, test}
+use Rattle.lra_operations.specs.Tree.{Node}
+use Rattle.lra_operations.specs.CheckedOperations.{OpAtPoint, computing_ops, OverflowsAtPoint}
 use Rattle.lra_flow.specs.Linear.{is_constant, form_of}
 use Rattle.lra_flow.specs.Operations.{Operations, dropping}
 use Rattle.lra_flow.specs.Judging.{Answers, CondTold, AskedTold, Finds}
@@ -95,13 +96,13 @@ module _ {V H : Type 0} (m : Abstraction V H) where
     abbrev pub OpJudged : Op → V → List Bool → Exactness → Type 0
     OpJudged (append t) v bs e = (bs ≡ []) × (e ≡ Exact)
     OpJudged (fill a) v bs e = (bs ≡ []) × (e ≡ Exact)
-    OpJudged (give base x a) v bs e = GivenJudged v base x a bs × (e ≡ Exact)
-    OpJudged (give_element base x a) v bs e =
+    OpJudged (store_value base x a) v bs e = GivenJudged v base x a bs × (e ≡ Exact)
+    OpJudged (store_element base x a) v bs e =
         IndexJudged v base x.index (GivenJudged v base (waiting_in x.array) a) bs × (e ≡ Exact)
-    OpJudged (give_any x) v bs e = (bs ≡ []) × (e ≡ Exact)
+    OpJudged (havoc x) v bs e = (bs ≡ []) × (e ≡ Exact)
     OpJudged (push base given) v bs e = ArgumentsJudged v base given bs × (e ≡ Exact)
     OpJudged (push_for base x given) v bs e = IndexJudged v base x.index (ArgumentsJudged v base given) bs × (e ≡ Exact)
-    OpJudged (keep n) v bs e = (bs ≡ []) × (e ≡ Exact)
+    OpJudged (truncate_to n) v bs e = (bs ≡ []) × (e ≡ Exact)
     OpJudged (test base c wanted) v bs e = CondJudged base c v bs e
 
     -- whether all fits that an operation computes
@@ -109,12 +110,12 @@ module _ {V H : Type 0} (m : Abstraction V H) where
     OpFits op v b e = (bs : List Bool) × OpJudged op v bs e × (b ≡ list_all (λ x. x) bs)
 
     -- by the values at the points
-    abbrev pub AskedJudged : List V → Asked → Bool → Exactness → Type 0
+    abbrev pub AskedJudged : List V → OpAtPoint → Bool → Exactness → Type 0
     AskedJudged values a b e = AskedTold ops OpFits values a b e
 
     -- all of a tree: what is found at the points where it computes; flags come behind all of the iteration's
     abbrev pub Judges : Node → List V → Option ℕ → List (ℕ × Bool) → Option ℕ → Type 0
-    Judges g values flagged fitting behind = Finds ops OpFits (asked_in None g) values flagged fitting behind
+    Judges g values flagged fitting behind = Finds ops OpFits (computing_ops None g) values flagged fitting behind
 
     -- where it is asked for; else nothing is told, and nothing done
     abbrev pub JudgesIf : Bool → Node → List V → Option ℕ → List (ℕ × Bool) → Option ℕ → Type 0
@@ -123,7 +124,7 @@ module _ {V H : Type 0} (m : Abstraction V H) where
 
 -- What is judged to fit by a value with a run's store doesn't stop that run by a number.
 abbrev pub FittingNeverOverflow : {V H : Type 0} → Abstraction V H → Type 0
-FittingNeverOverflow {V} m = (values : List V) (a : Asked) (e : Exactness) (v : V) (s : State)
+FittingNeverOverflow {V} m = (values : List V) (a : OpAtPoint) (e : Exactness) (v : V) (s : State)
     → slice_get values a.point ≡ Some v → m.well_formed v → m.gamma v s.store →
     AskedJudged m (dropping m) values a true e
-    → AskedOverflows a s → ⊥
+    → OverflowsAtPoint a s → ⊥

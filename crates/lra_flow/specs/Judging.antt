@@ -9,7 +9,7 @@ use Rattle.lra_domain.specs.declared.Exactness.TheVariants.{Exact}
 use Rattle.lra_base.specs.declared.number_types.NumberType.{NumberType}
 use Rattle.lra_program.specs.Program.{Expr, Cond, compare, nonzero, opposite, both_of, either_of}
 use Rattle.lra_program.specs.Step.{Op, append}
-use Rattle.lra_operations.specs.Asked.{Asked}
+use Rattle.lra_operations.specs.CheckedOperations.{OpAtPoint}
 use Rattle.lra_flow.specs.Operations.{Operations}
 use Rattle.lra_flow.specs.Pass.{noted, Leaves, Changes}
 use Rattle.lra_flow.specs.Analysis.{IsUnreachable}
@@ -56,22 +56,22 @@ module _ {V H : Type 0} (ops : Operations V H) where
   -- operations that are asked, by what is told of an operation and the value that it has
   module _ {A : Type 0} (Told : Op → V → A → Exactness → Type 0) where
     -- one of them, by the values at the points
-    abbrev pub AskedTold : List V → Asked → A → Exactness → Type 0
+    abbrev pub AskedTold : List V → OpAtPoint → A → Exactness → Type 0
     AskedTold values a x e = (v w : V) × (c d : Exactness) × (slice_get values a.point ≡ Some v) ×
         Declares a.fresh v c w × Told a.op w x d × (e ≡ worse c d)
 
     -- the finding is on one of these
-    abbrev pub IsFoundOn : List Asked → List V → Finding A → Type 0
-    IsFoundOn asked values j = (a : Asked) × Contains asked a × (a.point ≡ j.point) ×
+    abbrev pub IsFoundOn : List OpAtPoint → List V → Finding A → Type 0
+    IsFoundOn asked values j = (a : OpAtPoint) × Contains asked a × (a.point ≡ j.point) ×
         AskedTold values a j.answer j.exactness
 
     -- all of them: what is found at the points where it is asked, in the order of their numbers; flags come behind all
     -- that is flagged before
-    pub record Finds (asked : List Asked) (values : List V) (flagged : Option ℕ) (answers : List (ℕ × A))
+    pub record Finds (asked : List OpAtPoint) (values : List V) (flagged : Option ℕ) (answers : List (ℕ × A))
         (behind : Option ℕ) : Type 0 where
       pub found : List (Finding A)
       pub is_asked : (j : Finding A) → Contains found j → IsFoundOn asked values j
-      pub has_asked : (a : Asked) → Contains asked a → (j : Finding A) × Contains found j × (j.point ≡ a.point)
+      pub has_asked : (a : OpAtPoint) → Contains asked a → (j : Finding A) × Contains found j × (j.point ≡ a.point)
       pub in_order : (i k : ℕ) (j l : Finding A) → i < k → slice_get found i ≡ Some j → slice_get found k ≡ Some l →
           j.point < l.point
       pub told : answers ≡ map answer_of found

@@ -9,7 +9,7 @@ use Rattle.lra_linear_forms.specs.declared.test.Test.{Test}
 use Rattle.lra_base.specs.Operators.{Operator, plus, minus, times, over, modulo, Comparison, below, at_most, above}
 use Rattle.lra_base.specs.Operators.{at_least, equal, differs}
 use Rattle.lra_program.specs.Program.{Expr, literal, read, input, negate, binary, element, compare}
-use Rattle.lra_program.specs.Value.{◌>>=◌, is_word, is_zero, index_of, Scene, value_of, truth_of}
+use Rattle.lra_program.specs.Value.{◌>>=◌, is_word, is_zero, index_of, Environment, value_of, truth_of}
 
 -- the form, where the constant and all coefficients have 64 bits
 abbrev pub fitting : Form → Option Form
@@ -81,12 +81,12 @@ OperatorFormsAreExact = (op : Operator) (f g h : Form) (s : List ℤ) → length
     form_value h s ≡ exactly op (form_value f s) (form_value g s)
 
 -- of what is read in a scene
-abbrev pub form_in : Scene → Expr → Option Form
+abbrev pub form_in : Environment → Expr → Option Form
 form_in s e = form_of (length s.store) s.base e
 
 -- where the expression has a value, its form has the same
 abbrev pub FormsAreRight : Type 0
-FormsAreRight = (s : Scene) (e : Expr) (f : Form) (draws left : List ℤ) (z : ℤ)
+FormsAreRight = (s : Environment) (e : Expr) (f : Form) (draws left : List ℤ) (z : ℤ)
     → form_in s e ≡ Some f → value_of e s draws ≡ Some (z, left) → form_value f s.store ≡ z
 
 -- tests ------------------------------------------------------------------------------------------------------------
@@ -123,18 +123,18 @@ comparison_test differs d = None
 abbrev pub difference_form : ℕ → ℕ → Expr → Expr → Option Form
 difference_form live base a b = form_of live base (binary minus a b)
 
-abbrev pub difference_in : Scene → Expr → Expr → Option Form
+abbrev pub difference_in : Environment → Expr → Expr → Option Form
 difference_in s a b = difference_form (length s.store) s.base a b
 
 -- where both sides have a value, the comparison is true exactly where its test passes
 abbrev pub TestsAreRight : Type 0
-TestsAreRight = (s : Scene) (op : Comparison) (a b : Expr) (d : Form) (t : Test) (draws left : List ℤ) (v : Bool)
+TestsAreRight = (s : Environment) (op : Comparison) (a b : Expr) (d : Form) (t : Test) (draws left : List ℤ) (v : Bool)
     → difference_in s a b ≡ Some d → comparison_test op d ≡ Some t
     → truth_of (compare op a b) s draws ≡ Some (v, left) → (IsTrue v ↔ TestHolds t s.store)
 
 -- and `!=` is true exactly where the test of `<` or that of `>` passes
 abbrev pub DiffersIsRight : Type 0
-DiffersIsRight = (s : Scene) (a b : Expr) (d : Form) (less more : Test) (draws left : List ℤ) (v : Bool)
+DiffersIsRight = (s : Environment) (a b : Expr) (d : Form) (less more : Test) (draws left : List ℤ) (v : Bool)
     → difference_in s a b ≡ Some d → comparison_test below d ≡ Some less → comparison_test above d ≡ Some more
     → truth_of (compare differs a b) s draws ≡ Some (v, left) →
     (IsTrue v ↔ (TestHolds less s.store ⊎ TestHolds more s.store))

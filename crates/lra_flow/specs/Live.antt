@@ -1,24 +1,25 @@
 -- How many variables live behind a least change, and behind a tree of operations.
 use Rattle.std.specs.Prelude.{ℕ, suc, ◌+◌, ◌-◌, length}
-use Rattle.lra_program.specs.Step.{Op, append, fill, give, give_element, give_any, push, push_for, keep, test}
-use Rattle.lra_operations.specs.Graph.{Node, empty, aside, point, act, check, seq, choose, iterate, catch, leave, select}
+use Rattle.lra_program.specs.Step.{Op, append, fill, store_value, store_element, havoc, push, push_for, truncate_to}
+use Rattle.lra_program.specs.Step.{test}
+use Rattle.lra_operations.specs.Tree.{Node, empty, probe, point, act, check, seq, choose, iterate, catch, leave, select}
 
 -- how many variables live behind the change of a store with so many
 abbrev pub dims_behind : Op → ℕ → ℕ
 dims_behind (append t) n = suc n
 dims_behind (fill a) n = n
-dims_behind (give base x e) n = n
-dims_behind (give_element base x e) n = n
-dims_behind (give_any x) n = n
+dims_behind (store_value base x e) n = n
+dims_behind (store_element base x e) n = n
+dims_behind (havoc x) n = n
 dims_behind (push base given) n = n + length given
 dims_behind (push_for base x given) n = n + length given
-dims_behind (keep k) n = n - (n - k)
+dims_behind (truncate_to k) n = n - (n - k)
 dims_behind (test base c wanted) n = n
 
 -- so many live behind a tree at whose beginning n live
 abbrev pub live_after : Node → ℕ → ℕ
 live_after empty n = n
-live_after (aside here what) n = n
+live_after (probe here what) n = n
 live_after (point q) n = n
 live_after (act q op) n = dims_behind op n
 live_after (check q base c) n = n

@@ -19,7 +19,7 @@ use Rattle.lra_program.specs.declared.receivers.Cell.{Cell}
 use Rattle.lra_program.specs.declared.receivers.Cell.TheVariants.{Variable, Waiting}
 use Rattle.lra_program.specs.declared.receivers.Target.{Target}
 use Rattle.lra_program.specs.Value.{Argument}
-use Rattle.lra_program.specs.Step.{Op, append, fill, give, give_element, give_any, push, push_for, keep}
+use Rattle.lra_program.specs.Step.{Op, append, fill, store_value, store_element, havoc, push, push_for, truncate_to}
 use Rattle.lra_program.specs.Step as step
 use Rattle.lra_linear_forms.specs.Form.{Form}
 use Rattle.lra_linear_forms.specs.declared.test.Test.{Test}
@@ -181,12 +181,12 @@ drop_last (suc k) = make (remove_last (suc k))
 abbrev pub moves_of : ℕ → Op → Moves
 moves_of live (append t) = within_type t (suc live) live (make (embed 1))
 moves_of live (fill a) = stay
-moves_of live (give base x e) = set_target live x.target (seen_of live base e)
-moves_of live (give_element base x e) = stay
-moves_of live (give_any x) = set_target live x.target Unseen
+moves_of live (store_value base x e) = set_target live x.target (seen_of live base e)
+moves_of live (store_element base x e) = stay
+moves_of live (havoc x) = set_target live x.target Unseen
 moves_of live (push base given) = push_all live base given
 moves_of live (push_for base x given) = push_all live base given
-moves_of live (keep n) = drop_last (live - n)
+moves_of live (truncate_to n) = drop_last (live - n)
 moves_of live (step.test base c wanted) = guard live base wanted c
 
 -- the globals at their first values

@@ -5,15 +5,15 @@ use Rattle.std.specs.Prelude.{◌≡◌, ℕ, zero, suc, ◌-◌, ℤ, List, [],
 use Rattle.std.specs.List.{list_any}
 use Rattle.lra_base.specs.declared.case_labels.CaseLabel.{CaseLabel}
 use Rattle.lra_base.specs.declared.case_labels.CaseLabel.TheVariants.{Case, Default}
-use Rattle.lra_base.specs.CaseLabels.{are_alike}
+use Rattle.lra_base.specs.CaseLabels.{is_same_case}
 use Rattle.lra_domain.specs.declared.Exactness.{Exactness}
 use Rattle.lra_domain.specs.declared.Exactness.TheVariants.{Exact, Flagged}
 use Rattle.lra_program.specs.Program.{Expr, Cond}
 use Rattle.lra_program.specs.Step.{Op}
-use Rattle.lra_operations.specs.declared.asides.Aside.TheVariants.{Entering, Noting}
-use Rattle.lra_operations.specs.Graph.{Exit, broken, continued, returned, Node, empty, point, aside, act, check, seq}
-use Rattle.lra_operations.specs.Graph.{choose}
-use Rattle.lra_operations.specs.Graph.{iterate, catch, leave, select, Arms, no_arms, entry, arm, entries_of}
+use Rattle.lra_operations.specs.declared.probes.Probe.TheVariants.{InterferencePoint, RecordWrite}
+use Rattle.lra_operations.specs.Tree.{Exit, broken, continued, returned, Node, empty, point, probe, act, check, seq}
+use Rattle.lra_operations.specs.Tree.{choose}
+use Rattle.lra_operations.specs.Tree.{iterate, catch, leave, select, Arms, no_arms, entry, arm, entries_of}
 use Rattle.lra_flow.specs.Plan.{Plan, Widening, mode_at}
 use Rattle.lra_flow.specs.Operations.{Operations}
 use Rattle.lra_domain.specs.Abstraction.{worse}
@@ -204,9 +204,9 @@ module _ (V H : Type 0) (ops : Operations V H) (admission : Admission V) where
     pub PassAmong : Plan → Node → Through V
     PassAmong set empty f v r = r ≡ goes_on [] v f
     PassAmong set (point q) f v r = r ≡ goes_on (value q v ∷ []) v f
-    PassAmong set (aside q Entering) f v r = (w : V) × (e : Exactness) × admission v e w ×
+    PassAmong set (probe q InterferencePoint) f v r = (w : V) × (e : Exactness) × admission v e w ×
         (r ≡ goes_on [] w (noted q e f))
-    PassAmong set (aside q (Noting place)) f v r = r ≡ goes_on (given q place v ∷ []) v f
+    PassAmong set (probe q (RecordWrite place)) f v r = r ≡ goes_on (given q place v ∷ []) v f
     PassAmong set (act q op) f v r = (w : V) × (e : Exactness) × Changes ops op v e w ×
         (r ≡ goes_on [] w (noted q e f))
     -- where the condition is false, and then where it is true
@@ -236,7 +236,7 @@ module _ (V H : Type 0) (ops : Operations V H) (admission : Admission V) where
     -- first the value of no match, then the arms; all that isn't an arm's own belongs to the point q
     PassAmong set (select q base e arms) f v r =
         (other : V) × (x : Exactness) × MatchesNone ops base e (entries_of arms) v x other ×
-        ArmsPassAmong set q base e (list_any (are_alike Default) (entries_of arms)) v other arms (noted q x f) None r
+        ArmsPassAmong set q base e (list_any (is_same_case Default) (entries_of arms)) v other arms (noted q x f) None r
 
     -- of a `select` from v, with what runs before these arms
     pub ArmsPassAmong : Plan → ℕ → ℕ → Expr → Bool → V → V → Arms → Option ℕ → Option V →

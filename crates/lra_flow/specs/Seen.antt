@@ -7,7 +7,7 @@ use Rattle.std.specs.Prelude.{List, [], ◌∷◌, ◌++◌, length, Option, Som
 use Rattle.lra_linear_forms.specs.Form.{Form, form_value, opposite_form}
 use Rattle.lra_base.specs.Operators.{Operator, plus, minus, times, over, modulo}
 use Rattle.lra_program.specs.Program.{Expr, literal, read, input, negate, binary, element}
-use Rattle.lra_program.specs.Value.{◌>>=◌, Scene, value_of}
+use Rattle.lra_program.specs.Value.{◌>>=◌, Environment, value_of}
 use Rattle.lra_flow.specs.declared.seen.Division.{Division}
 use Rattle.lra_flow.specs.declared.seen.Seen.{Seen}
 use Rattle.lra_flow.specs.declared.seen.Seen.TheVariants.{Linear, Divided, Unseen}
@@ -123,5 +123,5 @@ HasValue Unseen s z = ⊤
 
 -- wherever the expression has a value
 abbrev pub SeenIsRight : Type 0
-SeenIsRight = (s : Scene) (e : Expr) (draws left : List ℤ) (z : ℤ) → value_of e s draws ≡ Some (z, left) →
+SeenIsRight = (s : Environment) (e : Expr) (draws left : List ℤ) (z : ℤ) → value_of e s draws ≡ Some (z, left) →
     HasValue (seen_of (length s.store) s.base e) s.store z

@@ -10,9 +10,10 @@ use Rattle.lra_systems.specs.LinearSystems.{LinearSystem}
 use Rattle.lra_linear_spec.specs.declared.ConKind.{ConKind}
 use Rattle.lra_base.specs.declared.number_types.NumberType.TheVariants.{Int}
 use Rattle.lra_program.specs.Program.{literal, Cond, compare, nonzero, opposite, both_of, either_of}
-use Rattle.lra_program.specs.Step.{Op, append, fill, give, give_element, give_any, push, push_for, keep, test}
-use Rattle.lra_operations.specs.Graph.{Node, empty, aside, point, act, check, seq, choose, iterate, catch, leave, select}
-use Rattle.lra_operations.specs.Graph.{Arms, no_arms, entry, arm}
+use Rattle.lra_program.specs.Step.{Op, append, fill, store_value, store_element, havoc, push, push_for, truncate_to}
+use Rattle.lra_program.specs.Step.{test}
+use Rattle.lra_operations.specs.Tree.{Node, empty, probe, point, act, check, seq, choose, iterate, catch, leave, select}
+use Rattle.lra_operations.specs.Tree.{Arms, no_arms, entry, arm}
 use Rattle.lra_linear_forms.specs.Form.{Form}
 use Rattle.lra_flow.specs.Linear.{difference_form, variable_form}
 use Rattle.lra_flow.specs.Given.{given_rows, inequalities, row_of}
@@ -44,12 +45,12 @@ condition_rows live base (either_of a b) = condition_rows live base a ++ conditi
 abbrev pub op_rows : ℕ → Op → List (List ℤ)
 op_rows live (append t) = []
 op_rows live (fill a) = []
-op_rows live (give base x e) = []
-op_rows live (give_element base x e) = []
-op_rows live (give_any x) = []
+op_rows live (store_value base x e) = []
+op_rows live (store_element base x e) = []
+op_rows live (havoc x) = []
 op_rows live (push base es) = []
 op_rows live (push_for base x es) = []
-op_rows live (keep n) = []
+op_rows live (truncate_to n) = []
 op_rows live (test base c wanted) = condition_rows live base c
 
 -- around each condition of a tree, in text order, of those in calls that are written out too; the loop, of whose
@@ -57,7 +58,7 @@ op_rows live (test base c wanted) = condition_rows live base c
 abbrev mutual
   pub rows_in : ℕ → Node → List (List ℤ)
   rows_in live empty = []
-  rows_in live (aside here what) = []
+  rows_in live (probe here what) = []
   rows_in live (point q) = []
   rows_in live (act q op) = op_rows live op
   rows_in live (check q base c) = condition_rows live base c

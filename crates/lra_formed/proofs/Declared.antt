@@ -7,7 +7,7 @@ use Rattle.lra_tree.specs.declared.trees.SignedLiteral.{SignedLiteral}
 use Rattle.lra_tree.specs.Trees.{RvalueTree, ShapeTree, scalar, array, FunctionTree, GlobalTree}
 use Rattle.lra_tree.specs.Labels.{name_in}
 use Rattle.lra_program.specs.Program.{BlockItems}
-use Rattle.lra_program.specs.Sites.{live_behind}
+use Rattle.lra_program.specs.Sites.{live_after_items}
 use Rattle.lra_program.specs.WellFormed.{items_numbers}
 use Rattle.lra_meaning.specs.Scope as scope
 use Rattle.lra_meaning.specs.Scope.{Scope, Meaning, width_of, width_of_all, meaning_of, global_entry}
@@ -27,7 +27,7 @@ name_width t x (scalar e) = refl
 name_width t x (array n) = refl
 
 pub behind_declared : (F : List FunctionTree) (n live : ℕ) (s : Scope) (t : NumberType) (x : Identifier) (shape : ShapeTree RvalueTree) (items : BlockItems)
-    → live_behind live (resolve_declared F s n t x shape items) ≡ live_behind (wider (meaning_of t x shape) live) items
+    → live_after_items live (resolve_declared F s n t x shape items) ≡ live_after_items (wider (meaning_of t x shape) live) items
 behind_declared F n live s t x (scalar e) items = refl
 behind_declared F n live s t x (array c) items = refl
 

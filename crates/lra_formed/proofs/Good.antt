@@ -8,7 +8,7 @@ use Rattle.lra_base.specs.declared.refusals.Place.{Place}
 use Rattle.lra_tree.specs.declared.trees.Identifier.{Identifier}
 use Rattle.lra_tree.specs.Trees as tree
 use Rattle.lra_program.specs.Program.{Cond, BlockItems, no_more, Function, Program}
-use Rattle.lra_program.specs.Sites.{live_behind}
+use Rattle.lra_program.specs.Sites.{live_after_items}
 use Rattle.lra_meaning.specs.Scope.{Scope, meaning_of, with_local, declarator_entry, with_declarators, inner, for_scope}
 use Rattle.lra_tree.specs.Functions.{function_named}
 use Rattle.lra_meaning.specs.NameFaults.{use_faults, named_faults, unary_faults, term_faults, expr_faults, negation_faults, test_faults, conjunction_faults}
@@ -155,7 +155,7 @@ module _ (P : Program) where
         (good_declarators b (suc n) more u t ds rest after small.1 (none_right _ (declarators_faults F u t ds) e) good)
 
     sees_declarators : (n live : ℕ) (s : Scope) (t : NumberType) (ds : List tree.DeclaratorTree) → Sees P live s
-        → Sees P (live_behind live (resolve_declarators F s n t ds no_more)) (with_declarators s t ds)
+        → Sees P (live_after_items live (resolve_declarators F s n t ds no_more)) (with_declarators s t ds)
     sees_declarators n live s t [] sees = sees
     sees_declarators n live s t (d ∷ ds) sees =
         let u = with_local s (declarator_entry t d) in
@@ -169,7 +169,7 @@ module _ (P : Program) where
     good_init n live s (tree.declared d) sees small e = good_declarators no_jumps n live (inner s) d.number_type (d.first ∷ d.rest) no_more (sees_inner P live s sees) small e (λ more h. tt)
     good_init n live s (tree.assigned a) sees small e = (good_assign no_jumps n live s a sees small e, tt)
 
-    sees_for : (n live : ℕ) (s : Scope) (i : tree.InitTree) → Sees P live s → Sees P (live_behind live (resolve_init F s n i)) (for_scope s i)
+    sees_for : (n live : ℕ) (s : Scope) (i : tree.InitTree) → Sees P live s → Sees P (live_after_items live (resolve_init F s n i)) (for_scope s i)
     sees_for n live s tree.no_init sees = sees_inner P live s sees
     sees_for n live s (tree.declared d) sees = sees_declarators n live (inner s) d.number_type (d.first ∷ d.rest) (sees_inner P live s sees)
     sees_for n live s (tree.assigned a) sees = sees_inner P live s sees
@@ -211,7 +211,7 @@ module _ (P : Program) where
       good_stmt r b n live s (tree.for at i c a t) sees small e =
           let u = for_scope s i in
           let m = suc n + init_count i in
-          let more = live_behind live (resolve_init F s (suc n) i) in
+          let more = live_after_items live (resolve_init F s (suc n) i) in
           let after = sees_for (suc n) live s i sees in
           let body = stmt_faults (around r in_loop) u t in
           let to_step = none_left _ body e in

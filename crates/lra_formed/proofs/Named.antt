@@ -18,8 +18,8 @@ use Rattle.lra_meaning.specs.Resolve.{resolve_call, resolve_rvalue, resolve_give
 use Rattle.lra_meaning.specs.Resolve.{resolve_step, init_count, step_count, stmt_count}
 use Rattle.lra_meaning.specs.Resolve.{items_count, declarator_count, resolve_stmt, resolve_cases, resolve_items, resolve_function, variables_by, globals_in}
 use Rattle.lra_meaning.specs.Resolve.{resolve_parts, main_of, resolve}
-use Rattle.lra_program.specs.Sites.{Site, Event, comes, one_call_more, greatest_calls, plain_site, live_behind, rvalue_events, given_events, stmt_events, cases_events, items_events, function_events, call_events}
-use Rattle.lra_program.specs.Sites.{sites_in, sites_of}
+use Rattle.lra_program.specs.Sites.{Site, Event, comes, one_call_more, greatest_calls, plain_site, live_after_items, rvalue_events, given_events, stmt_events, cases_events, items_events, function_events, call_events}
+use Rattle.lra_program.specs.Sites.{event_sites, sites_of}
 use Rattle.lra_program.specs.ProgramViews.{function_or}
 use Rattle.lra_meaning.specs.Threads.{thread_program}
 use Rattle.lra_meaning.specs.ShownNames.{shown_names}
@@ -63,7 +63,7 @@ stand_behind ls n before (x ∷ after) e m =
 -- points --------------------------------------------------------------------------------------------------------------
 
 abbrev EachPoint : (Site → Type 0) → List Event → Type 0
-EachPoint Q es = AllByRecursion Q (sites_in es)
+EachPoint Q es = AllByRecursion Q (event_sites es)
 
 each_then : (Q : Site → Type 0) (xs ys : List Event) → EachPoint Q xs → EachPoint Q ys → EachPoint Q (xs ++ ys)
 each_then Q [] ys h k = k
@@ -75,8 +75,8 @@ count_names names ds = length-append names (flat_map names_of ds)
 
 -- how many variables live behind declarators
 behind_declarators : (F : List tree.FunctionTree) (n live more : ℕ) (s : Scope) (t : NumberType) (ds : List tree.DeclaratorTree) (rest : BlockItems)
-    → live + length (flat_map names_of ds) ≡ more → live_behind live (resolve_declarators F s n t ds rest) ≡ live_behind more rest
-behind_declarators F n live more s t [] rest e = let same : live ≡ more = omega (arith, e) in ap (λ (i : ℕ). live_behind i rest) same
+    → live + length (flat_map names_of ds) ≡ more → live_after_items live (resolve_declarators F s n t ds rest) ≡ live_after_items more rest
+behind_declarators F n live more s t [] rest e = let same : live ≡ more = omega (arith, e) in ap (λ (i : ℕ). live_after_items i rest) same
 behind_declarators F n live more s t (d ∷ ds) rest e =
     let u = with_local s (declarator_entry t d) in
     let more_live = wider (meaning_of t d.name d.shape) live in
@@ -175,7 +175,7 @@ module _ (outside : List (List ℕ)) (ls : List Labelled) where
     init_has n live s (tree.assigned a) names h stand = each_then HasAsMany (stmt_events inside path live (resolve_assign F s n a)) [] (assign_has n live s a names h stand.0) tt
 
     behind_init : (n live : ℕ) (s : Scope) (i : tree.InitTree) (names : List (List ℕ)) → width_of path + length names ≡ live →
-        width_of path + length (live_in_for names i) ≡ live_behind live (resolve_init F s n i)
+        width_of path + length (live_in_for names i) ≡ live_after_items live (resolve_init F s n i)
     behind_init n live s tree.no_init names h = h
     behind_init n live s (tree.declared d) names h =
         let ds = d.first ∷ d.rest in
@@ -201,7 +201,7 @@ module _ (outside : List (List ℕ)) (ls : List Labelled) where
           let m = n + items_count items in
           let body = resolve_items F (inner s) n items in
           let both = items_have n m live (inner s) items end names h refl stand in
-          each_then HasAsMany (items_events inside path live body) (plain_site path m (live_behind live body) ∷ []) both.0 (both.1, tt)
+          each_then HasAsMany (items_events inside path live body) (plain_site path m (live_after_items live body) ∷ []) both.0 (both.1, tt)
       stmt_has n live s (tree.nothing at) names h stand = (point_has n live false (plain_label at names) h stand.0, tt)
       stmt_has n live s (tree.assign a) names h stand = assign_has n live s a names h stand.0
       stmt_has n live s (tree.call c) names h stand =
@@ -224,7 +224,7 @@ module _ (outside : List (List ℕ)) (ls : List Labelled) where
           let u = for_scope s i in
           let m = suc n + init_count i in
           let k = m + step_count a in
-          let more = live_behind live (resolve_init F s (suc n) i) in
+          let more = live_after_items live (resolve_init F s (suc n) i) in
           let longer = live_in_for names i in
           let first = init_labels names i in
           let step = step_labels longer a in
@@ -268,7 +268,7 @@ module _ (outside : List (List ℕ)) (ls : List Labelled) where
       items_have : (n m live : ℕ) (s : Scope) (items : tree.ItemsTree) (end : Place) (names : List (List ℕ)) → width_of path + length names ≡ live → n + items_count items ≡ m
           → StandFrom ls n (items_labels names items end)
           → EachPoint HasAsMany (items_events inside path live (resolve_items F s n items)) ×
-          HasAsMany (record { path = path; label = m; live = live_behind live (resolve_items F s n items); asserts = false })
+          HasAsMany (record { path = path; label = m; live = live_after_items live (resolve_items F s n items); asserts = false })
       items_have n m live s tree.no_items end names h e stand =
           let same : n ≡ m = omega (arith, e) in
           (tt, point_has m live false (plain_label end names) h (subst (λ (i : ℕ). label_at ls i ≡ Some (plain_label end names)) same stand.0))
@@ -314,7 +314,7 @@ module _ (outside : List (List ℕ)) (ls : List Labelled) where
         let types = length-map f.parameters (λ (p : Parameter). p.number_type) in
         let j : width_of path + length names ≡ more = omega (arith, h) in
         let both = items_have n m more s f.body f.end names j refl stand in
-        each_then HasAsMany (items_events inside path more body) (plain_site path m (live_behind more body) ∷ []) both.0 (both.1, tt)
+        each_then HasAsMany (items_events inside path more body) (plain_site path m (live_after_items more body) ∷ []) both.0 (both.1, tt)
 
   module _ (F : List tree.FunctionTree) where
     -- a function of the source whose labels stand among all

@@ -10,9 +10,9 @@ use Rattle.std.proofs.lemmas.List.Elements.{filter-append}
 use Rattle.lra_systems.specs.LinearSystems.{LinearSystem}
 use Rattle.lra_linear_spec.specs.declared.ConKind.{ConKind}
 use Rattle.lra_linear_spec.specs.declared.ConKind.TheVariants.{Ge}
-use Rattle.lra_operations.specs.declared.graph.Node as declared
-use Rattle.lra_operations.specs.Graph as graph
-use Rattle.lra_operations.specs.GraphViews.{node_view, row}
+use Rattle.lra_operations.specs.declared.tree.Node as declared
+use Rattle.lra_operations.specs.Tree as graph
+use Rattle.lra_operations.specs.TreeViews.{node_view, row}
 use Rattle.lra_program.specs.declared.program.Cond as declared_cond
 use Rattle.lra_program.specs.Program.{Cond}
 use Rattle.lra_program.specs.ProgramViews.{all_of, any_of, cond_view}
@@ -127,7 +127,7 @@ then_taken s t u xs ys a b = taken_both s t u xs (ys s.dims) a (subst (λ (n : �
 -- a loop gives its condition's rows and those of a round
 pub iterate_rows : (live q base : ℕ) (c : Cond) (a : graph.Node) → rows_in live (graph.iterate q base c a) ≡ condition_rows live base c ++ round_rows live a
 iterate_rows live q base c graph.empty = refl
-iterate_rows live q base c (graph.aside here what) = refl
+iterate_rows live q base c (graph.probe here what) = refl
 iterate_rows live q base c (graph.point p) = refl
 iterate_rows live q base c (graph.act p op) = refl
 iterate_rows live q base c (graph.check p b d) = refl

@@ -6,16 +6,16 @@ use Rattle.std.specs.List.{flat_map}
 use Rattle.std.proofs.lemmas.List.{drop_all, drop_more}
 use Rattle.lra_systems.specs.LinearSystems.{LinearSystem}
 use Rattle.lra_linear_spec.specs.declared.ConKind.{ConKind}
-use Rattle.lra_operations.specs.declared.asides.Aside as aside
-use Rattle.lra_operations.specs.declared.graph.Exit.{Exit}
-use Rattle.lra_operations.specs.declared.graph.Op.{Op}
-use Rattle.lra_operations.specs.declared.graph.Node.{Node, Empty, Point, Aside, Act, Check, Seq, Choose, Iterate, Catch, Leave, Select, the_lemmas}
-use Rattle.lra_operations.specs.declared.graph.Arm.{Arm}
-use Rattle.lra_operations.specs.declared.graph.Arm.TheVariants.{Entry, Tree}
+use Rattle.lra_operations.specs.declared.probes.Probe as aside
+use Rattle.lra_operations.specs.declared.tree.Exit.{Exit}
+use Rattle.lra_operations.specs.declared.tree.Op.{Op}
+use Rattle.lra_operations.specs.declared.tree.Node.{Node, Empty, Point, Probe, Act, Check, Seq, Choose, Iterate, Catch, Leave, Select, the_lemmas}
+use Rattle.lra_operations.specs.declared.tree.Arm.{Arm}
+use Rattle.lra_operations.specs.declared.tree.Arm.TheVariants.{Entry, Tree}
 use Rattle.lra_base.specs.declared.case_labels.CaseLabel.{CaseLabel}
-use Rattle.lra_operations.specs.Graph as graph
+use Rattle.lra_operations.specs.Tree as graph
 use Rattle.lra_operations.proofs.ArmViews.{entry_view, tree_view}
-use Rattle.lra_operations.specs.GraphViews.{exit_view, node_view, op_view, row, ArmPart, arm_view, arms_of}
+use Rattle.lra_operations.specs.TreeViews.{exit_view, node_view, op_view, row, ArmPart, arm_view, arms_of}
 use Rattle.lra_program.specs.declared.program.Expr.{Expr}
 use Rattle.lra_program.specs.declared.program.Cond.{Cond}
 use Rattle.lra_program.specs.ProgramViews.{cond_view, expr_view}
@@ -29,7 +29,7 @@ empty_view = search (rules, the_lemmas)
 pub point_view : (q : ℕ) → node_view (Point q) ≡ graph.point q
 point_view q = search (rules, the_lemmas)
 
-pub aside_view : (q : ℕ) (what : aside.Aside) → node_view (Aside q what) ≡ graph.aside q what
+pub aside_view : (q : ℕ) (what : aside.Probe) → node_view (Probe q what) ≡ graph.probe q what
 aside_view q what = search (rules, the_lemmas)
 
 pub act_view : (q : ℕ) (o : Op) → node_view (Act q o) ≡ graph.act q (op_view o)

@@ -6,7 +6,7 @@ use Rattle.lra_base.specs.declared.refusals.Cause.TheVariants.{TooLong}
 use Rattle.lra_base.specs.declared.refusals.Place.{Place}
 use Rattle.lra_tree.specs.declared.tokens.Token.{Token}
 use Rattle.lra_tree.specs.Trees.{FileTree}
-use Rattle.lra_base.specs.Places.{place_behind, greatest_length}
+use Rattle.lra_base.specs.Places.{place_after, greatest_length}
 use Rattle.lra_tree.specs.Tokens.{Lex, IsTokenFault, OneReading}
 use Rattle.lra_tree.specs.Faults.{IsTree, IsTextFault}
 use Rattle.lra_tree.specs.Grammar.{Spells}
@@ -24,11 +24,11 @@ within : (source : List ℕ) → length source ≤ 65536 → length source ≤ g
 within source l = rw limit_is l
 
 -- a source that is too long
-pub long_unread : (source : List ℕ) (n : ℕ) → n ≡ 65536 → n < length source → Unread Spells source TooLong (place_behind (take n source))
+pub long_unread : (source : List ℕ) (n : ℕ) → n ≡ 65536 → n < length source → Unread Spells source TooLong (place_after (take n source))
 long_unread source n is long =
     let e : greatest_length ≡ n = limit_is ∙ sym is in
     let past : greatest_length < length source = rw e long in
-    subst (λ (k : ℕ). Unread Spells source TooLong (place_behind (take k source))) e (too_long past)
+    subst (λ (k : ℕ). Unread Spells source TooLong (place_after (take k source))) e (too_long past)
 
 -- a source whose tokens have a fault
 tokens_unread : (source : List ℕ) (c : Cause) (at : Place) → length source ≤ 65536 → IsTokenFault source c at → Unread Spells source c at

@@ -11,12 +11,12 @@ use Rattle.lra_base.specs.declared.refusals.Cause.TheVariants.{Recursive}
 use Rattle.lra_tree.specs.Reach.{IsFirstRecursive, NotRecursive}
 use Rattle.lra_tree.specs.Trees.{FileTree}
 use Rattle.lra_program.specs.Program.{Function, Program}
-use Rattle.lra_operations.specs.Graph.{Node}
+use Rattle.lra_operations.specs.Tree.{Node}
 use Rattle.lra_program.specs.Sites.{Site, events_of, sites_of}
 use Rattle.lra_tree.specs.Labels.{Labelled, labels_of}
 use Rattle.lra_meaning.specs.Resolve.{resolve, resolved_functions}
 use Rattle.lra_meaning.specs.NameFaults.{name_faults}
-use Rattle.lra_operations.specs.Agree.{IsGraph, Agrees}
+use Rattle.lra_operations.specs.Agree.{IsInlinedTree, Agrees}
 use Rattle.lra_program.specs.WellFormed.{IsWellFormed}
 use Rattle.lra_tree.specs.Grammar.{Spells}
 use Rattle.lra_meaning.specs.Refuse.{limit_fault, RefusesTree, bad_name, recursive, past_limit, Accepts}
@@ -75,7 +75,7 @@ exit_recursive t x e names is fault =
 
 -- trees of operations ------------------------------------------------------------------------------------------------
 
-pub has_graph : (t : FileTree) (P : Program) (g : Node) (sites : List Site) → P ≡ resolve t → name_faults t ≡ [] → NotRecursive t → IsWellFormed (resolve t) → IsGraph P g → Agrees P g →
+pub has_graph : (t : FileTree) (P : Program) (g : Node) (sites : List Site) → P ≡ resolve t → name_faults t ≡ [] → NotRecursive t → IsWellFormed (resolve t) → IsInlinedTree P g → Agrees P g →
     sites ≡ sites_of P
     → AreFew (sites_of P) → ((ls : List Labelled) → limit_fault ls 0 (events_of P) ≡ None) → HasGraph t g sites
 has_graph t P g sites is names straight well graph agrees points few within = record {
@@ -84,7 +84,7 @@ has_graph t P g sites is names straight well graph agrees points few within = re
   well = well;
   within = subst (λ (Q : Program). limit_fault (labels_of t) 0 (events_of Q) ≡ None) is (within (labels_of t));
   few = subst (λ (Q : Program). AreFew (sites_of Q)) is few;
-  is_graph = subst (λ (Q : Program). IsGraph Q g) is graph;
+  is_graph = subst (λ (Q : Program). IsInlinedTree Q g) is graph;
   agrees = subst (λ (Q : Program). Agrees Q g) is agrees;
   points = subst (λ (Q : Program). sites ≡ sites_of Q) is points;
 }

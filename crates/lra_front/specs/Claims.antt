@@ -3,10 +3,10 @@ use Rattle.std.specs.Prelude.{◌≡◌, ◌≤◌, ◌⊎◌, ℕ, List, slice_
 use Rattle.lra_base.specs.declared.refusals.Cause.{Cause}
 use Rattle.lra_base.specs.declared.refusals.Place.{Place}
 use Rattle.lra_tree.specs.Trees.{FileTree}
-use Rattle.lra_operations.specs.Graph.{Node}
+use Rattle.lra_operations.specs.Tree.{Node}
 use Rattle.lra_meaning.specs.Resolve.{resolve}
 use Rattle.lra_program.specs.Sites.{Site}
-use Rattle.lra_operations.specs.Agree.{IsGraph, Agrees}
+use Rattle.lra_operations.specs.Agree.{IsInlinedTree, Agrees}
 use Rattle.lra_tree.specs.Grammar.{Spells}
 use Rattle.lra_meaning.specs.Refuse.{greatest_live, Refuse, Accepts}
 
@@ -20,7 +20,7 @@ pub record IsAccepted (source : List ℕ) : Type 0 where
   pub tree : FileTree
   pub accepted : Accepts Spells source tree
   pub operations : Node
-  pub is_graph : IsGraph (resolve tree) operations
+  pub is_graph : IsInlinedTree (resolve tree) operations
   pub agrees : Agrees (resolve tree) operations
 
 -- every list of bytes is refused or accepted, and none is both

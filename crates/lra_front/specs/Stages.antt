@@ -12,9 +12,9 @@ use Rattle.lra_tree.specs.Grammar.{Spells}
 use Rattle.lra_meaning.specs.NameFaults.{name_faults}
 use Rattle.lra_tree.specs.Labels.{labels_of}
 use Rattle.lra_meaning.specs.Resolve.{resolve}
-use Rattle.lra_operations.specs.Graph.{Node}
+use Rattle.lra_operations.specs.Tree.{Node}
 use Rattle.lra_program.specs.Sites.{Site, events_of, sites_of}
-use Rattle.lra_operations.specs.Agree.{IsGraph, Agrees}
+use Rattle.lra_operations.specs.Agree.{IsInlinedTree, Agrees}
 use Rattle.lra_program.specs.WellFormed.{IsWellFormed}
 use Rattle.lra_meaning.specs.Refuse.{limit_fault}
 use Rattle.lra_tree.specs.Reach.{IsFirstRecursive, NotRecursive}
@@ -49,6 +49,6 @@ pub record HasGraph (t : FileTree) (tree : Node) (sites : List Site) : Type 0 wh
   pub well : IsWellFormed (resolve t)
   pub within : limit_fault (labels_of t) 0 (events_of (resolve t)) ≡ None
   pub few : AreFew (sites_of (resolve t))
-  pub is_graph : IsGraph (resolve t) tree
+  pub is_graph : IsInlinedTree (resolve t) tree
   pub agrees : Agrees (resolve t) tree
   pub points : sites ≡ sites_of (resolve t)

@@ -4,7 +4,7 @@ ghost use Rattle.std.specs.Prelude.{◌≡◌, ◌<◌, ◌+◌, ◌^◌, length
 ghost use Rattle.lra_base.specs.Refused.{IfRefused};
 ghost use Rattle.lra_tree.specs.Views.{tree_view};
 ghost use Rattle.lra_program.specs.ProgramViews.{program_view};
-ghost use Rattle.lra_operations.specs.GraphViews.{node_view, site_view};
+ghost use Rattle.lra_operations.specs.TreeViews.{node_view, site_view};
 ghost use Rattle.lra_meaning.specs.Resolve.{resolve};
 ghost use Rattle.lra_tree.specs.Grammar.{Spells};
 ghost use Rattle.lra_tree.specs.Labels.{labels_of};
@@ -15,7 +15,7 @@ use crate::program::{graph_of, program_of};
 use crate::reading::{Reading, read_text};
 use lra_base::SourceError;
 use lra_names::Resolution;
-use lra_operations::Graph;
+use lra_operations::InlinedProgram;
 use lra_tree::Tree;
 use std::alloc::Global;
 
@@ -25,7 +25,7 @@ pub struct Front {
     pub tree: Tree,
     pub constants: Vec<i64>,
     pub resolution: Resolution,
-    pub graph: Graph,
+    pub graph: InlinedProgram,
 }
 
 impl Drop for Front {

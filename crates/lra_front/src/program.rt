@@ -4,7 +4,7 @@ ghost use Rattle.std.specs.Prelude.{◌≡◌, [], map, IfOk, OnOk};
 ghost use Rattle.lra_base.specs.Refused.{IfRefused};
 ghost use Rattle.lra_tree.specs.Views.{tree_view};
 ghost use Rattle.lra_program.specs.ProgramViews.{program_view};
-ghost use Rattle.lra_operations.specs.GraphViews.{node_view, site_view};
+ghost use Rattle.lra_operations.specs.TreeViews.{node_view, site_view};
 ghost use Rattle.lra_meaning.specs.NameFaults.{name_faults};
 ghost use Rattle.lra_meaning.specs.Resolve.{resolve, resolved_functions};
 ghost use Rattle.lra_program.specs.WellFormed.{IsWellFormed};
@@ -17,7 +17,7 @@ use lra_base::{Cause, Refusal, SourceError};
 use lra_calls::first_recursive;
 use lra_graph::{GraphError, build, refusal};
 use lra_names::{Resolution, resolve};
-use lra_operations::Graph;
+use lra_operations::InlinedProgram;
 use lra_tree::Tree;
 use std::alloc::Global;
 
@@ -52,7 +52,11 @@ pub fn check_calls(alloc: Global, tree: &Tree, resolution: &Resolution) -> Resul
 
 /// The tree of operations of a program without recursion and its points; or the refusal for its first recursive call,
 /// or for the first limit that it passes.
-pub fn graph_of(alloc: Global, tree: &Tree, resolution: &Resolution) -> Result<Graph, SourceError>
+pub fn graph_of(
+    alloc: Global,
+    tree: &Tree,
+    resolution: &Resolution,
+) -> Result<InlinedProgram, SourceError>
     requires program { program_view resolution.now.program ≡ resolve (tree_view tree.now) }
     requires labels { resolution.now.labels.labels ≡ labels_of (tree_view tree.now) }
     requires clean { name_faults (tree_view tree.now) ≡ [] }

@@ -8,7 +8,7 @@ ghost use Rattle.lra_meaning.specs.Refuse.{Refuse};
 ghost use Rattle.lra_meaning.specs.RefuseThreads.{Unread};
 ghost use Rattle.lra_front.specs.Stages.{HasConstants, HasTree};
 
-use lra_base::{Cause, GREATEST_LENGTH, Refusal, SourceError, place_behind};
+use lra_base::{Cause, GREATEST_LENGTH, Refusal, SourceError, place_after};
 use lra_lex::{constants_of, tokens};
 use lra_parse::parse;
 use lra_tree::Tree;
@@ -30,7 +30,7 @@ pub fn read_text(alloc: Global, bytes: &[u8]) -> Result<Reading, SourceError>
     ensures unread { IfRefused result (λ r. Unread Spells bytes.now r.cause r.place) }
 {
     if bytes.len() > GREATEST_LENGTH {
-        let place = place_behind(&bytes[..GREATEST_LENGTH]);
+        let place = place_after(&bytes[..GREATEST_LENGTH]);
         return Err(SourceError::Refused(Refusal {
             cause: Cause::TooLong,
             place,

@@ -4,26 +4,27 @@ use Rattle.lra_program.specs.Program.{Function, Program}
 use Rattle.lra_program.specs.Step.{State}
 use Rattle.lra_program.specs.Run.{begun, Point}
 use Rattle.lra_program.specs.Sites.{sites_of}
-use Rattle.lra_program.specs.Trails.{Trail}
-use Rattle.lra_operations.specs.Graph.{Node}
-use Rattle.lra_operations.specs.Agree.{IsGraph}
-use Rattle.lra_operations.specs.TrailsAgree.{KeepsWidth, point_at}
+use Rattle.lra_program.specs.Traces.{Trace}
+use Rattle.lra_operations.specs.Tree.{Node}
+use Rattle.lra_operations.specs.Agree.{IsInlinedTree}
+use Rattle.lra_operations.specs.TracesAgree.{KeepsWidth, point_at}
 use Rattle.lra_flow.specs.Opened.{Gives}
 use Rattle.lra_interleavings.specs.Interleavings.{thread_program}
-use Rattle.lra_interleavings.specs.Woven.{GivesThere, OthersChange, AreAllowed, IsWoven}
+use Rattle.lra_interleavings.specs.ThreadModular.{WritesThere, OthersInterfere, AreAllowed, IsThreadModular}
 
 -- the tree of the program, begun with these draws, gives the variable x a value at the point; the trail ends behind it
-abbrev pub TreeGives : (State → State → Type 0) → Program → Node → List ℤ → ℕ → ℕ → Trail Point → Type 0
-TreeGives may P g draws q x a = Gives (point_at (sites_of P)) may g (record { state = begun P draws; met = [] }) q x a
+abbrev pub TreeGives : (State → State → Type 0) → Program → Node → List ℤ → ℕ → ℕ → Trace Point → Type 0
+TreeGives may P g draws q x a =
+    Gives (point_at (sites_of P)) may g (record { state = begun P draws; events = [] }) q x a
 
 abbrev pub GiftsAgree : (State → State → Type 0) → Type 0
-GiftsAgree may = (P : Program) (g : Node) → IsGraph P g → (draws : List ℤ) (x : ℕ) (a : Trail Point) →
-    GivesThere may P draws x a → (q : ℕ) × TreeGives may P g draws q x a
+GiftsAgree may = (P : Program) (g : Node) → IsInlinedTree P g → (draws : List ℤ) (x : ℕ) (a : Trace Point) →
+    WritesThere may P draws x a → (q : ℕ) × TreeGives may P g draws q x a
 
 -- where other threads change globals by what they may give, as this test says
 abbrev pub OthersGiftsAgree : Type 0
 OthersGiftsAgree = (P : Program) (fs : List Function) (within : ℕ → ℕ → ℤ → Bool) (k : ℕ) →
-    GiftsAgree (OthersChange P fs (λ j x z. IsTrue (within j x z)) k)
+    GiftsAgree (OthersInterfere P fs (λ j x z. IsTrue (within j x z)) k)
 
 -- whatever others may do that brings no variable, and takes none away
 abbrev pub AllGiftsAgree : Type 1
@@ -32,7 +33,7 @@ AllGiftsAgree = (may : State → State → Type 0) → KeepsWidth may → GiftsA
 -- among others each thread's tree gives the globals only such values
 abbrev pub TreesGiveWithin : Program → List Function → (ℕ → ℕ → ℤ → Type 0) → (ℕ → State → State → Type 0) → Type 0
 TreesGiveWithin P fs Within may = (k : ℕ) (f : Function) → slice_get fs k ≡ Some f → (g : Node) ×
-    IsGraph (thread_program P f) g × ((draws : List ℤ) (q x : ℕ) (z : ℤ) (a : Trail Point) →
+    IsInlinedTree (thread_program P f) g × ((draws : List ℤ) (q x : ℕ) (z : ℤ) (a : Trace Point) →
     TreeGives (may k) (thread_program P f) g draws q x a → x < length P.globals →
     slice_get a.state.store x ≡ Some z → Within k x z)
 
@@ -40,4 +41,4 @@ TreesGiveWithin P fs Within may = (k : ℕ) (f : Function) → slice_get fs k �
 abbrev pub WovenByTrees : Type 1
 WovenByTrees = (P : Program) (fs : List Function) (Within : ℕ → ℕ → ℤ → Type 0) (may : ℕ → State → State → Type 0) →
     AreAllowed P fs Within may → ((k : ℕ) → KeepsWidth (may k)) → TreesGiveWithin P fs Within may →
-    IsWoven P fs Within may
+    IsThreadModular P fs Within may

@@ -2,12 +2,12 @@
 #![tactic(auto)]
 
 ghost use Rattle.lra_gifts.specs.GiftsAgree.{GiftsAgree, OthersGiftsAgree};
-ghost use Rattle.lra_program.specs.Trails.{Alone};
+ghost use Rattle.lra_program.specs.Traces.{NoChange};
 
 /// Each value that a run of a program gives to a variable, a run of the program's tree gives to it.
 ///
 /// Does nothing: its contract is the theorem.
 pub fn gifts_agree()
-    ensures alone { GiftsAgree Alone }
+    ensures alone { GiftsAgree NoChange }
     ensures others { OthersGiftsAgree }
 {}

@@ -4,11 +4,11 @@ use Rattle.std.proofs.lemmas.Option.{same_Some}
 use Rattle.lra_base.specs.Limits.{greatest_live}
 use Rattle.lra_program.specs.Program.{Call, BlockItems, Function, Program}
 use Rattle.lra_program.specs.declared.receivers.Receiver.{Receiver}
-use Rattle.lra_program.specs.Receivers.{behind_result}
+use Rattle.lra_program.specs.Receivers.{result_receiver}
 use Rattle.lra_program.specs.Step.{Op, arguments_for}
 use Rattle.lra_program.specs.Value.{Argument}
-use Rattle.lra_operations.specs.Graph.{Node}
-use Rattle.lra_program.specs.Sites.{Site, plain_site, live_behind, items_events, function_events, call_events}
+use Rattle.lra_operations.specs.Tree.{Node}
+use Rattle.lra_program.specs.Sites.{Site, plain_site, live_after_items, items_events, function_events, call_events}
 use Rattle.lra_operations.specs.Inlined.{callee_node}
 use Rattle.lra_opening.specs.declared.points.Limit.{Limit}
 use Rattle.lra_opening.specs.declared.points.Limit.TheVariants.{Calls}
@@ -44,23 +44,23 @@ module _ (P : Program) (path : List ℕ) (r : Frame) (S : List Site) (c : Call) 
       subst (λ z. walk S (items_events (call_events P less) (c.label ∷ path) (r.live + length fn.parameters) z) ≡ w) body
       (subst (λ z. walk S (items_events (call_events P less) (c.label ∷ path) (r.live + z) b) ≡ w) wide (subst (λ z. walk S (items_events (call_events P less) z (r.live + k) b) ≡ w) within e))
 
-  lives_as : (n : ℕ) → n ≡ live_behind (r.live + k) b → n ≡ live_behind (r.live + length fn.parameters) fn.body
-  lives_as n same = same ∙ ap (λ z. live_behind (r.live + z) b) wide ∙ ap (λ z. live_behind (r.live + length fn.parameters) z) body
+  lives_as : (n : ℕ) → n ≡ live_after_items (r.live + k) b → n ≡ live_after_items (r.live + length fn.parameters) fn.body
+  lives_as n same = same ∙ ap (λ z. live_after_items (r.live + z) b) wide ∙ ap (λ z. live_after_items (r.live + length fn.parameters) z) body
 
-  end_as : (n : ℕ) (V : List Site) (w : Progress) → n ≡ live_behind (r.live + k) b → walk V (plain_site p fn.end n ∷ []) ≡ w
-      → walk V (plain_site (c.label ∷ path) fn.end (live_behind (r.live + length fn.parameters) fn.body) ∷ []) ≡ w
+  end_as : (n : ℕ) (V : List Site) (w : Progress) → n ≡ live_after_items (r.live + k) b → walk V (plain_site p fn.end n ∷ []) ≡ w
+      → walk V (plain_site (c.label ∷ path) fn.end (live_after_items (r.live + length fn.parameters) fn.body) ∷ []) ≡ w
   end_as n V w same e =
       subst (λ z. walk V (plain_site (c.label ∷ path) fn.end z ∷ []) ≡ w) (lives_as n same) (subst (λ z. walk V (plain_site z fn.end n ∷ []) ≡ w) within e)
 
   pub call_at_body : (l : Limit) → walk S (items_events (call_events P less) p (r.live + k) b) ≡ stopped l → walk S (call_events P r.calls_left path r.live c) ≡ stopped l
   call_at_body l e = call_walk (stopped l) (walk_stop S (items_events (call_events P less) (c.label ∷ path) (r.live + length fn.parameters) fn.body)
-      (plain_site (c.label ∷ path) fn.end (live_behind (r.live + length fn.parameters) fn.body) ∷ []) l (items_as (stopped l) e))
+      (plain_site (c.label ∷ path) fn.end (live_after_items (r.live + length fn.parameters) fn.body) ∷ []) l (items_as (stopped l) e))
 
-  pub call_at_end : (V : List Site) (n : ℕ) (l : Limit) → n ≡ live_behind (r.live + k) b → walk S (items_events (call_events P less) p (r.live + k) b) ≡ passed V
+  pub call_at_end : (V : List Site) (n : ℕ) (l : Limit) → n ≡ live_after_items (r.live + k) b → walk S (items_events (call_events P less) p (r.live + k) b) ≡ passed V
       → walk V (plain_site p fn.end n ∷ []) ≡ stopped l
       → walk S (call_events P r.calls_left path r.live c) ≡ stopped l
   call_at_end V n l same e f = call_walk (stopped l) (walk_then S (items_events (call_events P less) (c.label ∷ path) (r.live + length fn.parameters) fn.body)
-      (plain_site (c.label ∷ path) fn.end (live_behind (r.live + length fn.parameters) fn.body) ∷ []) V (stopped l) (items_as (passed V) e)
+      (plain_site (c.label ∷ path) fn.end (live_after_items (r.live + length fn.parameters) fn.body) ∷ []) V (stopped l) (items_as (passed V) e)
       (end_as n V (stopped l) same f))
 
   abbrev inner : ℕ → Frame
@@ -70,23 +70,23 @@ module _ (P : Program) (path : List ℕ) (r : Frame) (S : List Site) (c : Call) 
     calls_left = less;
     breaks = None;
     continues = None;
-    receiver = behind_result fn.result_type x;
+    receiver = result_receiver fn.result_type x;
     back = Some r.live;
   }
 
   pub invoked : (V U : List Site) (q e n : ℕ) (gives : List Argument → Op) (h g : Node) → length c.arguments ≡ length fn.parameters
-      → WritesItems P p (inner k) S b h V → n ≡ live_behind
+      → WritesItems P p (inner k) S b h V → n ≡ live_after_items
       (r.live + k) b → e ≡ length V
       → Pointed V (record { path = p; label = fn.end; live = n; asserts = false }) U
-      → g ≡ callee_node q e r.live (behind_result fn.result_type x) (gives (arguments_for fn.parameters c.arguments)) k h
+      → g ≡ callee_node q e r.live (result_receiver fn.result_type x) (gives (arguments_for fn.parameters c.arguments)) k h
       → WritesCall P path r q x gives S c g U
   invoked V U q e n gives h g fits y same i pointed a =
       let y' = subst (λ z. WritesItems P (c.label ∷ path) (inner (length fn.parameters)) S z h V) body
       (subst (λ z. WritesItems P (c.label ∷ path) (inner z) S b h V) wide (subst (λ z. WritesItems P z (inner k) S b h V) within y)) in
       let pointed' : Pointed V (record { path = c.label ∷ path; label = fn.end; live = n; asserts = false }) U = subst
       (λ z. Pointed V (record { path = z; label = fn.end; live = n; asserts = false }) U) within pointed in
-      let a' : g ≡ callee_node q e r.live (behind_result fn.result_type x) (gives (arguments_for fn.parameters c.arguments)) (length fn.parameters) h =
-      subst (λ z. g ≡ callee_node q e r.live (behind_result fn.result_type x) (gives (arguments_for fn.parameters c.arguments)) z h) wide a in
+      let a' : g ≡ callee_node q e r.live (result_receiver fn.result_type x) (gives (arguments_for fn.parameters c.arguments)) (length fn.parameters) h =
+      subst (λ z. g ≡ callee_node q e r.live (result_receiver fn.result_type x) (gives (arguments_for fn.parameters c.arguments)) z h) wide a in
       result_written P path r S V U q e n less x gives c fn h g left found fits y' (lives_as n same) i pointed' a'
 
 -- into a callee's body fewer steps are left
@@ -105,13 +105,13 @@ pub record IsCallee (P : Program) (path : List ℕ) (r : Frame) (x : Receiver) (
   pub found : slice_get P.functions c.function ≡ Some fn
   pub some_left : r.calls_left ≡ 0 → ⊥
   pub within : p ≡ c.label ∷ path
-  pub frame : f ≡ callee_frame r (behind_result fn.result_type x) (length fn.parameters)
+  pub frame : f ≡ callee_frame r (result_receiver fn.result_type x) (length fn.parameters)
   pub body : b ≡ fn.body
 
 module _ (P : Program) (path : List ℕ) (r : Frame) (x : Receiver) (c : Call) (p : List ℕ) (f : Frame) (b : BlockItems) (is : IsCallee P path r x c p f b) where
   pub callee_body_stands : IsWellFormed P → CallStands P r c → ItemsStand P f b
   callee_body_stands well s = subst (λ z. ItemsStand P f z) (sym is.body) (subst (λ z. ItemsStand P z is.fn.body) (sym is.frame)
-      (callee_stands P r r.live (r.calls_left - 1) (r.live + length is.fn.parameters) (behind_result is.fn.result_type x) c is.fn well s is.found refl refl))
+      (callee_stands P r r.live (r.calls_left - 1) (r.live + length is.fn.parameters) (result_receiver is.fn.result_type x) c is.fn well s is.found refl refl))
 
   pub callee_falls : 1 + (1 + items_steps (call_steps P f.calls_left) b) < call_steps P r.calls_left c
   callee_falls = subst (λ (z : Frame). 1 + (1 + items_steps (call_steps P z.calls_left) b) < call_steps P r.calls_left c) (sym is.frame)
@@ -122,14 +122,14 @@ module _ (P : Program) (path : List ℕ) (r : Frame) (x : Receiver) (c : Call) (
       call_at_body P path r S c is.fn (r.calls_left - 1) x p (length is.fn.parameters) b (one_less r.calls_left is.some_left) is.found is.within refl is.body l
       (subst (λ (z : Frame). walk S (items_events (inside P p z) p z.live b) ≡ stopped l) is.frame e)
 
-  pub callee_written : (S V : List Site) (h : Node) (n : ℕ) → WritesItems P p f S b h V → n ≡ live_behind f.live b → WritesBody P path r x c S h n V
+  pub callee_written : (S V : List Site) (h : Node) (n : ℕ) → WritesItems P p f S b h V → n ≡ live_after_items f.live b → WritesBody P path r x c S h n V
   callee_written S V h n y last = record {
     fn = is.fn;
     found = is.found;
     some_left = is.some_left;
-    written = subst (λ z. WritesItems P (c.label ∷ path) (callee_frame r (behind_result is.fn.result_type x) (length is.fn.parameters)) S z h V) is.body
+    written = subst (λ z. WritesItems P (c.label ∷ path) (callee_frame r (result_receiver is.fn.result_type x) (length is.fn.parameters)) S z h V) is.body
         (subst (λ z. WritesItems P (c.label ∷ path) z S b h V) is.frame (subst (λ z. WritesItems P z f S b h V) is.within y));
-    last = last ∙ ap (λ (z : Frame). live_behind z.live b) is.frame ∙ ap (λ z. live_behind (r.live + length is.fn.parameters) z) is.body;
+    last = last ∙ ap (λ (z : Frame). live_after_items z.live b) is.frame ∙ ap (λ z. live_after_items (r.live + length is.fn.parameters) z) is.body;
   }
 
 -- the place of a call opens, in which its callee's body is under way
@@ -166,12 +166,12 @@ module _ (P : Program) (path : List ℕ) (r : Frame) (x : Receiver) (c : Call) (
     pub end_written : (U : List Site) (q e : ℕ) (gives : List Argument → Op) (g : Node) → length c.arguments ≡ length fn.parameters
         → e ≡ length V → walk V (plain_site p fn.end n ∷ []) ≡
         passed U
-        → g ≡ callee_node q e r.live (behind_result fn.result_type x) (gives (arguments_for fn.parameters c.arguments)) (length fn.parameters) h
+        → g ≡ callee_node q e r.live (result_receiver fn.result_type x) (gives (arguments_for fn.parameters c.arguments)) (length fn.parameters) h
         → WritesCall P path r q x gives S c g U
     end_written U q e gives g fits i pointed a =
         let params = ap (λ (z : Function). length z.parameters) same in
         invoked P path r S c w.fn (r.calls_left - 1) x (c.label ∷ path) (length w.fn.parameters) w.fn.body (one_less r.calls_left w.some_left) w.found refl
         refl refl V U q e n gives h g (fits ∙ params)
         w.written w.last i (end_seen (passed U) pointed)
-        (subst (λ (z : Function). g ≡ callee_node q e r.live (behind_result z.result_type x) (gives (arguments_for z.parameters c.arguments))
+        (subst (λ (z : Function). g ≡ callee_node q e r.live (result_receiver z.result_type x) (gives (arguments_for z.parameters c.arguments))
         (length z.parameters) h) same a)

@@ -6,15 +6,15 @@ use Rattle.lra_program.specs.Program.{Call, Rvalue, value, result, Stmt, absent,
 use Rattle.lra_program.specs.Program.{break, continue, return, assert}
 use Rattle.lra_program.specs.Program.{assume, BlockItems, no_more, declaration, array, statement, switch, Cases, no_cases, labelled, stated, Program}
 use Rattle.lra_program.specs.Value.{Argument, index_of}
-use Rattle.lra_program.specs.Step.{Op, append, give, give_any, push, push_for, keep, arguments_for}
+use Rattle.lra_program.specs.Step.{Op, append, store_value, havoc, push, push_for, truncate_to, arguments_for}
 use Rattle.lra_base.specs.declared.number_types.NumberType.{NumberType}
 use Rattle.lra_program.specs.declared.receivers.Receiver.{Receiver}
-use Rattle.lra_program.specs.Receivers.{variable_at, waiting_in, nobody, behind_result}
-use Rattle.lra_operations.specs.Graph.{returned, Node, empty, point, act, seq, choose, leave, Arms, no_arms, entry, arm}
+use Rattle.lra_program.specs.Receivers.{variable_at, waiting_in, nobody, result_receiver}
+use Rattle.lra_operations.specs.Tree.{returned, Node, empty, point, act, seq, choose, leave, Arms, no_arms, entry, arm}
 use Rattle.lra_tree.specs.Labels.{Labelled}
-use Rattle.lra_program.specs.Sites.{Site, Event, comes, one_call_more, plain_site, live_behind, rvalue_events, given_events, stmt_events, cases_events, items_events, function_events, call_events, events_of}
+use Rattle.lra_program.specs.Sites.{Site, Event, comes, one_call_more, plain_site, live_after_items, rvalue_events, given_events, stmt_events, cases_events, items_events, function_events, call_events, events_of}
 use Rattle.lra_operations.specs.Inlined.{return_node, callee_node, loop_node, switch_node}
-use Rattle.lra_operations.specs.Agree.{IsGraph}
+use Rattle.lra_operations.specs.Agree.{IsInlinedTree}
 use Rattle.lra_program.specs.WellFormed.{IsWellFormed}
 use Rattle.lra_meaning.specs.Refuse.{greatest_live, greatest_points, limit_fault}
 use Rattle.lra_opening.specs.declared.points.Limit.TheVariants.{Variables, Points, Calls}
@@ -72,7 +72,7 @@ module _ (P : Program) where
     rvalue : (e : Rvalue) (path : List ℕ) (r : Frame) (q : ℕ) (x : Receiver) (S U : List Site) → r.calls_left ≡ more → GivenStands P r (Some e)
         → walk S (rvalue_events (inside P path r) path r.live e) ≡ passed U → HasRvalue path r q x S U e
     rvalue (value e) path r q x S U left stands w =
-        let g = act q (give r.base x e) in
+        let g = act q (store_value r.base x e) in
         (g, subst (λ V. WritesRvalue P path r q x S (value e) g V) (passed_same S U w) (value_written P path r S q x e g refl))
     rvalue (result c) path r q x S U left stands w = resulting c path r q x S U left (result_stands P r c stands) w
 
@@ -96,14 +96,14 @@ module _ (P : Program) where
         GivenStands P r o
         → walk S (given_events (inside P path r) path r.live o) ≡ passed U → HasReturn path r q S U o
     returned_to None n path r q S U back low left stands w =
-        let g = return_node q (give_any r.receiver) n r.live in
+        let g = return_node q (havoc r.receiver) n r.live in
         (g, subst (λ V. WritesReturn P path r q S None g V) (passed_same S U w) (return_any_written P path r S q n back low g refl))
     returned_to (Some (value e)) n path r q S U back low left stands w =
-        let g = return_node q (give r.base r.receiver e) n r.live in
+        let g = return_node q (store_value r.base r.receiver e) n r.live in
         (g, subst (λ V. WritesReturn P path r q S (Some (value e)) g V) (passed_same S U w) (return_value_written P path r S q n back low e g refl))
     returned_to (Some (result c)) n path r q S U back low left stands w =
         let (h, y) = resulting c path r q r.receiver S U left (result_stands P r c stands) w in
-        let k = seq (act q (keep n)) (leave r.live returned) in
+        let k = seq (act q (truncate_to n)) (leave r.live returned) in
         (seq h k, return_call_written P path r S q n back low U c h k (seq h k) y refl refl)
 
     -- out of `main`
@@ -113,7 +113,7 @@ module _ (P : Program) where
         let g = leave r.live returned in
         (g, subst (λ V. WritesReturn P path r q S None g V) (passed_same S U w) (end_any_written P path r S q back g refl))
     returned_out (Some (value e)) path r q S U back left stands w =
-        let g = seq (act q (give r.base r.receiver e)) (leave r.live returned) in
+        let g = seq (act q (store_value r.base r.receiver e)) (leave r.live returned) in
         (g, subst (λ V. WritesReturn P path r q S (Some (value e)) g V) (passed_same S U w) (end_value_written P path r S q back e g refl))
     returned_out (Some (result c)) path r q S U back left stands w =
         let (h, y) = resulting c path r q r.receiver S U left (result_stands P r c stands) w in
@@ -132,10 +132,10 @@ module _ (P : Program) where
       stmt absent path r S U left stands w = (empty, subst (λ V. WritesStmt P path r S absent empty V) (passed_same S U w) (absent_written P path r S))
       stmt (nothing at) path r S U left stands w = (point (length S), nothing_written P path r S U (length S) at refl w)
       stmt (block b end) path r S U left stands w =
-          let n = live_behind r.live b in
+          let n = live_after_items r.live b in
           let (V, a, e) = walk_parts S (items_events (inside P path r) path r.live b) (plain_site path end n ∷ []) U w in
           let (h, x) = items b path r S V left (block_stands P r b end stands) a in
-          let tail = seq (point (length V)) (act (length V) (keep r.live)) in
+          let tail = seq (point (length V)) (act (length V) (truncate_to r.live)) in
           (seq h tail, block_written P path r S V U (length V) n end b h tail (seq h tail) x refl refl e refl refl)
       stmt (assign at v e) path r S U left stands w =
           let (V, a, f) = walk_parts S (plain_site path at r.live ∷ []) (rvalue_events (inside P path r) path r.live e) U w in
@@ -169,7 +169,7 @@ module _ (P : Program) where
           let rounds = loop_node (length S) r.base c h' h in
           (rounds, loop_written P path r S V U (length S) at c s t rounds refl a (rounds_written P path r V W U (length S) c s t h' h rounds x y refl))
       stmt (for at init c s t) path r S U left stands w =
-          let n = live_behind r.live init in
+          let n = live_after_items r.live init in
           let begin = items_events (inside P path r) path r.live init in
           let turns = stmt_events (inside P path r) path n t in
           let rest = stmt_events (inside P path r) path n s in
@@ -182,7 +182,7 @@ module _ (P : Program) where
           let (h', y) = stmt s path (record r { live = n; breaks = Some n; continues = Some n }) X U left
           (body_stands P (record r { live = n }) at c s t inner) j in
           let rounds = loop_node (length S) r.base c h' h in
-          let tail = seq rounds (act (length S) (keep r.live)) in (
+          let tail = seq rounds (act (length S) (truncate_to r.live)) in (
             seq k tail,
             for_written P path r S V W U (length S) at n init c s t k rounds tail (seq k tail) refl refl a z
                 (rounds_written P path (record r { live = n }) W X U (length S) c s t h' h rounds x y refl) refl refl,
@@ -244,7 +244,7 @@ module _ (P : Program) where
     have_calls zero c path r q x gives S U left stands w = absurd (not_passed (Calls c.label) U (sym (no_call_more P path r.calls_left r.live S c left) ∙ w))
     have_calls (suc more) c path r q x gives S U left stands w =
         let (fn, found, fits) = the_callee P r c stands in
-        let n = live_behind (r.live + length fn.parameters) fn.body in
+        let n = live_after_items (r.live + length fn.parameters) fn.body in
         let here : walk S (call_events P (suc more) path r.live c) ≡ passed U = subst (λ z. walk S (call_events P z path r.live c) ≡ passed U) left w in
         let inner : walk S (function_events (call_events P more) (c.label ∷ path) r.live (Some fn)) ≡ passed U =
         subst (λ o. walk S (function_events (call_events P more) (c.label ∷ path) r.live o) ≡ passed U) found here in
@@ -256,30 +256,30 @@ module _ (P : Program) where
           calls_left = more;
           breaks = None;
           continues = None;
-          receiver = behind_result
+          receiver = result_receiver
               fn.result_type x;
           back = Some r.live;
         } in
         let (h, y) = items more (have_calls more) fn.body (c.label ∷ path) frame S V refl
-        (callee_stands P r r.live more (r.live + length fn.parameters) (behind_result fn.result_type x) c fn well stands found refl refl) a in
-        let g = callee_node q (length V) r.live (behind_result fn.result_type x) (gives (arguments_for fn.parameters c.arguments)) (length fn.parameters) h in (
+        (callee_stands P r r.live more (r.live + length fn.parameters) (result_receiver fn.result_type x) c fn well stands found refl refl) a in
+        let g = callee_node q (length V) r.live (result_receiver fn.result_type x) (gives (arguments_for fn.parameters c.arguments)) (length fn.parameters) h in (
           g,
           invoked P path r S c fn more x (c.label ∷ path) (length fn.parameters) fn.body left found refl refl refl V U q (length V) n gives h g fits y
               refl refl e
               refl,
         )
 
-    main_graph : (U : List Site) → walk [] (events_of P) ≡ passed U → (g : Node) × IsGraph P g
+    main_graph : (U : List Site) → walk [] (events_of P) ≡ passed U → (g : Node) × IsInlinedTree P g
     main_graph U w =
-        let n = live_behind (length P.globals) P.main.body in
+        let n = live_after_items (length P.globals) P.main.body in
         let (V, a, e) = walk_parts [] (items_events (call_events P 32) [] (length P.globals) P.main.body) (plain_site [] P.main.end n ∷ []) U
         (subst (λ es. walk [] es ≡ passed U) (sym (events_are P well.alone)) w) in
         let (h, y) = items 32 (have_calls 32) P.main.body [] (first_frame P) [] V refl (main_stands P (first_frame P) well (omega arith) refl refl refl) a in
         (seq h (point (length V)), whole_graph P well.alone V U h (seq h (point (length V))) (length V) y e refl refl)
 
-    walked_graph : (p : Progress) → walk [] (events_of P) ≡ p → (ls : List Labelled) → limit_fault ls 0 (events_of P) ≡ None → (g : Node) × IsGraph P g
+    walked_graph : (p : Progress) → walk [] (events_of P) ≡ p → (ls : List Labelled) → limit_fault ls 0 (events_of P) ≡ None → (g : Node) × IsInlinedTree P g
     walked_graph (passed U) e ls none = main_graph U e
     walked_graph (stopped x) e ls none = absurd (none-some _ (sym none ∙ sym (walk_fault ls [] (events_of P)) ∙ ap (fault_in ls) e))
 
-    pub has_graph : (ls : List Labelled) → limit_fault ls 0 (events_of P) ≡ None → (g : Node) × IsGraph P g
+    pub has_graph : (ls : List Labelled) → limit_fault ls 0 (events_of P) ≡ None → (g : Node) × IsInlinedTree P g
     has_graph ls none = walked_graph (walk [] (events_of P)) refl ls none

@@ -21,8 +21,8 @@ use Rattle.lra_opening.proofs.Standing.{the_callee}
 use Rattle.lra_graph.proofs.Calling.{IsCallee}
 use Rattle.lra_graph.proofs.Totals.{first_frame}
 use Rattle.lra_program.specs.declared.receivers.Receiver.{Receiver}
-use Rattle.lra_program.specs.Receivers.{nobody, behind_result}
-use Rattle.lra_program.specs.Step.{behind_main}
+use Rattle.lra_program.specs.Receivers.{nobody, result_receiver}
+use Rattle.lra_program.specs.Step.{main_receiver}
 
 -- labels are counted from 1
 end_counts : (P : resolved.Program) → IsWellFormed P → 1 ≤ P.main.end
@@ -50,7 +50,8 @@ main_read p f well read = slice_get_read p.functions.items (length p.functions.i
 abbrev pub begun_at : ℕ → Receiver → Frame
 begun_at n x = record { base = n; live = n; calls_left = 32; breaks = None; continues = None; receiver = x; back = None }
 
-pub frame_first : (p : Program) (n : ℕ) (x : Receiver) → n ≡ vec_len p.globals → x ≡ behind_main (program_view p) → begun_at n x ≡ first_frame (program_view p)
+pub frame_first : (p : Program) (n : ℕ) (x : Receiver) → n ≡ vec_len p.globals → x ≡ main_receiver (program_view p) →
+    begun_at n x ≡ first_frame (program_view p)
 frame_first p n x e gets = ap (λ z. begun_at z x) (e ∙ p.globals.ok.0) ∙ ap (λ y. begun_at (length p.globals.items) y) gets
 
 module _ (p : Program) (f : Function) where
@@ -64,9 +65,9 @@ module _ (p : Program) (f : Function) where
   main_end e = ap (λ o. (function_or o).end) (function_there p.main e)
 
   -- what gets main's value
-  pub main_receives : slice_get p.functions.items p.main ≡ Some f → (y x : Receiver) → y ≡ nobody → x ≡ behind_result f.result_type y → x ≡ behind_main
+  pub main_receives : slice_get p.functions.items p.main ≡ Some f → (y x : Receiver) → y ≡ nobody → x ≡ result_receiver f.result_type y → x ≡ main_receiver
       (program_view p)
-  main_receives e y x none gets = gets ∙ ap (λ z. behind_result f.result_type z) none ∙ ap (λ o. behind_result (function_or o).result_type nobody)
+  main_receives e y x none gets = gets ∙ ap (λ z. result_receiver f.result_type z) none ∙ ap (λ o. result_receiver (function_or o).result_type nobody)
       (sym (function_there p.main e))
 
 -- as many arguments as there may be fit behind the variables that live
@@ -104,13 +105,14 @@ module _ (p : Program) (r : Frame) (c : Call) (stands : CallStands (program_view
 
     -- its body, under the path and in the frame that are made for it
     pub callee_is : (path : List ℕ) (x y : Receiver) (q : List ℕ) (s : Frame) (items : List BlockItem) → (r.calls_left ≡ 0 → ⊥) → q ≡ c.label ∷ path
-        → y ≡ behind_result f.result_type x → s ≡ callee_frame r y (length (call_view c).arguments) → items ≡ f.body.items.items → IsCallee (program_view p)
+        → y ≡ result_receiver f.result_type x → s ≡ callee_frame r y (length (call_view c).arguments) → items ≡ f.body.items.items → IsCallee (program_view p)
         path r x (call_view c) q s (items_of (map item_view items))
     callee_is path x y q s items some within gets frame body = record {
       fn = function_view f;
       found = found;
       some_left = some;
       within = within;
-      frame = frame ∙ ap (λ z. callee_frame r z (length (call_view c).arguments)) gets ∙ ap (λ k. callee_frame r (behind_result f.result_type x) k) called_fits;
+      frame = frame ∙ ap (λ z. callee_frame r z (length (call_view c).arguments)) gets
+          ∙ ap (λ k. callee_frame r (result_receiver f.result_type x) k) called_fits;
       body = ap (λ (z : List BlockItem). items_of (map item_view z)) body ∙ sym (shown_items f.body);
     }

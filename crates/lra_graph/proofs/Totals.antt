@@ -7,12 +7,13 @@ use Rattle.std.proofs.lemmas.Bool.{lt-ltb, le-ltb, ltb-false}
 use Rattle.std.proofs.lemmas.Option.{none-some, same_Some}
 use Rattle.lra_base.specs.declared.refusals.Refusal.{Refusal}
 use Rattle.lra_program.specs.Program.{BlockItems, Program}
-use Rattle.lra_program.specs.Step.{behind_main}
+use Rattle.lra_program.specs.Step.{main_receiver}
 use Rattle.lra_tree.specs.Labels.{Labelled}
-use Rattle.lra_operations.specs.Graph.{Node, seq, point}
-use Rattle.lra_program.specs.Sites.{Site, Event, comes, one_call_more, plain_site, live_behind, items_events, call_events, events_of, sites_in, sites_of}
-use Rattle.lra_operations.specs.Inlined.{move, Has, InlAll, main_frame, main_spot}
-use Rattle.lra_operations.specs.Agree.{IsGraph}
+use Rattle.lra_operations.specs.Tree.{Node, seq, point}
+use Rattle.lra_program.specs.Sites.{Site, Event, comes, one_call_more, plain_site, live_after_items, items_events, call_events, events_of, event_sites}
+use Rattle.lra_program.specs.Sites.{sites_of}
+use Rattle.lra_operations.specs.Inlined.{move, IsSiteAt, InlineItems, main_frame, main_inline_state}
+use Rattle.lra_operations.specs.Agree.{IsInlinedTree}
 use Rattle.lra_program.specs.WellFormed.{IsWellFormed}
 use Rattle.lra_meaning.specs.Refuse.{greatest_live, greatest_points, limit_fault}
 use Rattle.lra_opening.specs.declared.points.Limit.{Limit}
@@ -23,11 +24,11 @@ use Rattle.lra_opening.specs.Building.{inside, WritesItems, IsFrame}
 use Rattle.lra_opening.proofs.Walking.{walk_then, walk_stop, chosen, chosen_passed, point_there, one_longer, begins_same, passed_same, not_passed}
 use Rattle.lra_opening.proofs.Writing.{Pointed, pointed_begins}
 
-pub walk_sites : (S : List Site) (es : List Event) (U : List Site) → walk S es ≡ passed U → U ≡ S ++ sites_in es
+pub walk_sites : (S : List Site) (es : List Event) (U : List Site) → walk S es ≡ passed U → U ≡ S ++ event_sites es
 walk_sites S [] U e = sym (passed_same S U e) ∙ sym (append-nil S)
 walk_sites S (comes s ∷ es) U e =
     walk_sites (S ++ s ∷ []) es U (chosen_passed (nat_lt greatest_live s.live) (nat_lt greatest_points (suc (length S))) (Variables s.label) (Points s.label) (walk (S ++ s ∷ []) es) U e)
-    ∙ append_assoc S (s ∷ []) (sites_in es)
+    ∙ append_assoc S (s ∷ []) (event_sites es)
 walk_sites S (one_call_more at ∷ es) U e = absurd (not_passed (Calls at) U e)
 
 -- what a progress says of the refusal
@@ -55,7 +56,7 @@ few_there n full x y r U e =
     let no : greatest_live < n → ⊥ = λ l. not_passed x U (subst (λ many. chosen many full x y r ≡ passed U) (lt-ltb greatest_live n l) e) in
     omega (arith, no)
 
-pub few_live : (S : List Site) (es : List Event) (U : List Site) → walk S es ≡ passed U → (q : ℕ) (s : Site) → slice_get (sites_in es) q ≡ Some s → s.live ≤ greatest_live
+pub few_live : (S : List Site) (es : List Event) (U : List Site) → walk S es ≡ passed U → (q : ℕ) (s : Site) → slice_get (event_sites es) q ≡ Some s → s.live ≤ greatest_live
 few_live S [] U e q s f = absurd (none-some s f)
 few_live S (comes t ∷ es) U e zero s f =
     subst (λ (z : Site). z.live ≤ greatest_live) (same_Some t s f) (few_there t.live (nat_lt greatest_points (suc (length S))) (Variables t.label) (Points t.label) (walk (S ++ t ∷ []) es) U e)
@@ -73,14 +74,15 @@ first_frame P = record {
   calls_left = 32;
   breaks = None;
   continues = None;
-  receiver = behind_main P;
+  receiver = main_receiver P;
   back = None;
 }
 
 module _ (P : Program) (alone : P.main.parameters ≡ []) where
   -- main's items, and the point of its end
   abbrev main_events : List Event
-  main_events = items_events (call_events P 32) [] (length P.globals) P.main.body ++ plain_site [] P.main.end (live_behind (length P.globals) P.main.body) ∷ []
+  main_events = items_events (call_events P 32) [] (length P.globals) P.main.body ++ plain_site [] P.main.end (live_after_items (length P.globals) P.main.body)
+      ∷ []
 
   pub events_are : main_events ≡ events_of P
   events_are = rw alone (rw add-zero refl)
@@ -89,29 +91,29 @@ module _ (P : Program) (alone : P.main.parameters ≡ []) where
   last_site n = record { path = []; label = P.main.end; live = n; asserts = false }
 
   pub whole_walk : (S V U : List Site) (h : Node) → WritesItems P [] (first_frame P) S P.main.body h V
-      → Pointed V (last_site (live_behind (length P.globals) P.main.body)) U
+      → Pointed V (last_site (live_after_items (length P.globals) P.main.body)) U
       → walk S (events_of P) ≡ passed U
   whole_walk S V U h x e = subst (λ es. walk S es ≡ passed U) events_are
       (walk_then S (items_events (call_events P 32) [] (length P.globals) P.main.body)
-      (plain_site [] P.main.end (live_behind (length P.globals) P.main.body) ∷ []) V (passed U) x.walked e)
+      (plain_site [] P.main.end (live_after_items (length P.globals) P.main.body) ∷ []) V (passed U) x.walked e)
 
   -- where the items are stopped, and where their end is
   pub items_stopped : (S : List Site) (x : Limit) → walk S (items_events (call_events P 32) [] (length P.globals) P.main.body) ≡ stopped x
       → walk S (events_of P) ≡ stopped x
   items_stopped S x e = subst (λ es. walk S es ≡ stopped x) events_are
       (walk_stop S (items_events (call_events P 32) [] (length P.globals) P.main.body)
-      (plain_site [] P.main.end (live_behind (length P.globals) P.main.body) ∷ []) x e)
+      (plain_site [] P.main.end (live_after_items (length P.globals) P.main.body) ∷ []) x e)
 
   pub end_stopped : (S V : List Site) (x : Limit) → walk S (items_events (call_events P 32) [] (length P.globals) P.main.body) ≡ passed V
-      → walk V (plain_site [] P.main.end (live_behind (length P.globals) P.main.body) ∷ []) ≡ stopped x → walk S (events_of P) ≡ stopped x
+      → walk V (plain_site [] P.main.end (live_after_items (length P.globals) P.main.body) ∷ []) ≡ stopped x → walk S (events_of P) ≡ stopped x
   end_stopped S V x e f = subst (λ es. walk S es ≡ stopped x) events_are
       (walk_then S (items_events (call_events P 32) [] (length P.globals) P.main.body)
-      (plain_site [] P.main.end (live_behind (length P.globals) P.main.body) ∷ []) V (stopped x) e f)
+      (plain_site [] P.main.end (live_after_items (length P.globals) P.main.body) ∷ []) V (stopped x) e f)
 
-  pub whole_graph : (V U : List Site) (h g : Node) (q : ℕ) → WritesItems P [] (first_frame P) [] P.main.body h V → Pointed V (last_site (live_behind (length P.globals) P.main.body)) U
-      → q ≡ length V → g ≡ seq h (point q) → IsGraph P g
+  pub whole_graph : (V U : List Site) (h g : Node) (q : ℕ) → WritesItems P [] (first_frame P) [] P.main.body h V → Pointed V (last_site (live_after_items (length P.globals) P.main.body)) U
+      → q ≡ length V → g ≡ seq h (point q) → IsInlinedTree P g
   whole_graph V U h g q x e i a =
-      let n = live_behind (length P.globals) P.main.body in
+      let n = live_after_items (length P.globals) P.main.body in
       let same : U ≡ sites_of P = whole_sites P U (whole_walk [] V U h x e) in
       let is : IsFrame P [] (first_frame P) (main_frame P) = record {
         path = refl;
@@ -125,8 +127,9 @@ module _ (P : Program) (alone : P.main.parameters ≡ []) where
         body = h;
         last = length V;
         live = n;
-        inlined = subst (λ T. InlAll P T (main_spot P) P.main.body h n (length V)) same (x.placed U (main_frame P) (pointed_begins V U (last_site n) e) is);
-        ends = subst (λ T. Has T (move (main_spot P) n (length V)) P.main.end) same (point_there V U U (last_site n) e (begins_same U));
+        inlined = subst (λ T. InlineItems P T (main_inline_state P) P.main.body h n (length V)) same
+            (x.placed U (main_frame P) (pointed_begins V U (last_site n) e) is);
+        ends = subst (λ T. IsSiteAt T (move (main_inline_state P) n (length V)) P.main.end) same (point_there V U U (last_site n) e (begins_same U));
         all = rw (← same) (one_longer V U (last_site n) e);
         parts = rw (← i) a;
       }
@@ -139,20 +142,20 @@ module _ (P : Program) (well : IsWellFormed P) (p : List ℕ) (r : Frame) (S : L
       subst (λ z. WritesItems P [] (first_frame P) S z h V) (sym body)
       (subst (λ z. WritesItems P [] z S b h V) first (subst (λ z. WritesItems P z r S b h V) from x))
 
-  lives_as : (n : ℕ) → n ≡ live_behind r.live b → n ≡ live_behind (length P.globals) P.main.body
-  lives_as n same = same ∙ ap (λ (z : Frame). live_behind z.live b) first ∙ ap (λ z. live_behind (length P.globals) z) (sym body)
+  lives_as : (n : ℕ) → n ≡ live_after_items r.live b → n ≡ live_after_items (length P.globals) P.main.body
+  lives_as n same = same ∙ ap (λ (z : Frame). live_after_items z.live b) first ∙ ap (λ z. live_after_items (length P.globals) z) (sym body)
 
-  end_as : (n : ℕ) (V : List Site) (w : Progress) → n ≡ live_behind r.live b → walk V (plain_site p at n ∷ []) ≡ w
-      → walk V (plain_site [] P.main.end (live_behind (length P.globals) P.main.body) ∷ []) ≡ w
+  end_as : (n : ℕ) (V : List Site) (w : Progress) → n ≡ live_after_items r.live b → walk V (plain_site p at n ∷ []) ≡ w
+      → walk V (plain_site [] P.main.end (live_after_items (length P.globals) P.main.body) ∷ []) ≡ w
   end_as n V w same e =
       subst (λ z. walk V (plain_site [] P.main.end z ∷ []) ≡ w) (lives_as n same)
       (subst (λ z. walk V (plain_site [] z n ∷ []) ≡ w) (sym ends) (subst (λ z. walk V (plain_site z at n ∷ []) ≡ w) from e))
 
-  module _ (V U : List Site) (n q : ℕ) (h : Node) (same : n ≡ live_behind r.live b) (x : WritesItems P p r S b h V) (e : walk V (plain_site p at n ∷ []) ≡ passed U) where
+  module _ (V U : List Site) (n q : ℕ) (h : Node) (same : n ≡ live_after_items r.live b) (x : WritesItems P p r S b h V) (e : walk V (plain_site p at n ∷ []) ≡ passed U) where
     pub made_walk : walk S (events_of P) ≡ passed U
     made_walk = whole_walk P well.alone S V U h (writes_as h V x) (end_as n V (passed U) same e)
 
-    pub made_graph : (g : Node) → q ≡ length V → g ≡ seq h (point q) → S ≡ [] → IsGraph P g
+    pub made_graph : (g : Node) → q ≡ length V → g ≡ seq h (point q) → S ≡ [] → IsInlinedTree P g
     made_graph g i a none =
         whole_graph P well.alone V U h g q (subst (λ z. WritesItems P [] (first_frame P) z P.main.body h V) none (writes_as h V x))
         (end_as n V (passed U) same e) i a
@@ -163,7 +166,7 @@ module _ (P : Program) (well : IsWellFormed P) (p : List ℕ) (r : Frame) (S : L
       (subst (λ (z : Frame). walk S (items_events (inside P [] z) [] z.live b) ≡ stopped x) first
       (subst (λ z. walk S (items_events (inside P z r) z r.live b) ≡ stopped x) from e)))
 
-  pub stopped_at_end : (V : List Site) (h : Node) (n : ℕ) (x : Limit) → n ≡ live_behind r.live b → WritesItems P p r S b h V
+  pub stopped_at_end : (V : List Site) (h : Node) (n : ℕ) (x : Limit) → n ≡ live_after_items r.live b → WritesItems P p r S b h V
       → walk V (plain_site p at n ∷ []) ≡ stopped x
       → walk S (events_of P) ≡ stopped x
   stopped_at_end V h n x same y e = end_stopped P well.alone S V x (writes_as h V y).walked (end_as n V (stopped x) same e)

@@ -7,10 +7,10 @@ mod parts;
 mod whole;
 
 ghost use Rattle.std.specs.Prelude.{◌≡◌, ◌<◌, [], ◌∷◌, ◌++◌, map, IfOk};
-ghost use Rattle.lra_program.specs.Sites.{live_behind};
+ghost use Rattle.lra_program.specs.Sites.{live_after_items};
 ghost use Rattle.lra_program.specs.WellFormed.{IsWellFormed};
 ghost use Rattle.lra_program.specs.ProgramViews.{item_view, items_of};
-ghost use Rattle.lra_operations.specs.GraphViews.{node_view};
+ghost use Rattle.lra_operations.specs.TreeViews.{node_view};
 ghost use Rattle.lra_opening.specs.Limits.{OnLimit};
 ghost use Rattle.lra_opening.specs.Inlining.{points_in, program_of, program_around, ItemsStand, AreItems, StopsItems};
 ghost use Rattle.lra_opening.specs.Open.{Due, due, part_view, IsWritten, Leads, StandsAs, Stops, StopsAs};
@@ -93,7 +93,7 @@ fn inline_items<'a>(
 ) -> Result<Written, GraphError>
     requires well { IsWellFormed (program_around around.now) }
     requires stands { ItemsStand around.now (items_of (map item_view items.now)) }
-    ensures last { IfOk result (λ w. w.live ≡ live_behind around.now.frame.live
+    ensures last { IfOk result (λ w. w.live ≡ live_after_items around.now.frame.live
         (items_of (map item_view items.now))) }
     ensures written { IfOk result (λ w. AreItems around.now sites.old sites.new
         (items_of (map item_view items.now)) w.node) }

@@ -5,7 +5,7 @@ use Rattle.std.proofs.lemmas.Option.{none-some, same_Some}
 use Rattle.lra_linear_spec.proofs.Membership.{map_has, map_from}
 use Rattle.lra_domain.specs.declared.Exactness.{Exactness}
 use Rattle.lra_program.specs.Step.{Op}
-use Rattle.lra_operations.specs.Asked.{Asked}
+use Rattle.lra_operations.specs.CheckedOperations.{OpAtPoint}
 use Rattle.lra_flow.specs.Judging.{Finding, Finds, IsFoundOn, answer_of, first_flagged}
 use Rattle.lra_flow.specs.Operations.{Operations}
 use Rattle.lra_flow.specs.Pass.{noted}
@@ -31,11 +31,11 @@ module _ {V H A B : Type 0} (ops : Operations V H) (Told : Op → V → A → Ex
   shown_at (j ∷ js) zero k is = (j, refl, same_Some (shown j) k is)
   shown_at (j ∷ js) (suc i) k is = shown_at js i k is
 
-  found_shown : (asked : List Asked) (values : List V) (j : Finding A) → IsFoundOn ops Told asked values j → IsFoundOn ops Shown asked values (shown j)
+  found_shown : (asked : List OpAtPoint) (values : List V) (j : Finding A) → IsFoundOn ops Told asked values j → IsFoundOn ops Shown asked values (shown j)
   found_shown asked values j (a, there, point, (v, w, c, d, at, declared, told, worst)) =
       (a, there, point, (v, w, c, d, at, declared, same a.op w j.answer d told, worst))
 
-  pub finds_shown : (asked : List Asked) (values : List V) (flagged behind : Option ℕ) (answers : List (ℕ × A))
+  pub finds_shown : (asked : List OpAtPoint) (values : List V) (flagged behind : Option ℕ) (answers : List (ℕ × A))
       → Finds ops Told asked values flagged answers behind → Finds ops Shown asked values flagged (map shown_answer answers) behind
   finds_shown asked values flagged behind answers finds = record {
     found = map shown finds.found;

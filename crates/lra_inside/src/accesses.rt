@@ -3,7 +3,7 @@
 ghost use Rattle.std.specs.Prelude.{◌≡◌, ◌≤◌, ◌↔◌, length, map, IsTrue, IfOk};
 ghost use Rattle.lra_program.specs.Accesses.{expr_accesses, op_accesses, op_accesses_any};
 ghost use Rattle.lra_program.specs.ProgramViews.{expr_view};
-ghost use Rattle.lra_operations.specs.GraphViews.{op_view};
+ghost use Rattle.lra_operations.specs.TreeViews.{op_view};
 ghost use Rattle.lra_doings.specs.Doings.{doing_view};
 ghost use Rattle.lra_array.specs.Listed.{access_view};
 ghost use Rattle.lra_flow.specs.Accesses.{outside_of, BothInside, OneInside, OpInside};
@@ -197,9 +197,14 @@ fn judge_change<D: Domain>(
         value.now told.old.items e told.new.items) }
 {
     match op {
-        Op::Append(_) | Op::Fill(_) | Op::GiveAny(_) | Op::Keep(_) => Ok(Exactness::Exact),
-        Op::Give(base, _, _) => judge_all(Surroundings { alloc, base: *base }, op, value, told),
-        Op::GiveElement(base, _, _) => {
+        Op::Append(_) | Op::Fill(_) | Op::Havoc(_) | Op::TruncateTo(_) => Ok(Exactness::Exact),
+        Op::StoreValue(base, _, _) => judge_all(
+            Surroundings { alloc, base: *base },
+            op,
+            value,
+            told,
+        ),
+        Op::StoreElement(base, _, _) => {
             judge_all(Surroundings { alloc, base: *base }, op, value, told)
         }
         Op::Push(base, _) => judge_all(Surroundings { alloc, base: *base }, op, value, told),

@@ -1,8 +1,8 @@
 //! What is judged of the accesses of a whole program.
 
 ghost use Rattle.std.specs.Prelude.{◌<◌, None, length, map, All, IfOk};
-ghost use Rattle.lra_operations.specs.Asked.{accessed_in};
-ghost use Rattle.lra_operations.specs.GraphViews.{node_view};
+ghost use Rattle.lra_operations.specs.CheckedOperations.{accessing_ops};
+ghost use Rattle.lra_operations.specs.TreeViews.{node_view};
 ghost use Rattle.lra_flow.specs.Accesses.{JudgesAccesses};
 ghost use Rattle.lra_flow.specs.Operations.{dropping};
 ghost use Rattle.lra_flow.specs.Room.{most_live};
@@ -33,7 +33,7 @@ pub fn judge_accesses<D: Domain>(
     flagged: Option<usize>,
 ) -> Result<Inside, AllocError>
     requires few { All (λ v. D.abstraction.dims v < most_live) values.now }
-    requires below { AreBelow (length values.now) (accessed_in None (node_view tree.now)) }
+    requires below { AreBelow (length values.now) (accessing_ops None (node_view tree.now)) }
     ensures { IfOk result
         (λ i. JudgesAccesses D.abstraction (dropping D.abstraction) (node_view tree.now)
         values.now flagged (map told_view i.verdicts.items) i.flagged) }

@@ -6,8 +6,8 @@ use Rattle.lra_base.specs.Operators.{differs}
 use Rattle.lra_program.specs.Program.{global, Variable, literal, read, compare, value, Stmt, assign, assert, no_more, statement, Function, Program}
 use Rattle.lra_program.specs.Step.{State, Config, run, all, end_of}
 use Rattle.lra_program.specs.Run.{Point}
-use Rattle.lra_interleavings.specs.Interleavings.{Thread, Threads, own_of, left_by, GoesOn, IsAtFirst, AreBegun, Interleaves, begins, moves}
-use Rattle.lra_interleavings.specs.Interleavings.{AtThread, FailsThread, Gives}
+use Rattle.lra_interleavings.specs.Interleavings.{Thread, Threads, own_of, left_by, StepsToPoint, IsAtFirst, AreBegun, Interleaves, begins, moves}
+use Rattle.lra_interleavings.specs.Interleavings.{AtThread, FailsThread, ThreadWritesValue}
 
 -- long g; void t1(void){ g=1; g=1; } void t2(void){ assert(g!=1); }
 abbrev shared : Variable
@@ -96,7 +96,7 @@ begun_first = record { globals = refl; arrays = refl; count = refl; first = firs
 abbrev threads_next : Threads
 threads_next = left_by whole threads_first 0 (at_two (pos 1))
 
-first_step : GoesOn whole both threads_first 0 threads_next
+first_step : StepsToPoint whole both threads_first 0 threads_next
 first_step = record {
   function = setting;
   thread = own_of 1 (at_one (pos 0));
@@ -146,7 +146,7 @@ second_fails = (
 abbrev threads_last : Threads
 threads_last = left_by whole threads_next 0 (record { items = end_of 3 1 ∷ []; here = record { path = []; base = 1 }; state = state_with (pos 1) })
 
-abbrev second_step : GoesOn whole both threads_next 0 threads_last
+abbrev second_step : StepsToPoint whole both threads_next 0 threads_last
 second_step = record {
   function = setting;
   thread = own_of 1 (at_two (pos 1));
@@ -160,7 +160,7 @@ second_step = record {
   after = refl;
 }
 
-same_again : Gives whole both 0 0 (pos 1)
+same_again : ThreadWritesValue whole both 0 0 (pos 1)
 same_again = record {
   global = omega arith;
   before = threads_next;

@@ -2,7 +2,7 @@
 pub mod Operations
 pub mod MachineSteps
 -- From one point to the next, and all threads at once.
-pub mod Pieces
-pub mod Weaving
+pub mod RunSegments
+pub mod ThreadRuns
 -- Worked examples.
 mod InterleavingExamples

@@ -16,11 +16,12 @@ use Rattle.lra_base.specs.declared.number_types.NumberType.{NumberType}
 use Rattle.lra_program.specs.declared.arrays.Array.{Array}
 use Rattle.lra_program.specs.Program.{Element}
 use Rattle.lra_program.specs.Receivers.{waiting_in, accepts}
-use Rattle.lra_program.specs.Value.{◌>>=◌, number, Drawn, draw, draws_of, value_of, values_of, truth_of}
+use Rattle.lra_program.specs.Value.{◌>>=◌, number, Drawn, first_draw, draws_of, value_of, values_of, truth_of}
 use Rattle.lra_program.proofs.TypeLaws.{bind_some}
-use Rattle.lra_program.specs.Step.{State, scene_at, Op, append, fill, give, give_element, give_any, push, push_for, keep, test, run_op, drawn_for}
+use Rattle.lra_program.specs.Step.{State, environment_at, Op, append, fill, store_value, store_element, havoc, push, push_for, truncate_to, test, run_op}
+use Rattle.lra_program.specs.Step.{drawn_for}
 use Rattle.lra_program.specs.Step.{put_waiting, put_in, put, receive, pushed, filled, aim, tested}
-use Rattle.lra_program.specs.Gifts.{place_in, place_of, gift_of}
+use Rattle.lra_program.specs.WrittenVariables.{cell_variable, target_variable, written_variable}
 use Rattle.lra_program.proofs.StepLaws.{aim_keeps, is_kept, store_waiting}
 
 -- lists --------------------------------------------------------------------------------------------------------------
@@ -64,27 +65,27 @@ wrote_at n k z a l (inl h) =
     (rw length-set l, inr (k, z, h, refl, set_there a k z (omega (arith, h, l)), take-set-lt n a k z h))
 wrote_at n k z a l (inr h) = (rw length-set l, inl (take-set-le n a k z h))
 
-wrote_in : (n : ℕ) (c : Cell) (z : ℤ) (s : State) → n ≤ length s.store → Wrote n (place_in c) s.store (put_in c z s).store
+wrote_in : (n : ℕ) (c : Cell) (z : ℤ) (s : State) → n ≤ length s.store → Wrote n (cell_variable c) s.store (put_in c z s).store
 wrote_in n (Variable k) z s l = wrote_at n k z s.store l (cases_lt k n)
 wrote_in n (Waiting p) z s l = wrote_waiting n p z s.waiting s l
 
 wrote_to : (n : ℕ) (o : Option Target) (z : ℤ) (s : State) → n ≤ length s.store
-    → Wrote n (place_of o) s.store (put o z s).store
+    → Wrote n (target_variable o) s.store (put o z s).store
 wrote_to n None z s l = as_it_was n None s.store s.store l refl
 wrote_to n (Some t) z s l = wrote_in n t.cell z s l
 
 wrote_received : (n : ℕ) (x : Receiver) (s : State) (v : Drawn ℤ) (t : State) → n ≤ length s.store → receive x s v ≡ Some t
-    → Wrote n (place_of x.target) s.store t.store
+    → Wrote n (target_variable x.target) s.store t.store
 wrote_received n x s None t l e = absurd (none-some t e)
 wrote_received n x s (Some r) t l e =
     let there : State = record s { draws = r.1 } in
-    subst (λ (u : State). Wrote n (place_of x.target) s.store u.store) (sym (is_kept true (accepts x r.0) (put x.target r.0 there) t e))
+    subst (λ (u : State). Wrote n (target_variable x.target) s.store u.store) (sym (is_kept true (accepts x r.0) (put x.target r.0 there) t e))
     (wrote_to n x.target r.0 there l)
 
 wrote_drawn : (n : ℕ) (o : Option Target) (x : Receiver) (s t : State) → n ≤ length s.store → drawn_for o x s ≡ Some t
-    → Wrote n (place_of x.target) s.store t.store
-wrote_drawn n None x s t l e = as_it_was n (place_of x.target) s.store t.store l (ap (λ (u : State). u.store) (sym (same_Some s t e)))
-wrote_drawn n (Some y) x s t l e = wrote_received n x s (draw s.draws) t l e
+    → Wrote n (target_variable x.target) s.store t.store
+wrote_drawn n None x s t l e = as_it_was n (target_variable x.target) s.store t.store l (ap (λ (u : State). u.store) (sym (same_Some s t e)))
+wrote_drawn n (Some y) x s t l e = wrote_received n x s (first_draw s.draws) t l e
 
 -- one of the store's variables more, or several
 longer : (n : ℕ) (a new : List ℤ) (o : Option ℕ) (t : State) → n ≤ length a → a ++ new ≡ t.store → Wrote n o a t.store
@@ -122,27 +123,27 @@ behind_aim n base x s t u o e later l =
 abbrev pub KeepsMany : ℕ → Op → Type 0
 KeepsMany n (append t) = ⊤
 KeepsMany n (fill a) = ⊤
-KeepsMany n (give base x e) = ⊤
-KeepsMany n (give_any x) = ⊤
-KeepsMany n (give_element base x e) = ⊤
+KeepsMany n (store_value base x e) = ⊤
+KeepsMany n (havoc x) = ⊤
+KeepsMany n (store_element base x e) = ⊤
 KeepsMany n (push base given) = ⊤
 KeepsMany n (push_for base x given) = ⊤
-KeepsMany n (keep m) = n ≤ m
+KeepsMany n (truncate_to m) = n ≤ m
 KeepsMany n (test base c wanted) = ⊤
 
-pub wrote : (n : ℕ) (op : Op) (s t : State) → n ≤ length s.store → KeepsMany n op → run_op op s ≡ Some t → Wrote n (gift_of op) s.store t.store
-wrote n (append y) s t l k e = wrote_appended n y s (draw s.draws) t l e
+pub wrote : (n : ℕ) (op : Op) (s t : State) → n ≤ length s.store → KeepsMany n op → run_op op s ≡ Some t → Wrote n (written_variable op) s.store t.store
+wrote n (append y) s t l k e = wrote_appended n y s (first_draw s.draws) t l e
 wrote n (fill a) s t l k e = wrote_filled n a s (draws_of a.number_type a.length s.draws) t l e
-wrote n (give base x v) s t l k e = wrote_received n x s (value_of v (scene_at base s) s.draws) t l e
-wrote n (give_any x) s t l k e = wrote_drawn n x.target x s t l e
-wrote n (give_element base x v) s t l k e =
-    let (m, is, rest) = bind_some (aim base x s) (λ m. receive (waiting_in x.array) m (value_of v (scene_at base m) m.draws)) t e in
-    behind_aim n base x s m t None is (λ h. wrote_received n (waiting_in x.array) m (value_of v (scene_at base m) m.draws) t h rest) l
-wrote n (push base given) s t l k e = wrote_pushed n s (values_of given (scene_at base s) s.draws) t l e
+wrote n (store_value base x v) s t l k e = wrote_received n x s (value_of v (environment_at base s) s.draws) t l e
+wrote n (havoc x) s t l k e = wrote_drawn n x.target x s t l e
+wrote n (store_element base x v) s t l k e =
+    let (m, is, rest) = bind_some (aim base x s) (λ m. receive (waiting_in x.array) m (value_of v (environment_at base m) m.draws)) t e in
+    behind_aim n base x s m t None is (λ h. wrote_received n (waiting_in x.array) m (value_of v (environment_at base m) m.draws) t h rest) l
+wrote n (push base given) s t l k e = wrote_pushed n s (values_of given (environment_at base s) s.draws) t l e
 wrote n (push_for base x given) s t l k e =
-    let (m, is, rest) = bind_some (aim base x s) (λ m. pushed m (values_of given (scene_at base m) m.draws)) t e in
-    behind_aim n base x s m t None is (λ h. wrote_pushed n m (values_of given (scene_at base m) m.draws) t h rest) l
-wrote n (keep m) s t l k e =
+    let (m, is, rest) = bind_some (aim base x s) (λ m. pushed m (values_of given (environment_at base m) m.draws)) t e in
+    behind_aim n base x s m t None is (λ h. wrote_pushed n m (values_of given (environment_at base m) m.draws) t h rest) l
+wrote n (truncate_to m) s t l k e =
     let same : take m s.store ≡ t.store = ap (λ (u : State). u.store) (same_Some (record s { store = take m s.store }) t e) in
     subst (λ (b : List ℤ). Wrote n None s.store b) same (kept_long n m s.store k l, inl (take-take n m s.store k))
-wrote n (test base c wanted) s t l k e = wrote_tested n wanted s (truth_of c (scene_at base s) s.draws) t l e
+wrote n (test base c wanted) s t l k e = wrote_tested n wanted s (truth_of c (environment_at base s) s.draws) t l e

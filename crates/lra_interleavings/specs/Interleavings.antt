@@ -9,11 +9,11 @@ use Rattle.lra_program.specs.declared.program.GlobalVariable.{GlobalVariable}
 use Rattle.lra_program.specs.Program.{Function, Program}
 use Rattle.lra_program.specs.Arrays.{Contents, elements_of}
 use Rattle.lra_program.specs.Value.{is_word}
-use Rattle.lra_program.specs.Step.{State, Here, Item, Config, next}
+use Rattle.lra_program.specs.Step.{State, CallContext, Item, Config, next}
 use Rattle.lra_program.specs.Run.{zeros, start, label_on, Point, IsOn, IsFailing}
-use Rattle.lra_program.specs.Trails.{Met, passes, Alone, Walks}
-use Rattle.lra_program.specs.Accesses.{IsStraying}
-use Rattle.lra_interleavings.specs.Gifts.{StepGives}
+use Rattle.lra_program.specs.Traces.{TraceEvent, visit, NoChange, TracedSteps}
+use Rattle.lra_program.specs.Accesses.{IsOutOfBounds}
+use Rattle.lra_interleavings.specs.Writes.{StepWrites}
 
 -- the program of the thread whose function this is
 abbrev pub thread_program : Program → Function → Program
@@ -25,7 +25,7 @@ thread_program P f = record P { main = f }
 -- indexes that wait, and the draws that are left to it
 pub record Thread : Type 0 where
   pub items : List Item
-  pub here : Here
+  pub here : CallContext
   pub variables : List ℤ
   pub arrays : Contents
   pub waiting : List ℕ
@@ -82,7 +82,7 @@ ended w k = record w { threads = slice_set w.threads k None }
 -- So many steps of the program, it alone, lead from one configuration, with this point on top, to another; the point is
 -- met, and no further one.
 abbrev pub LeadsOn : Program → ℕ → Point → Config → Config → Type 0
-LeadsOn P n p c d = IsOn c p × Walks Alone P n c [] d (passes p c.state ∷ [])
+LeadsOn P n p c d = IsOn c p × TracedSteps NoChange P n c [] d (visit p c.state ∷ [])
 
 -- where no step follows, and no point is on top
 abbrev pub IsOver : Program → Config → Type 0
@@ -95,7 +95,7 @@ module _ (P : Program) (fs : List Function) where
     pub thread : slice_get w.threads k ≡ Some (Some t)
 
   -- from its point to its next one
-  pub record GoesOn (w : Threads) (k : ℕ) (v : Threads) : Type 0 where
+  pub record StepsToPoint (w : Threads) (k : ℕ) (v : Threads) : Type 0 where
     pub function : Function
     pub thread : Thread
     pub runs : RunsThere w k function thread
@@ -109,7 +109,7 @@ module _ (P : Program) (fs : List Function) where
 
   -- from its point to where no step follows, which may be the point: it returns, stops, or fails. Nothing that it does
   -- on this way is there for the others.
-  pub record EndsThere (w : Threads) (k : ℕ) (v : Threads) : Type 0 where
+  pub record StepsToEnd (w : Threads) (k : ℕ) (v : Threads) : Type 0 where
     pub function : Function
     pub thread : Thread
     pub runs : RunsThere w k function thread
@@ -122,8 +122,8 @@ module _ (P : Program) (fs : List Function) where
     pub after : v ≡ ended w k
 
   -- one step of them together
-  abbrev pub Moves : Threads → ℕ → Threads → Type 0
-  Moves w k v = GoesOn w k v ⊎ EndsThere w k v
+  abbrev pub ThreadStep : Threads → ℕ → Threads → Type 0
+  ThreadStep w k v = StepsToPoint w k v ⊎ StepsToEnd w k v
 
   -- the thread stands at its first point, with any draws of 64 bits
   pub record IsAtFirst (f : Function) (t : Thread) : Type 0 where
@@ -132,7 +132,7 @@ module _ (P : Program) (fs : List Function) where
     pub steps : ℕ
     pub config : Config
     pub point : Point
-    pub walks : Walks Alone (thread_program P f) steps (start (thread_program P f) draws) [] config []
+    pub walks : TracedSteps NoChange (thread_program P f) steps (start (thread_program P f) draws) [] config []
     pub arrives : IsOn config point
     pub own : t ≡ own_of (length P.globals) config
 
@@ -147,7 +147,7 @@ module _ (P : Program) (fs : List Function) where
   -- some list of steps leads there
   pub data Interleaves : Threads → Type 0 where
     begins : (w : Threads) → AreBegun w → Interleaves w
-    moves : (w v : Threads) (k : ℕ) → Interleaves w → Moves w k v → Interleaves v
+    moves : (w v : Threads) (k : ℕ) → Interleaves w → ThreadStep w k v → Interleaves v
 
   -- what is said of threads ------------------------------------------------------------------------------------------
 
@@ -168,24 +168,24 @@ module _ (P : Program) (fs : List Function) where
       IsFailing t.items t.here (seen_by w t)
 
   -- and evaluates the point's n-th access, counted from 0, outside that access's array
-  abbrev pub StraysThread : ℕ → Point → ℕ → Type 0
-  StraysThread k p n = (w : Threads) × (f : Function) × (t : Thread) × StandsAt k p w f t ×
-      IsStraying (thread_program P f) n t.items t.here (seen_by w t)
+  abbrev pub OutOfBoundsThread : ℕ → Point → ℕ → Type 0
+  OutOfBoundsThread k p n = (w : Threads) × (f : Function) × (t : Thread) × StandsAt k p w f t ×
+      IsOutOfBounds (thread_program P f) n t.items t.here (seen_by w t)
 
   -- the k-th thread gives the global x the value z: one of the steps from its point to its next one does
-  pub record Gives (k x : ℕ) (z : ℤ) : Type 0 where
+  pub record ThreadWritesValue (k x : ℕ) (z : ℤ) : Type 0 where
     pub global : x < length P.globals
     pub before : Threads
     pub after : Threads
     pub reached : Interleaves before
-    pub goes : GoesOn before k after
+    pub goes : StepsToPoint before k after
     pub done : ℕ
     pub left : ℕ
     pub config : Config
-    pub met : List (Met Point)
-    pub first : Walks Alone (thread_program P goes.function) done (sees before goes.thread) [] config met
-    pub rest : Walks Alone (thread_program P goes.function) (suc left) config met goes.config
-        (passes goes.from (seen_by before goes.thread) ∷ [])
+    pub met : List (TraceEvent Point)
+    pub first : TracedSteps NoChange (thread_program P goes.function) done (sees before goes.thread) [] config met
+    pub rest : TracedSteps NoChange (thread_program P goes.function) (suc left) config met goes.config
+        (visit goes.from (seen_by before goes.thread) ∷ [])
     pub state : State
-    pub gives : StepGives x state (thread_program P goes.function) config.items config.here config.state
+    pub gives : StepWrites x state (thread_program P goes.function) config.items config.here config.state
     pub value : slice_get state.store x ≡ Some z

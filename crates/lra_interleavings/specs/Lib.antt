@@ -1,4 +1,4 @@
 -- In the order in which they are to be read.
-pub mod Gifts
+pub mod Writes
 pub mod Interleavings
-pub mod Woven
+pub mod ThreadModular

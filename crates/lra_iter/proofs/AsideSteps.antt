@@ -4,8 +4,8 @@ use Rattle.std.proofs.lemmas.List.{map-append}
 use Rattle.lra_domain.specs.Abstraction.{Abstraction}
 use Rattle.lra_domain.specs.declared.Exactness.{Exactness}
 use Rattle.lra_interference.specs.Interference.{Interference}
-use Rattle.lra_operations.specs.declared.asides.Aside.TheVariants.{Entering, Noting}
-use Rattle.lra_operations.specs.Graph.{aside}
+use Rattle.lra_operations.specs.declared.probes.Probe.TheVariants.{InterferencePoint, RecordWrite}
+use Rattle.lra_operations.specs.Tree.{probe}
 use Rattle.lra_flow.specs.Plan.{Plan}
 use Rattle.lra_flow.specs.Pass.{Entry, given, Result, goes_on, noted}
 use Rattle.lra_flow.specs.Among.{admitted}
@@ -35,16 +35,16 @@ module _ {V : Type 0} (begun : Outcome V) (v : V) (f : Option ℕ)
 
 module _ {V H : Type 0} (o : Interference V) (m : Abstraction V H) (set : Plan) (q : ℕ) (f : Option ℕ) (v : V) where
   pub entering_passed : (w : V) (e : Exactness) (r : Result V) → admitted o m v e w → r ≡ goes_on [] w (noted q e f) →
-      IsPassed o m set (aside q Entering) f v r
-  entering_passed w e r admits is = subst (λ (x : Result V). IsPassed o m set (aside q Entering) f v x) (sym is) (record {
+      IsPassed o m set (probe q InterferencePoint) f v r
+  entering_passed w e r admits is = subst (λ (x : Result V). IsPassed o m set (probe q InterferencePoint) f v x) (sym is) (record {
     pass = (w, e, admits, refl);
     dims = admits.1;
-    jumps = going_on_fits m (aside q Entering) (m.dims v) [] w (noted q e f);
+    jumps = going_on_fits m (probe q InterferencePoint) (m.dims v) [] w (noted q e f);
   })
 
-  pub noting_passed : (place : ℕ) (r : Result V) → r ≡ goes_on (given q place v ∷ []) v f → IsPassed o m set (aside q (Noting place)) f v r
-  noting_passed place r is = subst (λ (x : Result V). IsPassed o m set (aside q (Noting place)) f v x) (sym is) (record {
+  pub noting_passed : (place : ℕ) (r : Result V) → r ≡ goes_on (given q place v ∷ []) v f → IsPassed o m set (probe q (RecordWrite place)) f v r
+  noting_passed place r is = subst (λ (x : Result V). IsPassed o m set (probe q (RecordWrite place)) f v x) (sym is) (record {
     pass = refl;
     dims = refl;
-    jumps = going_on_fits m (aside q (Noting place)) (m.dims v) (given q place v ∷ []) v f;
+    jumps = going_on_fits m (probe q (RecordWrite place)) (m.dims v) (given q place v ∷ []) v f;
   })

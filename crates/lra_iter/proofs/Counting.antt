@@ -7,9 +7,9 @@ use Rattle.std.proofs.lemmas.Bool.{cases_eq}
 use Rattle.std.proofs.lemmas.Bool.Decides.{nat_tests}
 use Rattle.lra_linear_spec.proofs.Membership.{contains_none, contains_head, contains_tail, contains_cases}
 use Rattle.lra_program.specs.Program.{Expr, Cond, Program}
-use Rattle.lra_operations.specs.declared.asides.Aside.TheVariants.{Entering, Noting}
-use Rattle.lra_operations.specs.Graph.{Exit, broken, continued, returned, Node, empty, aside, point, act, check, seq, choose, iterate, catch, leave}
-use Rattle.lra_operations.specs.Graph.{select, Arms, no_arms, entry, arm}
+use Rattle.lra_operations.specs.declared.probes.Probe.TheVariants.{InterferencePoint, RecordWrite}
+use Rattle.lra_operations.specs.Tree.{Exit, broken, continued, returned, Node, empty, probe, point, act, check, seq, choose, iterate, catch, leave}
+use Rattle.lra_operations.specs.Tree.{select, Arms, no_arms, entry, arm}
 use Rattle.lra_program.specs.Sites.{Site, sites_of}
 use Rattle.lra_flow.specs.Plan.{Plan, Widening}
 use Rattle.lra_flow.specs.Operations.{Operations}
@@ -81,9 +81,9 @@ module _ (V H : Type 0) (ops : Operations V H) (admission : Admission V) (k : �
     pub pass_found : (set : Plan) (g : Node) (f : Option ℕ) (v : V) (r : Result V) → PassAmong V H ops admission set g f v r
         → Found k r.entries (values_in g k) (checks_in g k)
     pass_found set empty f v r is = subst (λ (y : Result V). Found k y.entries 0 0) (sym is) (record { values = refl; checks = refl })
-    pass_found set (aside here Entering) f v r (w, e, admits, is) = subst (λ (y : Result V). Found k y.entries 0 0) (sym is)
+    pass_found set (probe here InterferencePoint) f v r (w, e, admits, is) = subst (λ (y : Result V). Found k y.entries 0 0) (sym is)
         (record { values = refl; checks = refl })
-    pass_found set (aside here (Noting place)) f v r is = subst (λ (y : Result V). Found k y.entries 0 0) (sym is)
+    pass_found set (probe here (RecordWrite place)) f v r is = subst (λ (y : Result V). Found k y.entries 0 0) (sym is)
         (record { values = refl; checks = refl })
     pass_found set (point q) f v r is = subst (λ (y : Result V). Found k y.entries (one_if q k) 0) (sym is) (record { values = omega arith; checks = refl })
     pass_found set (act q op) f v r (w, e, done, is) = subst (λ (y : Result V). Found k y.entries 0 0) (sym is) (record { values = refl; checks = refl })

@@ -10,7 +10,7 @@ use Rattle.lra_program.specs.Program.{Program}
 use Rattle.lra_program.specs.WellFormed.{AreGoodGlobals}
 use Rattle.lra_program.specs.Step.{State}
 use Rattle.lra_program.specs.Run.{begun}
-use Rattle.lra_operations.specs.Graph.{Node, Comes, FailsAt}
+use Rattle.lra_operations.specs.Tree.{Node, ReachesPoint, FailsAt}
 use Rattle.lra_program.specs.Sites.{Site}
 use Rattle.lra_flow.specs.Plan.{Plan}
 use Rattle.lra_flow.specs.Operations.{dropping}
@@ -44,7 +44,7 @@ module _ {V H : Type 0} (m : Abstraction V H) where
         → AreCounted T r.entries → Solves m r values verdicts flagged → HoldsInTree m P tree values verdicts
     covered_holds P tree r T values verdicts flagged covers counted solves = record { stores = stores; proved = proved; unreached = unreached }
       where
-        stores : (q : ℕ) (draws : List ℤ) (t : State) → Comes tree (begun P draws) q t → (v : V) × (slice_get values q ≡ Some v) × m.gamma v t.store × (m.dims v ≡ length t.store)
+        stores : (q : ℕ) (draws : List ℤ) (t : State) → ReachesPoint tree (begun P draws) q t → (v : V) × (slice_get values q ≡ Some v) × m.gamma v t.store × (m.dims v ≡ length t.store)
         stores q draws t comes =
             let (v, found, has) = (covers draws).comes q t comes in
             (v, (solves.is_value q v).1 found, has.1, sym (laws.sized v t.store has.0 has.1))
@@ -57,7 +57,7 @@ module _ {V H : Type 0} (m : Abstraction V H) where
             let own = subst (λ (x : V). Has m x t.store) (one_failing V q v u r.entries few found seen) has in
             laws.partless u own.0 (so.0 refl) t.store own.1
 
-        unreached : (q : ℕ) (v : V) (draws : List ℤ) (t : State) → slice_get values q ≡ Some v → IsUnreachable m v → Comes tree (begun P draws) q t → ⊥
+        unreached : (q : ℕ) (v : V) (draws : List ℤ) (t : State) → slice_get values q ≡ Some v → IsUnreachable m v → ReachesPoint tree (begun P draws) q t → ⊥
         unreached q v draws t there is comes =
             let (w, found, has) = (covers draws).comes q t comes in
             let own = subst (λ (x : V). Has m x t.store) (sym (same_Some v w (sym there ∙ (solves.is_value q w).1 found))) has in

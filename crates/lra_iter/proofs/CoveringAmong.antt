@@ -11,10 +11,10 @@ use Rattle.lra_program.specs.Program.{Program}
 use Rattle.lra_program.specs.WellFormed.{AreGoodGlobals}
 use Rattle.lra_program.specs.Step.{State}
 use Rattle.lra_program.specs.Run.{begun}
-use Rattle.lra_program.specs.Trails.{Trail}
+use Rattle.lra_program.specs.Traces.{Trace}
 use Rattle.lra_program.specs.Sites.{Site}
-use Rattle.lra_operations.specs.Graph.{Node}
-use Rattle.lra_operations.specs.Trails.{to_point, to_failure}
+use Rattle.lra_operations.specs.Tree.{Node}
+use Rattle.lra_operations.specs.Traces.{to_point, to_failure}
 use Rattle.lra_flow.specs.Plan.{Plan}
 use Rattle.lra_flow.specs.Operations.{dropping}
 use Rattle.lra_flow.specs.Moves.{AreMade}
@@ -58,13 +58,13 @@ module _ {V H : Type 0} (o : Interference V) (m : Abstraction V H) (laws : Laws 
     gives = gives;
   }
     where
-      stores : (q : ℕ) (draws : List ℤ) (a : Trail ℕ) (t : State) → GoesAmong o P g draws (to_point q) a → MayBecome o.rely a.state t →
+      stores : (q : ℕ) (draws : List ℤ) (a : Trace ℕ) (t : State) → GoesAmong o P g draws (to_point q) a → MayBecome o.rely a.state t →
           (v : V) × (slice_get values q ≡ Some v) × m.gamma v t.store × (m.dims v ≡ length t.store)
       stores q draws a t goes becomes =
           let (v, found, has) = (covers draws).finds (stop (to_point q)) a goes t becomes in
           (v, (solves.is_value q v).1 found, has.1, sym (laws.sized v t.store has.0 has.1))
 
-      proved : (q : ℕ) (draws : List ℤ) (a : Trail ℕ) → Contains verdicts (q, true) → GoesAmong o P g draws (to_failure q) a → ⊥
+      proved : (q : ℕ) (draws : List ℤ) (a : Trace ℕ) → Contains verdicts (q, true) → GoesAmong o P g draws (to_failure q) a → ⊥
       proved q draws a listed goes =
           let (v, t, found, has) = (covers draws).finds (stop (to_failure q)) a goes in
           let (u, seen, so) = solves.is_verdict q true listed in
@@ -72,13 +72,13 @@ module _ {V H : Type 0} (o : Interference V) (m : Abstraction V H) (laws : Laws 
           let own = subst (λ (x : V). Has m x t.store) (one_failing V q v u r.entries few found seen) has in
           laws.partless u own.0 (so.0 refl) t.store own.1
 
-      unreached : (q : ℕ) (v : V) (draws : List ℤ) (a : Trail ℕ) → slice_get values q ≡ Some v → IsUnreachable m v → GoesAmong o P g draws (to_point q) a → ⊥
+      unreached : (q : ℕ) (v : V) (draws : List ℤ) (a : Trace ℕ) → slice_get values q ≡ Some v → IsUnreachable m v → GoesAmong o P g draws (to_point q) a → ⊥
       unreached q v draws a there is goes =
           let (w, found, has) = (covers draws).finds (stop (to_point q)) a goes a.state (record { store = none a.state.store; waiting = refl; draws = refl }) in
           let own = subst (λ (x : V). Has m x a.state.store) (sym (same_Some v w (sym there ∙ (solves.is_value q w).1 found))) has in
           laws.partless v own.0 is a.state.store own.1
 
-      gives : (q place : ℕ) (draws : List ℤ) (a : Trail ℕ) → place < length P.globals → GivesAmong o P g draws q place a →
+      gives : (q place : ℕ) (draws : List ℤ) (a : Trace ℕ) → place < length P.globals → GivesAmong o P g draws q place a →
           (v : V) × Contains notes (q, place, v) × m.gamma v a.state.store
       gives q place draws a low gift_there =
           let (v, found, has) = (covers draws).finds (gift q place) a gift_there low in (v, (noted_so q place v).1 found, has.1)

@@ -2,8 +2,8 @@
 use Rattle.std.proofs.Common.{◌≡◌, ℕ, ◌+◌, ◌≤◌, List, Some, None, Bool, true, false, cond}
 use Rattle.std.proofs.Common.{refl, ap, ◌∙◌, arith}
 use Rattle.std.specs.Prelude.{nat_eq, slice_get, Option}
-use Rattle.lra_operations.specs.Graph.{Node, empty, aside, point, act, check, seq, choose, iterate, catch, leave}
-use Rattle.lra_operations.specs.Graph.{select, Arms, no_arms, entry, arm}
+use Rattle.lra_operations.specs.Tree.{Node, empty, probe, point, act, check, seq, choose, iterate, catch, leave}
+use Rattle.lra_operations.specs.Tree.{select, Arms, no_arms, entry, arm}
 use Rattle.lra_program.specs.Sites.{Site}
 use Rattle.lra_iter.specs.Numbers.{one_if, values_in, values_in_arms, IsNumbered}
 use Rattle.lra_outcomes.specs.Memory.{ArmsHaveLoops, HasLoops}
@@ -13,7 +13,7 @@ abbrev mutual
   -- the first loop of this number, or else the other tree
   first_loop : Node → ℕ → Node → Node
   first_loop empty k d = d
-  first_loop (aside here what) k d = d
+  first_loop (probe here what) k d = d
   first_loop (point q) k d = d
   first_loop (act q op) k d = d
   first_loop (check q base c) k d = d
@@ -54,7 +54,7 @@ own_counts q n = let one = one_same q in omega (arith, one)
 mutual
   absent : (g : Node) (k : ℕ) (d : Node) → values_in g k ≡ 0 → first_loop g k d ≡ d
   absent empty k d none = refl
-  absent (aside here what) k d none = refl
+  absent (probe here what) k d none = refl
   absent (point q) k d none = refl
   absent (act q op) k d none = refl
   absent (check q base c) k d none = refl
@@ -93,7 +93,7 @@ mutual
   named : (g : Node) (loops d : ℕ → Node) → ((k : ℕ) → values_in g k ≤ 1) →
       ((k : ℕ) → 1 ≤ values_in g k → loops k ≡ first_loop g k (d k)) → HasLoops loops g
   named empty loops d apart first = tt
-  named (aside here what) loops d apart first = tt
+  named (probe here what) loops d apart first = tt
   named (point q) loops d apart first = tt
   named (act q op) loops d apart first = tt
   named (check q base c) loops d apart first = tt

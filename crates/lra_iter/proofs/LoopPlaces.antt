@@ -5,8 +5,8 @@ use Rattle.lra_domain.specs.Rank.{RankFits}
 use Rattle.lra_interference.specs.Interference.{Interference}
 use Rattle.lra_domain.specs.declared.Exactness.{Exactness}
 use Rattle.lra_program.specs.ProgramViews.{cond_view}
-use Rattle.lra_operations.specs.Graph.{Node, iterate}
-use Rattle.lra_operations.specs.GraphViews.{node_view}
+use Rattle.lra_operations.specs.Tree.{Node, iterate}
+use Rattle.lra_operations.specs.TreeViews.{node_view}
 use Rattle.lra_flow.specs.Room.{most_live}
 use Rattle.lra_flow.specs.Plan.{Plan, mode_at}
 use Rattle.lra_flow.specs.Thresholds.{loop_rows}

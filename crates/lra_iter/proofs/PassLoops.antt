@@ -11,7 +11,7 @@ use Rattle.lra_interference.specs.Interference.{Interference}
 use Rattle.lra_domain.proofs.RankNumbers.{phased, phased_joins, phased_falls}
 use Rattle.lra_domain.specs.declared.Exactness.{Exactness}
 use Rattle.lra_program.specs.Program.{Cond}
-use Rattle.lra_operations.specs.Graph as graph
+use Rattle.lra_operations.specs.Tree as graph
 use Rattle.lra_flow.specs.Plan.{Plan, Widening, standard, limited, by_thresholds, mode_at}
 use Rattle.lra_flow.specs.Operations.{Operations, dropping}
 use Rattle.lra_flow.specs.Among.{admitted}

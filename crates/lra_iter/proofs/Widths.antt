@@ -9,9 +9,9 @@ use Rattle.lra_domain.specs.Abstraction.{Abstraction}
 use Rattle.lra_interference.specs.Interference.{Interference}
 use Rattle.lra_domain.specs.Laws.{Laws}
 use Rattle.lra_program.specs.Program.{Expr, Cond, Program}
-use Rattle.lra_operations.specs.declared.asides.Aside.TheVariants.{Entering, Noting}
-use Rattle.lra_operations.specs.Graph.{Exit, broken, continued, returned, Node, empty, aside, point, act, check, seq, choose, iterate, catch, leave}
-use Rattle.lra_operations.specs.Graph.{select, Arms, no_arms, entry, arm, entries_of}
+use Rattle.lra_operations.specs.declared.probes.Probe.TheVariants.{InterferencePoint, RecordWrite}
+use Rattle.lra_operations.specs.Tree.{Exit, broken, continued, returned, Node, empty, probe, point, act, check, seq, choose, iterate, catch, leave}
+use Rattle.lra_operations.specs.Tree.{select, Arms, no_arms, entry, arm, entries_of}
 use Rattle.lra_program.specs.Sites.{Site}
 use Rattle.lra_flow.specs.Plan.{Plan, Widening}
 use Rattle.lra_flow.specs.Operations.{dropping}
@@ -133,9 +133,9 @@ module _ (V H : Type 0) (m : Abstraction V H) where
         pass_wide : (g : Node) (f : Option ℕ) (v : V) (r : Result V) (n : ℕ) → PassAmong V H (dropping m) admission set g f v r
             → m.dims v ≡ n → PointsHave T g n → Wide (live_after g n) r
         pass_wide empty f v r n is h p = wide_is n r _ is (record { normal = h; entries = tt })
-        pass_wide (aside here Entering) f v r n (w, e, admits, is) h p = wide_is n r _ is
+        pass_wide (probe here InterferencePoint) f v r n (w, e, admits, is) h p = wide_is n r _ is
             (record { normal = keeps v e w admits ∙ h; entries = tt })
-        pass_wide (aside here (Noting place)) f v r n is h p = wide_is n r _ is
+        pass_wide (probe here (RecordWrite place)) f v r n is h p = wide_is n r _ is
             (record { normal = h; entries = (subst (λ (k : ℕ). place < k) (sym h) p, tt) })
         pass_wide (point q) f v r n is h p = wide_is n r _ is (record { normal = h; entries = (live_same q n (m.dims v) h p, tt) })
         pass_wide (act q op) f v r n (w, e, done, is) h p = wide_is (dims_behind op n) r _ is

@@ -6,23 +6,23 @@ use Rattle.lra_interference.specs.Interference.{Interference}
 use Rattle.lra_program.specs.Program.{Program}
 use Rattle.lra_program.specs.Step.{State}
 use Rattle.lra_program.specs.Run.{begun}
-use Rattle.lra_program.specs.Trails.{Trail}
-use Rattle.lra_operations.specs.Graph.{Node}
-use Rattle.lra_operations.specs.Trails.{Stop, to_point, to_failure, stopped, Goes}
+use Rattle.lra_program.specs.Traces.{Trace}
+use Rattle.lra_operations.specs.Tree.{Node}
+use Rattle.lra_operations.specs.Traces.{Stop, to_point, to_failure, stopped, RunsUpTo}
 use Rattle.lra_flow.specs.Analysis.{IsUnreachable}
 use Rattle.lra_flow.specs.Opened.{Gives}
 use Rattle.lra_among.specs.CoversAmong.{MayBecome}
 
 -- where a run with these draws begins; in its trail each point is named by its number
-abbrev pub begins : Program → List ℤ → Trail ℕ
-begins P draws = record { state = begun P draws; met = [] }
+abbrev pub begins : Program → List ℤ → Trace ℕ
+begins P draws = record { state = begun P draws; events = [] }
 
 -- a run among others goes so far
-abbrev pub GoesAmong : {V : Type 0} → Interference V → Program → Node → List ℤ → Stop → Trail ℕ → Type 0
-GoesAmong o P g draws z a = Goes (λ q. q) (MayBecome o.rely) g (begins P draws) (stopped z) a
+abbrev pub GoesAmong : {V : Type 0} → Interference V → Program → Node → List ℤ → Stop → Trace ℕ → Type 0
+GoesAmong o P g draws z a = RunsUpTo (λ q. q) (MayBecome o.rely) g (begins P draws) (stopped z) a
 
 -- it comes to where an operation of the point q has just given the variable at this place a value
-abbrev pub GivesAmong : {V : Type 0} → Interference V → Program → Node → List ℤ → ℕ → ℕ → Trail ℕ → Type 0
+abbrev pub GivesAmong : {V : Type 0} → Interference V → Program → Node → List ℤ → ℕ → ℕ → Trace ℕ → Type 0
 GivesAmong o P g draws q place a = Gives (λ q. q) (MayBecome o.rely) g (begins P draws) q place a
 
 -- g is the program's own tree
@@ -31,15 +31,15 @@ pub record HoldsAmong {V H : Type 0} (o : Interference V) (m : Abstraction V H) 
     (notes : List (ℕ × ℕ × V)) (verdicts : List (ℕ × Bool)) : Type 0 where
   -- where a run comes to a point, and whatever others do there, the value there has its store, and as many dimensions
   -- as that has numbers
-  pub stores : (q : ℕ) (draws : List ℤ) (a : Trail ℕ) (t : State) → GoesAmong o P g draws (to_point q) a →
+  pub stores : (q : ℕ) (draws : List ℤ) (a : Trace ℕ) (t : State) → GoesAmong o P g draws (to_point q) a →
       MayBecome o.rely a.state t →
       (v : V) × (slice_get values q ≡ Some v) × m.gamma v t.store × (m.dims v ≡ length t.store)
   -- no run fails an assertion that is proved
-  pub proved : (q : ℕ) (draws : List ℤ) (a : Trail ℕ) → Contains verdicts (q, true) →
+  pub proved : (q : ℕ) (draws : List ℤ) (a : Trace ℕ) → Contains verdicts (q, true) →
       GoesAmong o P g draws (to_failure q) a → ⊥
   -- no run comes to a point whose value has no part
-  pub unreached : (q : ℕ) (v : V) (draws : List ℤ) (a : Trail ℕ) → slice_get values q ≡ Some v → IsUnreachable m v →
+  pub unreached : (q : ℕ) (v : V) (draws : List ℤ) (a : Trace ℕ) → slice_get values q ≡ Some v → IsUnreachable m v →
       GoesAmong o P g draws (to_point q) a → ⊥
   -- where a variable has just got a value that is noted, a note there has the store
-  pub gives : (q place : ℕ) (draws : List ℤ) (a : Trail ℕ) → place < length P.globals →
+  pub gives : (q place : ℕ) (draws : List ℤ) (a : Trace ℕ) → place < length P.globals →
       GivesAmong o P g draws q place a → (v : V) × Contains notes (q, place, v) × m.gamma v a.state.store

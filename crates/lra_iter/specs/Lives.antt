@@ -2,9 +2,9 @@
 use Rattle.std.specs.Prelude.{◌≡◌, ◌<◌, ℕ, List, Some, slice_get}
 use Rattle.std.specs.List.{Contains}
 use Rattle.lra_domain.specs.Abstraction.{Abstraction}
-use Rattle.lra_operations.specs.declared.asides.Aside.TheVariants.{Entering, Noting}
-use Rattle.lra_operations.specs.Graph.{Node, empty, aside, point, act, check, seq, choose, iterate, catch, leave}
-use Rattle.lra_operations.specs.Graph.{select, Arms, no_arms, entry, arm}
+use Rattle.lra_operations.specs.declared.probes.Probe.TheVariants.{InterferencePoint, RecordWrite}
+use Rattle.lra_operations.specs.Tree.{Node, empty, probe, point, act, check, seq, choose, iterate, catch, leave}
+use Rattle.lra_operations.specs.Tree.{select, Arms, no_arms, entry, arm}
 use Rattle.lra_program.specs.Sites.{Site}
 use Rattle.lra_flow.specs.Live.{live_after}
 
@@ -17,8 +17,8 @@ abbrev mutual
   -- got is noted, that variable lives
   pub PointsHave : List Site → Node → ℕ → Type 0
   PointsHave T empty n = Unit {0}
-  PointsHave T (aside here Entering) n = Unit {0}
-  PointsHave T (aside here (Noting place)) n = place < n
+  PointsHave T (probe here InterferencePoint) n = Unit {0}
+  PointsHave T (probe here (RecordWrite place)) n = place < n
   PointsHave T (point q) n = LiveAt T q n
   PointsHave T (act q op) n = Unit {0}
   PointsHave T (check q base c) n = Unit {0}

@@ -1,7 +1,7 @@
 -- How often a point's number has a value in a tree of operations, and how often an assertion has it.
 use Rattle.std.specs.Prelude.{◌≡◌, ℕ, ◌+◌, ◌<◌, nat_eq, cond, List, Option, Some, None, slice_get, ⊤}
-use Rattle.lra_operations.specs.Graph.{Node, empty, aside, point, act, check, seq, choose, iterate, catch, leave}
-use Rattle.lra_operations.specs.Graph.{select, Arms, no_arms, entry, arm}
+use Rattle.lra_operations.specs.Tree.{Node, empty, probe, point, act, check, seq, choose, iterate, catch, leave}
+use Rattle.lra_operations.specs.Tree.{select, Arms, no_arms, entry, arm}
 use Rattle.lra_program.specs.Sites.{Site}
 
 -- 1 where the numbers are equal, else 0
@@ -12,7 +12,7 @@ abbrev mutual
   -- values of the point k
   pub values_in : Node → ℕ → ℕ
   values_in empty k = 0
-  values_in (aside here what) k = 0
+  values_in (probe here what) k = 0
   values_in (point q) k = one_if q k
   values_in (act q op) k = 0
   values_in (check q base c) k = 0
@@ -32,7 +32,7 @@ abbrev mutual
   -- assertions of the point k
   pub checks_in : Node → ℕ → ℕ
   checks_in empty k = 0
-  checks_in (aside here what) k = 0
+  checks_in (probe here what) k = 0
   checks_in (point q) k = 0
   checks_in (act q op) k = 0
   checks_in (check q base c) k = one_if q k
@@ -64,7 +64,7 @@ abbrev mutual
   -- each operation of the tree belongs to a point below n
   pub AreBelow : ℕ → Node → Type 0
   AreBelow n empty = ⊤
-  AreBelow n (aside here what) = here < n
+  AreBelow n (probe here what) = here < n
   AreBelow n (point q) = ⊤
   AreBelow n (act q op) = q < n
   AreBelow n (check q base c) = q < n

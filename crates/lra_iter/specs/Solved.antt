@@ -4,7 +4,7 @@ use Rattle.std.specs.List.{Contains}
 use Rattle.lra_domain.specs.Abstraction.{Abstraction}
 use Rattle.lra_interference.specs.Interference.{Interference}
 use Rattle.lra_program.specs.Program.{Program}
-use Rattle.lra_operations.specs.Graph.{Node}
+use Rattle.lra_operations.specs.Tree.{Node}
 use Rattle.lra_flow.specs.Plan.{Plan}
 use Rattle.lra_flow.specs.Pass.{given, Result}
 use Rattle.lra_flow.specs.Analysis.{Written, Derivation, Strains, Solves}

@@ -1,15 +1,15 @@
 //! What is done beside a program's own operations: others act, and what variables get is noted.
 
 ghost use Rattle.std.specs.Prelude.{◌≡◌, ◌∷◌, [], IfOk};
-ghost use Rattle.lra_operations.specs.declared.asides.Aside.TheVariants.{Entering};
-ghost use Rattle.lra_operations.specs.Graph.{aside};
+ghost use Rattle.lra_operations.specs.declared.probes.Probe.TheVariants.{InterferencePoint};
+ghost use Rattle.lra_operations.specs.Tree.{probe};
 ghost use Rattle.lra_flow.specs.Plan.{Plan};
 ghost use Rattle.lra_flow.specs.Pass.{given, goes_on};
 ghost use Rattle.lra_outcomes.specs.Outcome.{seen, IsPassed};
 
 use lra_domain::Domain;
 use lra_interference::Interfere;
-use lra_operations::Aside;
+use lra_operations::Probe;
 use lra_outcomes::{Entry, Outcome, note};
 use std::alloc::{AllocError, Global};
 
@@ -23,7 +23,7 @@ fn admit<D: Domain, F: Interfere<D>>(
 ) -> Result<Outcome<D>, AllocError>
     ensures { (plan : Plan) →
         IfOk result (λ r. IsPassed (F.interference others.now) D.abstraction plan
-        (aside point Entering) flag value (seen r)) }
+        (probe point InterferencePoint) flag value (seen r)) }
 {
     let mut value = value;
     let exactness = others.apply(&mut value)?;
@@ -55,16 +55,16 @@ pub fn pass_aside<D: Domain, F: Interfere<D>>(
     alloc: Global,
     others: &F,
     point: usize,
-    what: Aside,
+    what: Probe,
     value: D,
     flag: Option<usize>,
 ) -> Result<Outcome<D>, AllocError>
     ensures { (plan : Plan) →
         IfOk result (λ r. IsPassed (F.interference others.now) D.abstraction plan
-        (aside point what) flag value (seen r)) }
+        (probe point what) flag value (seen r)) }
 {
     match what {
-        Aside::Entering => admit(alloc, others, point, value, flag),
-        Aside::Noting(variable) => note_gift(alloc, point, variable, value, flag),
+        Probe::InterferencePoint => admit(alloc, others, point, value, flag),
+        Probe::RecordWrite(variable) => note_gift(alloc, point, variable, value, flag),
     }
 }

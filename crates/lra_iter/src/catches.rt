@@ -1,8 +1,8 @@
 //! Jumps that come out of a tree.
 
 ghost use Rattle.std.specs.Prelude.{◌≡◌, IfOk};
-ghost use Rattle.lra_operations.specs.Graph.{broken, continued, returned};
-ghost use Rattle.lra_operations.specs.GraphViews.{exit_view};
+ghost use Rattle.lra_operations.specs.Tree.{broken, continued, returned};
+ghost use Rattle.lra_operations.specs.TreeViews.{exit_view};
 ghost use Rattle.lra_flow.specs.Pass.{jumps_of};
 ghost use Rattle.lra_outcomes.specs.Outcome.{seen, AllHave, Catches};
 

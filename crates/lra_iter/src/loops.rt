@@ -2,11 +2,11 @@
 
 ghost use Rattle.std.specs.Prelude.{◌≡◌, ◌≤◌, ◌<◌, ◌^◌, ◌+◌, ◌*◌, ℕ, suc, Option, true, false, IfOk};
 ghost use Rattle.lra_domain.specs.declared.Exactness.{Exactness};
-ghost use Rattle.lra_operations.specs.Graph as graph;
+ghost use Rattle.lra_operations.specs.Tree as graph;
 ghost use Rattle.lra_flow.specs.Room.{most_live};
 ghost use Rattle.lra_flow.specs.Plan.{Plan};
 ghost use Rattle.lra_program.specs.ProgramViews.{cond_view};
-ghost use Rattle.lra_operations.specs.GraphViews.{node_view};
+ghost use Rattle.lra_operations.specs.TreeViews.{node_view};
 ghost use Rattle.lra_flow.specs.Operations.{dropping};
 ghost use Rattle.lra_flow.specs.Pass.{noted};
 ghost use Rattle.lra_outcomes.specs.Outcome.{ended, headed, seen, AreKept, IsEntered, IsKept, LeavesWith};

@@ -2,7 +2,7 @@
 
 ghost use Rattle.std.specs.Prelude.{◌≡◌, ◌≤◌, map, length, None, IfOk};
 ghost use Rattle.lra_program.specs.Program.{Program};
-ghost use Rattle.lra_operations.specs.GraphViews.{node_view, site_view};
+ghost use Rattle.lra_operations.specs.TreeViews.{node_view, site_view};
 ghost use Rattle.lra_program.specs.Assertions.{assertions_from};
 ghost use Rattle.lra_program.specs.WellFormed.{AreGoodGlobals};
 ghost use Rattle.lra_domain.specs.declared.Exactness.{Exactness};
@@ -12,7 +12,7 @@ ghost use Rattle.lra_flow.specs.Analysis.{Solves};
 ghost use Rattle.lra_flow.specs.MovesOf.{first_values};
 ghost use Rattle.lra_flow.specs.Opened.{opened};
 ghost use Rattle.lra_flow.specs.Pass.{noted};
-ghost use Rattle.lra_operations.specs.Graph.{Node};
+ghost use Rattle.lra_operations.specs.Tree.{Node};
 ghost use Rattle.lra_change.specs.Changes.{Does};
 ghost use Rattle.lra_outcomes.specs.Fits.{TreeFits};
 ghost use Rattle.lra_iter.specs.Lives.{PointsHave, AreWide, NotesHave};
@@ -29,7 +29,7 @@ use crate::tables::{Note, number_held, tables_of, take_held};
 use lra_change::append_globals;
 use lra_domain::Domain;
 use lra_interference::{Interfere, NoInterference};
-use lra_operations::{Graph, Site};
+use lra_operations::{InlinedProgram, Site};
 use lra_outcomes::{Memory, Outcome, Plan, note};
 use lra_places::Entering;
 use lra_program::GlobalVariable;
@@ -106,7 +106,7 @@ pub fn analyse_with<D: Domain, F: Interfere<D>>(
     alloc: Global,
     plan: &Plan,
     globals: &[GlobalVariable],
-    graph: &Graph,
+    graph: &InlinedProgram,
     others: &F,
 ) -> Result<NotedSolution<D>, AllocError>
     requires parts { 1 ≤ plan.now.parts }
@@ -150,7 +150,7 @@ pub fn analyse<D: Domain>(
     alloc: Global,
     plan: &Plan,
     globals: &[GlobalVariable],
-    graph: &Graph,
+    graph: &InlinedProgram,
 ) -> Result<Solution<D>, AllocError>
     requires parts { 1 ≤ plan.now.parts }
     requires few { length globals.now ≤ most_live }

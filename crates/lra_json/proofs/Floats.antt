@@ -9,7 +9,7 @@ use Rattle.serde_json.specs.Written.{has_float, items_have_float, members_have_f
 use Rattle.lra_options.specs.declared.options.Options.{Options}
 use Rattle.lra_options.specs.declared.options.NumberOption.{NumberOption}
 use Rattle.lra_options.specs.declared.options.FlagOption.{FlagOption}
-use Rattle.lra_options.specs.OptionRows.{number_row, number_value, number_options, is_number_told, flag_row, flag_value, flag_options, is_told}
+use Rattle.lra_options.specs.OptionRows.{number_row, number_value, number_options, is_number_reported, flag_row, flag_value, flag_options, is_reported}
 use Rattle.lra_report.specs.declared.verdict_kinds.VerdictKind.{VerdictKind}
 use Rattle.lra_report.specs.VerdictKinds.{row_of, kinds}
 use Rattle.lra_report.specs.ReportText.{place_text}
@@ -57,7 +57,7 @@ put_without_floats k d (member l e more) none before =
 numbers_without_floats : (o : Options) (so : Members) (options : List NumberOption) → members_have_float so ≡ false →
     members_have_float (fold (with_number o) so options) ≡ false
 numbers_without_floats o so [] before = before
-numbers_without_floats o so (option ∷ more) before = numbers_without_floats o (with_number o so option) more (go (is_number_told option o))
+numbers_without_floats o so (option ∷ more) before = numbers_without_floats o (with_number o so option) more (go (is_number_reported option o))
   where
     go : (told : Bool) → members_have_float (if told then put (number_row option).name (natural (number_value option o)) so else so) ≡ false
     go true = put_without_floats (number_row option).name (natural (number_value option o)) so refl before
@@ -66,7 +66,7 @@ numbers_without_floats o so (option ∷ more) before = numbers_without_floats o 
 flags_without_floats : (o : Options) (so : Members) (options : List FlagOption) → members_have_float so ≡ false →
     members_have_float (fold (with_flag o) so options) ≡ false
 flags_without_floats o so [] before = before
-flags_without_floats o so (option ∷ more) before = flags_without_floats o (with_flag o so option) more (go (is_told option o))
+flags_without_floats o so (option ∷ more) before = flags_without_floats o (with_flag o so option) more (go (is_reported option o))
   where
     go : (told : Bool) → members_have_float (if told then put (flag_row option).name (boolean (flag_value option o)) so else so) ≡ false
     go true = put_without_floats (flag_row option).name (boolean (flag_value option o)) so refl before

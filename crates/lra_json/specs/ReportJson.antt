@@ -11,8 +11,8 @@ use Rattle.lra_options.specs.declared.options.Options.{Options}
 use Rattle.lra_options.specs.declared.options.NumberOption.{NumberOption}
 use Rattle.lra_options.specs.declared.options.FlagOption.{FlagOption}
 use Rattle.lra_options.specs.Domains.{domain_name, shows_generators}
-use Rattle.lra_options.specs.OptionRows.{number_row, number_value, number_options, is_number_told}
-use Rattle.lra_options.specs.OptionRows.{flag_row, flag_value, flag_options, is_told}
+use Rattle.lra_options.specs.OptionRows.{number_row, number_value, number_options, is_number_reported}
+use Rattle.lra_options.specs.OptionRows.{flag_row, flag_value, flag_options, is_reported}
 use Rattle.lra_report.specs.declared.verdict_kinds.VerdictKind.{VerdictKind}
 use Rattle.lra_report.specs.VerdictKinds.{row_of, kinds, outcome_text}
 use Rattle.lra_show.specs.Rows.{Row}
@@ -32,10 +32,11 @@ list_of write xs = array (items_of (map write xs))
 
 abbrev pub with_number : Options → Members → NumberOption → Members
 with_number o so option =
-    if is_number_told option o then put (number_row option).name (natural (number_value option o)) so else so
+    if is_number_reported option o then put (number_row option).name (natural (number_value option o)) so else so
 
 abbrev pub with_flag : Options → Members → FlagOption → Members
-with_flag o so option = if is_told option o then put (flag_row option).name (boolean (flag_value option o)) so else so
+with_flag o so option =
+    if is_reported option o then put (flag_row option).name (boolean (flag_value option o)) so else so
 
 abbrev pub domain_alone : Options → Members
 domain_alone o = member (codes "domain") (string (domain_name o.domain)) no_members

@@ -20,7 +20,7 @@ fn add_number(options: Options, option: NumberOption, object: Object) -> Result<
     ensures { IfOk result (λ made. members_view made.members.entries ≡
         with_number options (members_view object.members.entries) option) }
 {
-    if !option.is_told(options) {
+    if !option.is_reported(options) {
         return Ok(object);
     }
     object.with(option.name(), Value::from(option.value(options)))
@@ -43,7 +43,7 @@ fn add_flag(options: Options, option: FlagOption, object: Object) -> Result<Obje
     ensures { IfOk result (λ made. members_view made.members.entries ≡
         with_flag options (members_view object.members.entries) option) }
 {
-    if !option.is_told(options) {
+    if !option.is_reported(options) {
         return Ok(object);
     }
     object.with(option.name(), Value::from(option.value(options)))

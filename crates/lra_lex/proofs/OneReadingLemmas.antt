@@ -19,7 +19,7 @@ use Rattle.lra_tree.specs.Lexeme.{is_letter, is_digit, is_word_byte, is_name_wor
 use Rattle.lra_tree.specs.Lexeme.{named_words, further_words, IsOpen, IsUnclosed, IsLiteral, greatest_literal, Lexeme}
 use Rattle.lra_tree.specs.Lexeme.{word, number_word, mark_word, unclosed, SpellsToken, name, number, mark_of, reserved, comment}
 use Rattle.lra_tree.specs.Tokens.{is_blank, in_line, IsLineEnd, IsGap, blank, line_comment, block_comment, skipped_line, IsLongest, IsToken, Fragment, gap, token, bytes_of, tokens_of, IsReading}
-use Rattle.lra_base.specs.Places.{place_behind}
+use Rattle.lra_base.specs.Places.{place_after}
 use Rattle.lra_tree.specs.Tokens.{IsFaulty, end_token, OneReading}
 use Rattle.lra_lex.specs.Front.{opens_comment}
 use Rattle.lra_lex.proofs.RunLemmas.{run_exact, Stops, differ}
@@ -260,7 +260,7 @@ one_reading source = (
   (λ c d p q l k.
       let same = one [] l.0 k.0 l.1 k.1 (sym l.2 ∙ k.2) l.3 k.3 (inr (c, l.4)) (inr (d, k.4)) in
       let there : IsFaulty d (bytes_of l.0) l.1 = subst (λ (z : List Fragment). IsFaulty d (bytes_of z) l.1) (sym same.0) (subst (λ (z : List ℕ). IsFaulty d (bytes_of k.0) z) (sym same.1) k.4) in
-      (cause_one c d (bytes_of l.0) l.1 l.4 there, l.5 ∙ ap (λ (z : List Fragment). place_behind (bytes_of z)) same.0 ∙ sym k.5)),
+      (cause_one c d (bytes_of l.0) l.1 l.4 there, l.5 ∙ ap (λ (z : List Fragment). place_after (bytes_of z)) same.0 ∙ sym k.5)),
   (λ T c p l k.
       let e : bytes_of l.0 ++ [] ≡ bytes_of k.0 ++ k.1 = append-nil (bytes_of l.0) ∙ sym l.1 ∙ k.2 in
       let same = one [] l.0 k.0 [] k.1 e l.2 k.3 (inl refl) (inr (c, k.4)) in

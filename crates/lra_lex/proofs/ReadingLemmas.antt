@@ -8,7 +8,7 @@ use Rattle.lra_base.specs.declared.refusals.Refusal.{Refusal}
 use Rattle.lra_base.specs.Refused.{IfRefusal}
 use Rattle.lra_tree.specs.declared.tokens.Kind.{Kind}
 use Rattle.lra_tree.specs.declared.tokens.Token.{Token}
-use Rattle.lra_base.specs.Places.{place_from, place_behind}
+use Rattle.lra_base.specs.Places.{place_from, place_after}
 use Rattle.lra_tree.specs.Tokens.{IsGap, NoGap, IsToken, Fragment, gap, token, bytes_of, tokens_of, IsReading, IsFaulty}
 use Rattle.lra_lex.specs.Places.{fresh_behind}
 use Rattle.lra_lex.specs.Front.{HasNoGap}
@@ -45,7 +45,7 @@ pub record IsReadTo (source rest : List ℕ) (tokens : List Token) (place : Plac
   pub parts : source ≡ bytes_of pieces ++ rest
   pub reading : IsReading [] pieces rest
   pub tokens_are : tokens ≡ tokens_of pieces
-  pub place_is : place ≡ place_behind (bytes_of pieces)
+  pub place_is : place ≡ place_after (bytes_of pieces)
   pub fresh_is : fresh ≡ fresh_behind true (bytes_of pieces)
 
 -- one piece more -------------------------------------------------------------------------------------------------------------
@@ -100,7 +100,7 @@ read_more source rest s after tokens place fresh p r e b h =
       parts = r.parts ∙ ap (λ (z : List ℕ). bytes_of r.pieces ++ z) more ∙ behind_is r.pieces p after;
       reading = reading_push [] r.pieces p after (subst (λ (z : List ℕ). IsReading [] r.pieces z) more r.reading) h;
       tokens_are = ap (λ (z : List Token). z ++ tokens_in p) r.tokens_are ∙ sym (tokens_push r.pieces p);
-      place_is = ap (λ (z : Place). place_from z s) r.place_is ∙ sym (place_from-append (record { line = 1; column = 1 }) (bytes_of r.pieces) s) ∙ ap place_behind (sym push);
+      place_is = ap (λ (z : Place). place_from z s) r.place_is ∙ sym (place_from-append (record { line = 1; column = 1 }) (bytes_of r.pieces) s) ∙ ap place_after (sym push);
       fresh_is = ap (λ (z : Bool). fresh_behind z s) r.fresh_is ∙ sym (fresh_behind-append true (bytes_of r.pieces) s) ∙ ap (fresh_behind true) (sym push);
     }
 

@@ -8,8 +8,8 @@ use Rattle.lra_report.specs.Report.{Invariant, PointReport}
 use Rattle.lra_program.specs.Sites.{Site}
 use Rattle.lra_tree.specs.Labels.{Labelled}
 use Rattle.lra_report.specs.Listing.{listed_point, HasWidth, AreListed}
-use Rattle.lra_operations.specs.declared.graph.Site as code_site
-use Rattle.lra_operations.specs.GraphViews.{site_view}
+use Rattle.lra_operations.specs.declared.tree.Site as code_site
+use Rattle.lra_operations.specs.TreeViews.{site_view}
 use Rattle.lra_report.specs.declared.report.PointReport as code_point
 use Rattle.lra_report.specs.View.{point_report_of}
 use Rattle.lra_listing.specs.Given.{state_of, AreInvariants}

@@ -7,10 +7,10 @@ use Rattle.lra_tree.specs.Trees.{FileTree}
 use Rattle.lra_meaning.specs.Resolve.{resolve}
 use Rattle.lra_base.specs.declared.refusals.Place.{Place}
 use Rattle.lra_program.specs.Sites.{Site, sites_of}
-use Rattle.lra_operations.specs.declared.graph.Site as code_site
-use Rattle.lra_operations.specs.Agree.{IsGraph}
-use Rattle.lra_operations.specs.Graph.{Node}
-use Rattle.lra_operations.specs.GraphViews.{site_view}
+use Rattle.lra_operations.specs.declared.tree.Site as code_site
+use Rattle.lra_operations.specs.Agree.{IsInlinedTree}
+use Rattle.lra_operations.specs.Tree.{Node}
+use Rattle.lra_operations.specs.TreeViews.{site_view}
 use Rattle.lra_tree.specs.Labels.{Labelled, labels_of}
 use Rattle.lra_report.specs.Report.{Report, Verdict}
 use Rattle.lra_meaning.specs.LiveNames.{globals_named}
@@ -23,7 +23,7 @@ use Rattle.lra_listing.proofs.Verdicts.{are_there}
 pub lists_by_parts : (t : FileTree) (outside : List (List ℕ)) (ls : List Labelled) (ss : List Site)
     (found : List Labelled → List Site → List Verdict) (r : Report)
     → outside ≡ globals_named t.parts → ls ≡ labels_of t → ss ≡ sites_of (resolve t) → AreListed outside ls 1 ss r.points → r.verdicts ≡ found ls ss
-    → (g : Node) → IsGraph (resolve t) g → ((h : Node) → IsGraph (resolve t) h → AreJudged (labels_of t) (subjects r.options h t)
+    → (g : Node) → IsInlinedTree (resolve t) g → ((h : Node) → IsInlinedTree (resolve t) h → AreJudged (labels_of t) (subjects r.options h t)
     (found (labels_of t) (sites_of (resolve t)))) → Lists t r
 lists_by_parts t outside ls ss found r named labelled sited points verdicts g graph judged = record {
   points =

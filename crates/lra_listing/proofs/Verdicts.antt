@@ -15,9 +15,9 @@ use Rattle.lra_program.specs.Sites.{Site}
 use Rattle.lra_tree.specs.Labels.{Labelled}
 use Rattle.lra_report.specs.declared.verdict_kinds.VerdictKind.{VerdictKind}
 use Rattle.lra_report.specs.declared.verdict_kinds.VerdictKind.TheVariants.{Assertion, Fit, Access}
-use Rattle.lra_operations.specs.declared.graph.Site as code_site
-use Rattle.lra_operations.specs.Graph.{Node}
-use Rattle.lra_operations.specs.GraphViews.{site_view}
+use Rattle.lra_operations.specs.declared.tree.Site as code_site
+use Rattle.lra_operations.specs.Tree.{Node}
+use Rattle.lra_operations.specs.TreeViews.{site_view}
 use Rattle.lra_report.specs.Listing.{Subject, subject, subjects_of, computes_at, computing_from, fits_asked, accesses_at, accesses_any_at, access_subjects, accesses_from, listed_verdict, AreJudged}
 use Rattle.lra_program.specs.Assertions.{assertions_from}
 use Rattle.lra_listing.specs.Given.{IsComputing, IsAccessing, AreVerdictsOn, AreVerdicts, AreFitting, AreInside, Told, told_all, told_of, told, told_from, told_accesses, site_at, verdict_at}

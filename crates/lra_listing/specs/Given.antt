@@ -11,7 +11,7 @@ use Rattle.lra_program.specs.Sites.{Site}
 use Rattle.lra_tree.specs.Labels.{Labelled}
 use Rattle.lra_report.specs.declared.verdict_kinds.VerdictKind.{VerdictKind}
 use Rattle.lra_report.specs.declared.verdict_kinds.VerdictKind.TheVariants.{Assertion, Fit, Access}
-use Rattle.lra_operations.specs.Graph.{Node}
+use Rattle.lra_operations.specs.Tree.{Node}
 use Rattle.lra_report.specs.Listing.{HasWidth, computes_at, accesses_at, accesses_any_at, subject, listed_verdict}
 
 -- the point of this number is an assertion

@@ -2,7 +2,7 @@
 use Rattle.std.specs.Prelude.{ℕ, List, Bool, Vec}
 use Rattle.std.specs.declared.alloc.Global.{Global}
 use Rattle.lra_base.specs.declared.refusals.Place.{Place}
-use Rattle.lra_operations.specs.GraphViews.{site_view}
+use Rattle.lra_operations.specs.TreeViews.{site_view}
 use Rattle.lra_report.specs.Listing as report
 use Rattle.lra_listing.specs.declared.listing.Subject.{Subject}
 

@@ -2,9 +2,9 @@
 
 ghost use Rattle.std.specs.Prelude.{◌≡◌, ◌++◌, ◌∷◌, ◌<◌, ◌^◌, ℕ, suc, length, map, flat_map, Some, option_map, IfOk};
 ghost use Rattle.std.specs.Prelude.{string_bytes, List, All};
-ghost use Rattle.lra_operations.specs.Agree.{IsGraph};
-ghost use Rattle.lra_operations.specs.Graph.{Node};
-ghost use Rattle.lra_operations.specs.GraphViews.{site_view};
+ghost use Rattle.lra_operations.specs.Agree.{IsInlinedTree};
+ghost use Rattle.lra_operations.specs.Tree.{Node};
+ghost use Rattle.lra_operations.specs.TreeViews.{site_view};
 ghost use Rattle.lra_tree.specs.Trees.{PartTree};
 ghost use Rattle.lra_tree.specs.Views.{tree_view, part_view, global_view};
 ghost use Rattle.lra_tree.specs.Labels.{label_at, labels_of};
@@ -451,15 +451,15 @@ pub fn list(
     states: Vec<Vec<Part>>,
     found: &Found<'_>,
 ) -> Result<Report, AllocError>
-    requires graph { (g : Node) × IsGraph (resolve (tree_view outline.now.tree.now)) g }
+    requires graph { (g : Node) × IsInlinedTree (resolve (tree_view outline.now.tree.now)) g }
     requires labels { outline.now.labels.now.labels ≡ labels_of (tree_view outline.now.tree.now) }
     requires sites { map site_view outline.now.sites.now ≡ sites_of (resolve (tree_view outline.now.tree.now)) }
     requires numbers { length outline.now.sites.now < 2 ^ 32 }
     requires states { AreInvariants (map site_view outline.now.sites.now) (map (λ x. x.items) states.items) }
     requires verdicts { AreVerdicts (map site_view outline.now.sites.now) found.now.assertions.now }
-    requires fitting { (g : Node) → IsGraph (resolve (tree_view outline.now.tree.now)) g →
+    requires fitting { (g : Node) → IsInlinedTree (resolve (tree_view outline.now.tree.now)) g →
         AreFitting options.fits g (map site_view outline.now.sites.now) found.now.fitting.now }
-    requires inside { (g : Node) → IsGraph (resolve (tree_view outline.now.tree.now)) g →
+    requires inside { (g : Node) → IsInlinedTree (resolve (tree_view outline.now.tree.now)) g →
         AreInside g (map site_view outline.now.sites.now) (map told_view found.now.inside.now) }
     requires flag { (q : ℕ) → found.now.flagged ≡ Some q → q < length outline.now.sites.now }
     ensures lists { IfOk result (λ r. Lists (tree_view outline.now.tree.now) (report_of r)) }

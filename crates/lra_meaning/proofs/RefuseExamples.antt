@@ -9,7 +9,7 @@ use Rattle.lra_tree.specs.declared.tokens.Mark.TheVariants as mark
 use Rattle.lra_tree.specs.declared.tokens.Token.{Token}
 use Rattle.lra_tree.specs.Lexeme.{IsOpen, unclosed, comment}
 use Rattle.lra_tree.specs.declared.tokens.Kind.{Kind}
-use Rattle.lra_base.specs.Places.{place_behind, place_from, greatest_length}
+use Rattle.lra_base.specs.Places.{place_after, place_from, greatest_length}
 use Rattle.lra_tree.specs.Tokens.{is_blank, blank, line_comment, block_comment, skipped_line, NoGap, token}
 use Rattle.lra_tree.specs.Trees.{scalar, DeclaratorTree, nothing, call, ItemsTree, no_items, declaration, statement, PartTree, function, FileTree, for}
 use Rattle.lra_tree.specs.Trees.{declared, expression}
@@ -120,8 +120,8 @@ place_from_spaces (suc n) l c =
 
 spaces_too_long : (n : ℕ) → greatest_length ≡ n → Refuse Spells (replicate (n + 1) 32) TooLong (record { line = 1; column = 1 + n })
 spaces_too_long n e =
-    let f : place_behind (take greatest_length (replicate (n + 1) 32)) ≡ record { line = 1; column = 1 + n } =
-    ap (λ (k : ℕ). place_behind (take k (replicate (n + 1) 32))) e ∙ ap place_behind (take-replicate n (n + 1) 32 (omega arith)) ∙ place_from_spaces n 1 1 in
+    let f : place_after (take greatest_length (replicate (n + 1) 32)) ≡ record { line = 1; column = 1 + n } =
+    ap (λ (k : ℕ). place_after (take k (replicate (n + 1) 32))) e ∙ ap place_after (take-replicate n (n + 1) 32 (omega arith)) ∙ place_from_spaces n 1 1 in
     subst (Refuse Spells (replicate (n + 1) 32) TooLong) f (too_long (omega (arith, length-replicate {A = ℕ} (n + 1) 32, e)))
 
 -- 65,537 spaces: catches a limit of 65,535, and a place past the end

@@ -9,7 +9,7 @@ use Rattle.lra_tree.specs.Trees.{expression, set, nothing, assign, call, no_item
 use Rattle.lra_tree.specs.Labels.{labels_of}
 use Rattle.lra_tree.specs.Functions.{functions_of}
 use Rattle.lra_tree.specs.Reach.{calls_of, ReachesByCalls, there, by_call, IsFirstRecursive}
-use Rattle.lra_program.specs.Sites.{sites_in}
+use Rattle.lra_program.specs.Sites.{event_sites}
 use Rattle.lra_meaning.specs.Refuse.{limit_fault}
 use Rattle.lra_meaning.specs.Threads.{thread_faults, thread_places, thread_events, thread_program}
 use Rattle.lra_meaning.specs.RefuseThreads.{RefusesThreads, recursive}
@@ -64,7 +64,7 @@ abbrev two : FileTree
 two = record { parts = part (codes "t1") 6 (semicolon 15) 16 ∷ part (codes "t2") 23 (semicolon 32) 33 ∷ part (codes "t4") 40 (semicolon 49) 50 ∷ []; end = at 51 }
 
 -- two threads, since the numbers are consecutive, with four points; main may be missing
-two_threads : (thread_faults two ≡ []) × (thread_places two ≡ 0 ∷ 1 ∷ []) × (length (sites_in (thread_events two)) ≡ 4) × (limit_fault (labels_of two) 0 (thread_events two) ≡ None)
+two_threads : (thread_faults two ≡ []) × (thread_places two ≡ 0 ∷ 1 ∷ []) × (length (event_sites (thread_events two)) ≡ 4) × (limit_fault (labels_of two) 0 (thread_events two) ≡ None)
 two_threads = (refl, refl, refl, refl)
 
 -- each of them stands in the place of main

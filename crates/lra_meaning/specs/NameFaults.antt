@@ -10,7 +10,7 @@ use Rattle.lra_base.specs.declared.refusals.Cause.{Cause}
 use Rattle.lra_base.specs.declared.refusals.Cause.TheVariants.{BadLiteral, NoMain, UnknownName, DuplicateName, BadCall}
 use Rattle.lra_base.specs.declared.refusals.Cause.TheVariants.{Misplaced, DuplicateCase, BadLength, NotArray}
 use Rattle.lra_base.specs.declared.case_labels.CaseLabel.{CaseLabel}
-use Rattle.lra_base.specs.CaseLabels.{are_alike}
+use Rattle.lra_base.specs.CaseLabels.{is_same_case}
 use Rattle.lra_base.specs.NumberTypes.{fits}
 use Rattle.lra_base.specs.Limits.{is_length}
 use Rattle.lra_tree.specs.declared.trees.SignedLiteral.{SignedLiteral}
@@ -192,7 +192,7 @@ abbrev mutual
   -- behind these labels of the same `switch`, none of which stands again
   pub cases_faults : Around → Scope → List CaseLabel → CasesTree → List Refusal
   cases_faults a s earlier no_cases = []
-  cases_faults a s earlier (labelled l cs) = fault_if (list_any (are_alike l.label) earlier) DuplicateCase l.place ++
+  cases_faults a s earlier (labelled l cs) = fault_if (list_any (is_same_case l.label) earlier) DuplicateCase l.place ++
       cases_faults a s (l.label ∷ earlier) cs
   cases_faults a s earlier (stated t cs) = stmt_faults a s t ++ cases_faults a s earlier cs
 

@@ -10,7 +10,7 @@ use Rattle.lra_base.specs.declared.refusals.Refusal.{Refusal}
 use Rattle.lra_tree.specs.declared.tokens.Token.{Token}
 use Rattle.lra_tree.specs.Trees.{FileTree}
 pub use Rattle.lra_base.specs.Limits.{greatest_live}
-use Rattle.lra_base.specs.Places.{place_behind, greatest_length}
+use Rattle.lra_base.specs.Places.{place_after, greatest_length}
 use Rattle.lra_tree.specs.Tokens.{Lex, IsTokenFault}
 use Rattle.lra_tree.specs.Faults.{Language, IsTree, IsTextFault}
 use Rattle.lra_meaning.specs.NameFaults.{name_faults}
@@ -53,7 +53,7 @@ pub data RefusesTree (t : FileTree) : Cause → Place → Type 0 where
 
 -- where L is the language of the sources
 pub data Refuse (L : Language) (source : List ℕ) : Cause → Place → Type 0 where
-  too_long : greatest_length < length source → Refuse L source TooLong (place_behind (take greatest_length source))
+  too_long : greatest_length < length source → Refuse L source TooLong (place_after (take greatest_length source))
   bad_token : (c : Cause) (at : Place) → length source ≤ greatest_length → IsTokenFault source c at →
       Refuse L source c at
   bad_text : (tokens : List Token) (c : Cause) (at : Place) → length source ≤ greatest_length → Lex source tokens →

@@ -5,7 +5,7 @@ use Rattle.lra_base.specs.declared.refusals.Place.{Place}
 use Rattle.lra_base.specs.declared.refusals.Cause.{Cause}
 use Rattle.lra_base.specs.declared.refusals.Cause.TheVariants.{TooLong, Recursive}
 use Rattle.lra_base.specs.declared.refusals.Refusal.{Refusal}
-use Rattle.lra_base.specs.Places.{place_behind, greatest_length}
+use Rattle.lra_base.specs.Places.{place_after, greatest_length}
 use Rattle.lra_tree.specs.declared.tokens.Token.{Token}
 use Rattle.lra_tree.specs.Trees.{FileTree}
 use Rattle.lra_tree.specs.Tokens.{Lex, IsTokenFault}
@@ -25,7 +25,7 @@ pub data RefusesThreads (t : FileTree) : Cause → Place → Type 0 where
 
 -- the source has no tree, where L is the language of the sources
 pub data Unread (L : Language) (source : List ℕ) : Cause → Place → Type 0 where
-  too_long : greatest_length < length source → Unread L source TooLong (place_behind (take greatest_length source))
+  too_long : greatest_length < length source → Unread L source TooLong (place_after (take greatest_length source))
   bad_token : (c : Cause) (at : Place) → length source ≤ greatest_length → IsTokenFault source c at →
       Unread L source c at
   bad_text : (tokens : List Token) (c : Cause) (at : Place) → length source ≤ greatest_length → Lex source tokens →

@@ -8,7 +8,7 @@ use Rattle.lra_base.specs.declared.error.SourceError.{SourceError}
 use Rattle.lra_base.specs.declared.refusals.Place.{Place}
 use Rattle.lra_base.specs.declared.refusals.Refusal.{Refusal}
 use Rattle.lra_base.specs.declared.refusals.Cause.TheVariants.{DuplicateCase}
-use Rattle.lra_base.specs.CaseLabels.{are_alike}
+use Rattle.lra_base.specs.CaseLabels.{is_same_case}
 use Rattle.lra_tree.specs.Trees.{ExprTree, CasesTree, no_cases, labelled, stated, switch, FunctionTree}
 use Rattle.lra_tree.specs.declared.trees.PlacedLabel.{PlacedLabel}
 use Rattle.lra_tree.specs.declared.trees.Cases.{Cases}
@@ -105,12 +105,12 @@ module _ (a : Around) (s : Scope) (old : LabelsSoFar) (all : CasesTree) where
       label_left = is ∙ label_is item l rest label
 
       pub selects_label : (more : CaseList) → fault_if (has_seen list l.label) DuplicateCase l.place ≡ []
-          → ((q : CaseLabel) → has_seen more q ≡ (are_alike q l.label || has_seen list q))
+          → ((q : CaseLabel) → has_seen more q ≡ (is_same_case q l.label || has_seen list q))
           → more.items.items ≡ list.items.items ++ program_case.Label l.label ∷ []
           → Selects a s old all rest more scope new
       selects_label more fresh seen added = record {
         earlier = l.label ∷ so.earlier;
-        seen = λ q. seen q ∙ ap (λ (b : Bool). are_alike q l.label || b) (so.seen q);
+        seen = λ q. seen q ∙ ap (λ (b : Bool). is_same_case q l.label || b) (so.seen q);
         clean = so.clean ∙ ap (cases_faults a s so.earlier) label_left
             ∙ ap (λ (b : Bool). fault_if b DuplicateCase l.place ++ cases_faults a s (l.label ∷ so.earlier) rest) (sym (so.seen l.label))
             ∙ ap (λ (rs : List Refusal). rs ++ cases_faults a s (l.label ∷ so.earlier) rest) fresh;
@@ -124,9 +124,9 @@ module _ (a : Around) (s : Scope) (old : LabelsSoFar) (all : CasesTree) where
 
       pub label_told : (e : SourceError) → Tells (fault_if (has_seen list l.label) DuplicateCase l.place) e → Tells (cases_faults a s [] all) e
       label_told e told =
-          let front : Tells (fault_if (list_any (are_alike l.label) so.earlier) DuplicateCase l.place) e =
+          let front : Tells (fault_if (list_any (is_same_case l.label) so.earlier) DuplicateCase l.place) e =
           subst (λ (b : Bool). Tells (fault_if b DuplicateCase l.place) e) (so.seen l.label) told in
-          let here = fault_if (list_any (are_alike l.label) so.earlier) DuplicateCase l.place in
+          let here = fault_if (list_any (is_same_case l.label) so.earlier) DuplicateCase l.place in
           subst (λ (rs : List Refusal). Tells rs e) (sym (so.clean ∙ ap (cases_faults a s so.earlier) label_left))
           (tells_front here (cases_faults a s (l.label ∷ so.earlier) rest) e front)
 

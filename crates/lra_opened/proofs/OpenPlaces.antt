@@ -9,16 +9,16 @@ use Rattle.std.proofs.lemmas.List.Sums.{sum_by_push}
 use Rattle.lra_base.specs.declared.case_labels.CaseLabel.{CaseLabel}
 use Rattle.lra_program.specs.declared.program.Expr.{Expr}
 use Rattle.lra_program.specs.ProgramViews.{expr_view}
-use Rattle.lra_operations.specs.declared.graph.Arm.{Arm}
-use Rattle.lra_operations.specs.declared.graph.Arm.TheVariants as armed
-use Rattle.lra_operations.specs.declared.graph.Node.{Node}
-use Rattle.lra_operations.specs.declared.graph.Node.TheVariants as at
-use Rattle.lra_operations.specs.declared.graph.Parts.{Parts}
-use Rattle.lra_operations.specs.declared.graph.Parts.TheVariants as parts
-use Rattle.lra_operations.specs.Graph as graph
-use Rattle.lra_operations.specs.GraphViews.{arm_view, arms_before, arms_of, node_view, row}
+use Rattle.lra_operations.specs.declared.tree.Arm.{Arm}
+use Rattle.lra_operations.specs.declared.tree.Arm.TheVariants as armed
+use Rattle.lra_operations.specs.declared.tree.Node.{Node}
+use Rattle.lra_operations.specs.declared.tree.Node.TheVariants as at
+use Rattle.lra_operations.specs.declared.tree.Parts.{Parts}
+use Rattle.lra_operations.specs.declared.tree.Parts.TheVariants as parts
+use Rattle.lra_operations.specs.Tree as graph
+use Rattle.lra_operations.specs.TreeViews.{arm_view, arms_before, arms_of, node_view, row}
 use Rattle.lra_operations.specs.Parts.{whole_of}
-use Rattle.lra_operations.specs.Sizes.{arm_sizes, arms_size, whole_size}
+use Rattle.lra_operations.specs.Sizes.{arm_sizes, arms_tree_sizes, whole_size}
 use Rattle.lra_operations.proofs.ArmViews.{entry_seen, tree_seen}
 use Rattle.lra_flow.specs.Opened.{opened, opened_arms}
 use Rattle.lra_opened.specs.declared.places.Row as of_row
@@ -89,7 +89,7 @@ parts_lead r n ps qs p g h k is made few led =
 pub select_leads : (n : ℕ) (ps : List place.Place) (q base : ℕ) (e : Expr) (arms : Vec Arm Global) (g : Node) (s : of_select.Selection)
     → whole_of (parts.Select q base e arms) ≡ g
     → selection_whole n s ≡ graph.select q base (expr_view e) (opened_arms n (arms_of (map arm_view arms.items)))
-    → selection_left s ≡ 2 + 2 * arms_size (map arm_sizes arms.items) → Leads n ps (opened n (node_view g)) (tree_left g) ps (Selects s)
+    → selection_left s ≡ 2 + 2 * arms_tree_sizes (map arm_sizes arms.items) → Leads n ps (opened n (node_view g)) (tree_left g) ps (Selects s)
 select_leads n ps q base e arms g s is made size =
     let p = parts.Select q base e arms in
     stands n ps (opened n (node_view g)) (tree_left g) (Selects s) (made ∙ ap (opened n) (sym (seen_as p g is))) (omega (arith, size, left_of p g is))
@@ -188,7 +188,7 @@ module _ (q base : ℕ) (e : Expr) where
       → selection_left (Of more behind) < selection_left (Of done left)
   entry_falls done more left behind a l is here = omega (
     arith,
-    ap (λ xs. arms_size (map arm_sizes xs)) is ∙ arms_pushed behind.items a,
+    ap (λ xs. arms_tree_sizes (map arm_sizes xs)) is ∙ arms_pushed behind.items a,
   )
 
   pub tree_stands : (n : ℕ) (done left behind : Vec Arm Global) (a : Arm) (g : Node) → left.items ≡ behind.items ++ a ∷ [] → armed.Tree g ≡ a
@@ -200,7 +200,7 @@ module _ (q base : ℕ) (e : Expr) where
       → 1 + place_left (arm_place (Of done behind)) + tree_left g ≤ selection_left (Of done left)
   tree_fewer done left behind a g is here = omega (
     arith,
-    ap (λ xs. arms_size (map arm_sizes xs)) is ∙ arms_pushed behind.items a,
+    ap (λ xs. arms_tree_sizes (map arm_sizes xs)) is ∙ arms_pushed behind.items a,
     ap (λ (x : Arm). (arm_sizes x).0) (sym here) ∙ ap (λ (p : ℕ × ℕ). p.0) (arm_size_of g),
   )
 
@@ -218,8 +218,8 @@ module _ (q base : ℕ) (e : Expr) where
       ap (λ (xs : List Arm). graph.select q base (expr_view e) (opened_arms n (arms_of (map arm_view xs)))) (ap reverse is ∙ reverse-reverse arms.items)
 
   pub arms_begin_left : (done arms left : Vec Arm Global) → left.items ≡ reverse arms.items
-      → selection_left (Of done left) ≡ 2 + 2 * arms_size (map arm_sizes arms.items)
-  arms_begin_left done arms left is = ap (λ k. 2 + 2 * k) (ap (λ xs. arms_size (map arm_sizes xs)) is ∙ arms_reversed arms.items)
+      → selection_left (Of done left) ≡ 2 + 2 * arms_tree_sizes (map arm_sizes arms.items)
+  arms_begin_left done arms left is = ap (λ k. 2 + 2 * k) (ap (λ xs. arms_tree_sizes (map arm_sizes xs)) is ∙ arms_reversed arms.items)
 
 -- one more of the arms is opened
 pub arm_filled : (n : ℕ) (s t : of_select.Selection) (g : Node) → t.point ≡ s.point → t.base ≡ s.base → t.value ≡ s.value → t.left ≡ s.left

@@ -2,22 +2,22 @@
 use Rattle.std.proofs.Common.{rules, Box, Vec, Global, ◌≡◌, ◌∙◌, ℕ, ◌+◌, ◌*◌, ◌<◌, map, ap, sym, subst, arith}
 use Rattle.std.specs.List.{sum_by}
 use Rattle.lra_program.specs.ProgramViews.{cond_view, expr_view}
-use Rattle.lra_operations.specs.Graph as graph
-use Rattle.lra_operations.specs.GraphViews.{arm_view, arms_of, exit_view, node_view, op_view, row}
+use Rattle.lra_operations.specs.Tree as graph
+use Rattle.lra_operations.specs.TreeViews.{arm_view, arms_of, exit_view, node_view, op_view, row}
 use Rattle.lra_operations.specs.Parts.{whole_of}
-use Rattle.lra_operations.specs.Sizes.{arm_sizes, arms_size, sizes, whole_size}
-use Rattle.lra_operations.specs.declared.graph.Arm.TheVariants as armed
-use Rattle.lra_operations.specs.declared.graph.Node.{Node, the_lemmas as node_lemmas}
-use Rattle.lra_operations.specs.declared.graph.Node.TheVariants as at
-use Rattle.lra_operations.specs.declared.graph.Parts.{Parts}
-use Rattle.lra_operations.specs.declared.graph.Parts.TheVariants as parts
+use Rattle.lra_operations.specs.Sizes.{arm_sizes, arms_tree_sizes, sizes, whole_size}
+use Rattle.lra_operations.specs.declared.tree.Arm.TheVariants as armed
+use Rattle.lra_operations.specs.declared.tree.Node.{Node, the_lemmas as node_lemmas}
+use Rattle.lra_operations.specs.declared.tree.Node.TheVariants as at
+use Rattle.lra_operations.specs.declared.tree.Parts.{Parts}
+use Rattle.lra_operations.specs.declared.tree.Parts.TheVariants as parts
 use Rattle.lra_opened.specs.StepsLeft.{tree_left}
 use Rattle.lra_opened.proofs.Sums.{same_wholes}
 
 abbrev pub parts_view : Parts → graph.Node
 parts_view parts.Empty = graph.empty
 parts_view (parts.Point q) = graph.point q
-parts_view (parts.Aside q what) = graph.aside q what
+parts_view (parts.Aside q what) = graph.probe q what
 parts_view (parts.Act q o) = graph.act q (op_view o)
 parts_view (parts.Check q base c) = graph.check q base (cond_view c)
 parts_view (parts.Seq gs last) = row (map node_view gs.items) (node_view last.value)
@@ -51,7 +51,7 @@ parts_size (parts.Choose q base c a b) = 2 + (whole_size a.value + whole_size b.
 parts_size (parts.Iterate q base c a) = 2 + whole_size a.value
 parts_size (parts.Catch q k a) = 2 + whole_size a.value
 parts_size (parts.Leave n k) = 1
-parts_size (parts.Select q base e arms) = 2 + arms_size (map arm_sizes arms.items)
+parts_size (parts.Select q base e arms) = 2 + arms_tree_sizes (map arm_sizes arms.items)
 
 whole_of_seq : (gs : Vec Node Global) (b : Box Node Global) → whole_size (at.Seq gs b) ≡ 2 +
     (sum_by (λ (g : ℕ × ℕ). g.0) (map sizes gs.items) + whole_size b.value)

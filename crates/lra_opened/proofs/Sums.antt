@@ -3,9 +3,9 @@ use Rattle.std.proofs.Common.{◌≡◌, ◌∙◌, ℕ, ◌+◌, List, [], ◌�
 use Rattle.std.specs.List.{sum_by}
 use Rattle.std.proofs.lemmas.List.{reverse-append}
 use Rattle.std.proofs.lemmas.List.Sums.{sum_by-cons, sum_by_push}
-use Rattle.lra_operations.specs.declared.graph.Arm.{Arm}
-use Rattle.lra_operations.specs.declared.graph.Node.{Node}
-use Rattle.lra_operations.specs.Sizes.{arm_sizes, arms_size, sizes, whole_size}
+use Rattle.lra_operations.specs.declared.tree.Arm.{Arm}
+use Rattle.lra_operations.specs.declared.tree.Node.{Node}
+use Rattle.lra_operations.specs.Sizes.{arm_sizes, arms_tree_sizes, sizes, whole_size}
 
 pub same_wholes : (gs : List Node) → sum_by (λ (g : ℕ × ℕ). g.0) (map sizes gs) ≡ sum_by whole_size gs
 same_wholes [] = refl
@@ -26,15 +26,15 @@ wholes_reversed (g ∷ gs) = omega (
   sum_by-cons whole_size g gs,
 )
 
-pub arms_pushed : (arms : List Arm) (a : Arm) → arms_size (map arm_sizes (arms ++ a ∷ [])) ≡ arms_size (map arm_sizes arms) + (1 + (arm_sizes a).0)
+pub arms_pushed : (arms : List Arm) (a : Arm) → arms_tree_sizes (map arm_sizes (arms ++ a ∷ [])) ≡ arms_tree_sizes (map arm_sizes arms) + (1 + (arm_sizes a).0)
 arms_pushed [] a = omega arith
 arms_pushed (b ∷ arms) a = omega (arith, arms_pushed arms a)
 
-pub arms_reversed : (arms : List Arm) → arms_size (map arm_sizes (reverse arms)) ≡ arms_size (map arm_sizes arms)
+pub arms_reversed : (arms : List Arm) → arms_tree_sizes (map arm_sizes (reverse arms)) ≡ arms_tree_sizes (map arm_sizes arms)
 arms_reversed [] = refl
 arms_reversed (a ∷ arms) = omega (
   arith,
-  ap (λ xs. arms_size (map arm_sizes xs)) (reversed a arms),
+  ap (λ xs. arms_tree_sizes (map arm_sizes xs)) (reversed a arms),
   arms_pushed (reverse arms) a,
   arms_reversed arms,
 )

@@ -1,11 +1,11 @@
 -- What a tree becomes that is being opened, by the places that are open in it.
 use Rattle.std.specs.Prelude.{ℕ, List, [], ◌∷◌, map, reverse}
 use Rattle.lra_program.specs.ProgramViews.{cond_view, expr_view}
-use Rattle.lra_operations.specs.declared.asides.Aside.TheVariants.{Entering}
-use Rattle.lra_operations.specs.declared.graph.Arm.{Arm}
-use Rattle.lra_operations.specs.declared.graph.Node.{Node}
-use Rattle.lra_operations.specs.Graph as graph
-use Rattle.lra_operations.specs.GraphViews.{arm_view, arms_before, arms_of, exit_view, node_view, row}
+use Rattle.lra_operations.specs.declared.probes.Probe.TheVariants.{InterferencePoint}
+use Rattle.lra_operations.specs.declared.tree.Arm.{Arm}
+use Rattle.lra_operations.specs.declared.tree.Node.{Node}
+use Rattle.lra_operations.specs.Tree as graph
+use Rattle.lra_operations.specs.TreeViews.{arm_view, arms_before, arms_of, exit_view, node_view, row}
 use Rattle.lra_flow.specs.Opened.{entered, opened, opened_arms}
 use Rattle.lra_opened.specs.declared.places.Row as of_row
 use Rattle.lra_opened.specs.declared.places.Selection as of_select
@@ -37,7 +37,8 @@ around n (Row r) g = row (map node_view r.done.items) (graph.seq g (row_of_left 
 around n (Last done) g = row (map node_view done.items) g
 around n (First q base c b) g = graph.choose q base (cond_view c) g (opened n (node_view b.value))
 around n (Second q base c a) g = graph.choose q base (cond_view c) (node_view a.value) g
-around n (Body q base c) g = entered q (graph.iterate q base (cond_view c) (graph.seq g (graph.aside q Entering)))
+around n (Body q base c) g =
+    entered q (graph.iterate q base (cond_view c) (graph.seq g (graph.probe q InterferencePoint)))
 around n (Catch q k) g = graph.catch q (exit_view k) g
 around n (arm_place s) g = select_around s (graph.arm g (arms_of_left n s.left.items))
 

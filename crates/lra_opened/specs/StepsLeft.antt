@@ -1,10 +1,10 @@
 -- How many steps the opening of a tree may still take: so it ends.
 use Rattle.std.specs.Prelude.{◌≡◌, ◌<◌, ◌+◌, ◌*◌, ℕ, List, map}
 use Rattle.std.specs.List.{sum_by}
-use Rattle.lra_operations.specs.declared.graph.Node.{Node}
-use Rattle.lra_operations.specs.Graph as graph
-use Rattle.lra_operations.specs.GraphViews.{node_view}
-use Rattle.lra_operations.specs.Sizes.{arm_sizes, arms_size, whole_size}
+use Rattle.lra_operations.specs.declared.tree.Node.{Node}
+use Rattle.lra_operations.specs.Tree as graph
+use Rattle.lra_operations.specs.TreeViews.{node_view}
+use Rattle.lra_operations.specs.Sizes.{arm_sizes, arms_tree_sizes, whole_size}
 use Rattle.lra_opened.specs.declared.places.Row as of_row
 use Rattle.lra_opened.specs.declared.places.Selection as of_select
 use Rattle.lra_opened.specs.declared.places.Next as next
@@ -23,7 +23,7 @@ abbrev pub row_left : of_row.Row → ℕ
 row_left r = 2 + 2 * (sum_by whole_size r.left.items + whole_size r.last.value)
 
 abbrev pub selection_left : of_select.Selection → ℕ
-selection_left s = 2 + 2 * arms_size (map arm_sizes s.left.items)
+selection_left s = 2 + 2 * arms_tree_sizes (map arm_sizes s.left.items)
 
 -- at a place, behind the tree that is being opened there
 abbrev pub place_left : place.Place → ℕ

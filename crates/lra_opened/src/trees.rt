@@ -3,18 +3,18 @@
 ghost use Rattle.std.specs.Prelude.{◌≡◌, ◌+◌, ◌*◌, ℕ, map, IfOk};
 ghost use Rattle.std.specs.List.{sum_by};
 ghost use Rattle.lra_program.specs.ProgramViews.{cond_view, expr_view};
-ghost use Rattle.lra_operations.specs.declared.asides.Aside.TheVariants.{Entering};
-ghost use Rattle.lra_operations.specs.Graph as graph;
-ghost use Rattle.lra_operations.specs.GraphViews.{arm_view, arms_of, node_view, op_view, row};
-ghost use Rattle.lra_operations.specs.Sizes.{arm_sizes, arms_size, whole_size};
+ghost use Rattle.lra_operations.specs.declared.probes.Probe.TheVariants.{InterferencePoint};
+ghost use Rattle.lra_operations.specs.Tree as graph;
+ghost use Rattle.lra_operations.specs.TreeViews.{arm_view, arms_of, node_view, op_view, row};
+ghost use Rattle.lra_operations.specs.Sizes.{arm_sizes, arms_tree_sizes, whole_size};
 ghost use Rattle.lra_flow.specs.Opened.{entered, noting_of, opened, opened_arms};
-ghost use Rattle.lra_program.specs.Gifts.{gift_of, place_of};
+ghost use Rattle.lra_program.specs.WrittenVariables.{written_variable, target_variable};
 ghost use Rattle.lra_opened.specs.Opening.{around, row_whole, selection_whole};
 ghost use Rattle.lra_opened.specs.StepsLeft.{place_left, row_left, selection_left, tree_left, Leads, Reaches};
 
 use crate::places::{Next, Place, Row, Selection, Step};
 use lra_operations::forms::put_in_turn;
-use lra_operations::{Arm, ArmParts, Aside, Graph, Node, Op, Parts};
+use lra_operations::{Arm, ArmParts, InlinedProgram, Node, Op, Parts, Probe};
 use lra_program::{Cell, Cond, Expr, Receiver};
 use std::alloc::{AllocError, Global};
 use std::mem;
@@ -23,7 +23,7 @@ use std::mem;
 
 /// The place of the variable that the receiver is, where it is one.
 fn variable_of(receiver: &Receiver) -> Option<usize>
-    ensures { result ≡ place_of receiver.now.target }
+    ensures { result ≡ target_variable receiver.now.target }
 {
     match receiver.target {
         Some(target) => match target.cell {
@@ -36,17 +36,17 @@ fn variable_of(receiver: &Receiver) -> Option<usize>
 
 /// The place of the variable to which the operation gives a value.
 fn find_gift(op: &Op) -> Option<usize>
-    ensures { result ≡ gift_of (op_view op.now) }
+    ensures { result ≡ written_variable (op_view op.now) }
 {
     match op {
         Op::Append(_) => None,
         Op::Fill(_) => None,
-        Op::Give(_, receiver, _) => variable_of(receiver),
-        Op::GiveElement(_, _, _) => None,
-        Op::GiveAny(receiver) => variable_of(receiver),
+        Op::StoreValue(_, receiver, _) => variable_of(receiver),
+        Op::StoreElement(_, _, _) => None,
+        Op::Havoc(receiver) => variable_of(receiver),
         Op::Push(_, _) => None,
         Op::PushFor(_, _, _) => None,
-        Op::Keep(_) => None,
+        Op::TruncateTo(_) => None,
         Op::Test(_, _, _) => None,
     }
 }
@@ -54,12 +54,12 @@ fn find_gift(op: &Op) -> Option<usize>
 /// The operation, and behind it what it gives to one of the first variables.
 fn note_gift(alloc: Global, globals: usize, point: usize, op: Op) -> Result<Node, AllocError>
     ensures { IfOk result (λ g. node_view g ≡
-        noting_of globals point (gift_of (op_view op)) (graph.act point (op_view op))) }
+        noting_of globals point (written_variable (op_view op)) (graph.act point (op_view op))) }
 {
     match find_gift(&op) {
         Some(place) => {
             if place < globals {
-                let noting = Node::Aside(point, Aside::Noting(place));
+                let noting = Node::Probe(point, Probe::RecordWrite(place));
                 put_in_turn(alloc, Node::Act(point, op), noting)
             } else {
                 Ok(Node::Act(point, op))
@@ -73,7 +73,7 @@ fn note_gift(alloc: Global, globals: usize, point: usize, op: Op) -> Result<Node
 fn enter(alloc: Global, point: usize, tree: Node) -> Result<Node, AllocError>
     ensures { IfOk result (λ g. node_view g ≡ entered point (node_view tree)) }
 {
-    put_in_turn(alloc, Node::Aside(point, Aside::Entering), tree)
+    put_in_turn(alloc, Node::Probe(point, Probe::InterferencePoint), tree)
 }
 
 /// A loop whose body is opened: others act before it, and at the body's end.
@@ -86,9 +86,9 @@ fn enter_loop(
 ) -> Result<Node, AllocError>
     ensures { IfOk result (λ g. node_view g ≡ entered point
         (graph.iterate point base (cond_view condition)
-        (graph.seq (node_view body) (graph.aside point Entering)))) }
+        (graph.seq (node_view body) (graph.probe point InterferencePoint)))) }
 {
-    let round = put_in_turn(alloc, body, Node::Aside(point, Aside::Entering))?;
+    let round = put_in_turn(alloc, body, Node::Probe(point, Probe::InterferencePoint))?;
     let body = Box::new(alloc, round)?;
     enter(alloc, point, Node::Iterate(point, base, condition, body))
 }
@@ -175,7 +175,7 @@ fn select(alloc: Global, point: usize, base: usize, value: Expr, mut arms: Vec<A
     ensures whole { (n : ℕ) → selection_whole n result ≡
         graph.select point base (expr_view value)
         (opened_arms n (arms_of (map arm_view arms.items))) }
-    ensures steps { selection_left result ≡ 2 + 2 * arms_size (map arm_sizes arms.items) }
+    ensures steps { selection_left result ≡ 2 + 2 * arms_tree_sizes (map arm_sizes arms.items) }
 {
     arms.reverse();
     let done = Vec::new(alloc);
@@ -204,7 +204,7 @@ fn open_parts(
             let entered = enter(alloc, point, Node::Point(point))?;
             Ok(Next::Gives(entered))
         }
-        Parts::Aside(point, what) => Ok(Next::Gives(Node::Aside(point, what))),
+        Parts::Aside(point, what) => Ok(Next::Gives(Node::Probe(point, what))),
         Parts::Act(point, op) => {
             let noted = note_gift(alloc, globals, point, op)?;
             Ok(Next::Gives(noted))
@@ -318,7 +318,11 @@ pub fn open_tree(alloc: Global, globals: usize, tree: Node) -> Result<Node, Allo
 }
 
 /// The same of a program's tree, with the same points.
-pub fn opened_graph(alloc: Global, globals: usize, graph: Graph) -> Result<Graph, AllocError>
+pub fn opened_graph(
+    alloc: Global,
+    globals: usize,
+    graph: InlinedProgram,
+) -> Result<InlinedProgram, AllocError>
     ensures tree { IfOk result (λ g. node_view g.tree ≡ opened globals (node_view graph.tree)) }
     ensures sites { IfOk result (λ g. g.sites ≡ graph.sites) }
 {

@@ -7,10 +7,10 @@ use Rattle.lra_program.specs.Program.{Call, no_cases, labelled, stated, switch}
 use Rattle.lra_program.specs.declared.program.CaseItem.{CaseItem}
 use Rattle.lra_program.specs.declared.program.CaseItem as code_case
 use Rattle.lra_program.specs.declared.program.Stmt.{Stmt}
-use Rattle.lra_operations.specs.declared.graph.Arm as code_arm
+use Rattle.lra_operations.specs.declared.tree.Arm as code_arm
 use Rattle.lra_program.specs.Sites.{Site, plain_site, stmt_events, cases_events}
-use Rattle.lra_operations.specs.Graph.{Node, Arms, no_arms, entry, arm, seq, point}
-use Rattle.lra_operations.specs.GraphViews.{ArmPart, arm_view, arms_before}
+use Rattle.lra_operations.specs.Tree.{Node, Arms, no_arms, entry, arm, seq, point}
+use Rattle.lra_operations.specs.TreeViews.{ArmPart, arm_view, arms_before}
 use Rattle.lra_program.specs.ProgramViews.{expr_view, stmt_view, case_view, cases_of}
 use Rattle.lra_operations.specs.Inlined.{switch_node}
 use Rattle.lra_opening.specs.declared.frame.Frame.{Frame}

@@ -5,14 +5,14 @@ use Rattle.lra_base.specs.Limits.{greatest_live}
 use Rattle.lra_program.specs.Program as program
 use Rattle.lra_program.specs.Program.{Variable, Expr, value, result, assign, write, call, if, block, return, BlockItems, Program}
 use Rattle.lra_program.specs.Value.{index_of}
-use Rattle.lra_program.specs.Step.{append, give, push_for}
+use Rattle.lra_program.specs.Step.{append, store_value, push_for}
 use Rattle.lra_program.specs.declared.receivers.Receiver.{Receiver}
 use Rattle.lra_program.specs.Receivers.{variable_at, waiting_in, nobody}
-use Rattle.lra_program.specs.Sites.{Site, Event, plain_site, live_behind, stmt_events, items_events}
+use Rattle.lra_program.specs.Sites.{Site, Event, plain_site, live_after_items, stmt_events, items_events}
 use Rattle.lra_program.specs.declared.program.Stmt.{Stmt}
 use Rattle.lra_program.specs.declared.program.Element.{Element}
 use Rattle.lra_program.specs.ProgramViews.{element_view, cond_view, stmt_view}
-use Rattle.lra_operations.specs.Graph.{Node, point, act, seq}
+use Rattle.lra_operations.specs.Tree.{Node, point, act, seq}
 use Rattle.lra_opening.specs.declared.frame.Frame.{Frame}
 use Rattle.lra_opening.specs.declared.frame.Repeated.{Repeated}
 use Rattle.lra_opening.specs.declared.frame.Caller.{Caller}
@@ -51,10 +51,11 @@ module _ (P : Program) (path : List ℕ) (r : Frame) (S : List Site) where
       path = refl;
       continues = record {
         writes = λ g n V U w e. (block_written P path r S V U (length V) n end b g _ _ w.0 w.1 refl e refl refl, refl);
-        stops = λ g n V l w h. second_stopped S V (items_events (inside P path r) path r.live b) (plain_site path end (live_behind r.live b) ∷ []) l w.0.walked
+        stops = λ g n V l w h. second_stopped S V (items_events (inside P path r) path r.live b) (plain_site path end (live_after_items r.live b) ∷ []) l
+            w.0.walked
             (subst (λ z. walk V (plain_site path end z ∷ []) ≡ stopped l) w.1 h);
       };
-      stops = λ l h. walk_stop S (items_events (inside P path r) path r.live b) (plain_site path end (live_behind r.live b) ∷ []) l h;
+      stops = λ l h. walk_stop S (items_events (inside P path r) path r.live b) (plain_site path end (live_after_items r.live b) ∷ []) l h;
     },
     block_stands P r b end s,
   )
@@ -124,7 +125,7 @@ module _ (P : Program) (path : List ℕ) (r : Frame) (S : List Site) where
     )
 
     pub value_assigned : (x : Variable) (e : Expr) (k : ℕ) (y : Receiver) → k ≡ index_of r.base x.slot → y ≡ variable_at k x.number_type → (h g : Node) → h ≡
-        act q (give r.base y e) → g ≡ seq (point q) h
+        act q (store_value r.base y e) → g ≡ seq (point q) h
         → WritesStmt P path r S (assign at x (value e)) g V
     value_assigned x e k y is gets h g a b = assign_written P path r S V V q at k x (value e) h g number pointed is
         (subst (λ z. WritesRvalue P path r q z V (value e) h V) gets (value_written P path r V q y e h a)) b
@@ -192,7 +193,7 @@ module _ (P : Program) (path : List ℕ) (r : Frame) (S : List Site) where
 
     pub value_declared : (e : Expr) (y : Receiver) (h g : Node) → y ≡ variable_at r.live d.number_type → q ≡ length S → Pointed S
         (site P path r d.label r.live false) V → n ≡ suc r.live → d.rvalue ≡ Some (value e)
-        → h ≡ act q (give r.base y e) → g ≡ seq (point q) (seq (act q (append d.number_type)) h) → WritesItem P path r S (program.declaration d) g n V
+        → h ≡ act q (store_value r.base y e) → g ≡ seq (point q) (seq (act q (append d.number_type)) h) → WritesItem P path r S (program.declaration d) g n V
     value_declared e y h g gets number pointed same given a b = declared_item P path r S d V V q n (seq (act q (append d.number_type)) h) g number same pointed
         (rw given (given_written P path r V V q n d.number_type (value e) h _ same
         (subst (λ z. WritesRvalue P path (record r { live = n }) q z V (value e) h V) gets (value_written P path (record r { live = n }) V q y e h a)) refl)) b
@@ -220,7 +221,7 @@ module _ (P : Program) (path : List ℕ) (r : Frame) (S : List Site) where
   )
 
   -- a `for`: its point, at which its variables live already
-  pub for_opens : (b : BlockItems) (x : Repeated) (V : List Site) (at q n : ℕ) → q ≡ length S → n ≡ live_behind r.live b → Pointed S (site P path r at n false) V → StmtStands P r (for_of at b x)
+  pub for_opens : (b : BlockItems) (x : Repeated) (V : List Site) (at q n : ℕ) → q ≡ length S → n ≡ live_after_items r.live b → Pointed S (site P path r at n false) V → StmtStands P r (for_of at b x)
       → IsOpen P (due (a_stmt (for_of at b x)) path r S) (due (all_items b) path r V) (record { frame = r; place = place.Init q x }) × ItemsStand P r b
   for_opens b x V at q n number same pointed s =
       let c = cond_view x.cond.now in

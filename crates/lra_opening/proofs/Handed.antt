@@ -1,7 +1,7 @@
 -- What a call answers is handed on as that of the whole statement.
 use Rattle.std.proofs.Common.{◌≡◌, ℕ, ◌≤◌, List, Some, Result, IfOk, sym, subst}
 use Rattle.lra_program.specs.Program.{Stmt, break, continue, Program}
-use Rattle.lra_operations.specs.Graph.{broken, continued, returned, Node}
+use Rattle.lra_operations.specs.Tree.{broken, continued, returned, Node}
 use Rattle.lra_program.specs.Sites.{Site, Event, stmt_events}
 use Rattle.lra_opening.specs.declared.points.GraphError.{GraphError}
 use Rattle.lra_opening.specs.declared.frame.Frame.{Frame}

@@ -4,11 +4,11 @@ use Rattle.lra_program.specs.Program as program
 use Rattle.lra_program.specs.Program.{no_more, declaration, array, statement}
 use Rattle.lra_program.specs.declared.arrays.Array.{Array}
 use Rattle.lra_program.specs.Step.{fill}
-use Rattle.lra_operations.specs.Graph.{Node, empty, seq, point, act}
-use Rattle.lra_program.specs.Sites.{Site, plain_site, live_behind, stmt_events, given_events, items_events}
-use Rattle.lra_operations.specs.declared.graph.Node as code_node
+use Rattle.lra_operations.specs.Tree.{Node, empty, seq, point, act}
+use Rattle.lra_program.specs.Sites.{Site, plain_site, live_after_items, stmt_events, given_events, items_events}
+use Rattle.lra_operations.specs.declared.tree.Node as code_node
 use Rattle.lra_program.specs.ProgramViews.{item_view, items_of}
-use Rattle.lra_operations.specs.GraphViews.{node_view, row}
+use Rattle.lra_operations.specs.TreeViews.{node_view, row}
 use Rattle.lra_opening.specs.declared.points.Limit.{Limit}
 use Rattle.lra_opening.specs.declared.frame.Frame.{Frame}
 use Rattle.lra_opening.specs.declared.places.ItemRow.{ItemRow}
@@ -34,7 +34,7 @@ module _ (P : program.Program) (path : List ℕ) (r : Frame) (S : List Site) whe
     pub declared_item : (V W : List Site) (q n : ℕ) (h g : Node) → q ≡ length S → n ≡ suc r.live → Pointed S (site P path r d.label r.live false) V → WritesDeclared P path r q V d.number_type d.rvalue h W
         → g ≡ seq (point q) h → WritesItem P path r S (declaration d) g n W
     declared_item V W q n h g number same at given form = record {
-      live = λ b. ap (λ z. live_behind z b) same;
+      live = λ b. ap (λ z. live_after_items z b) same;
       stands = λ b s. behind_stand P r n d b same s;
       writes = λ b k U w. declaration_written P path r S V W U q n d b h g k (seq g k) number same at given w form refl;
       stops = λ b x w. declaration_at_others P path r S (declaration d b) d b refl V n at same W x given.walked w;
@@ -93,7 +93,7 @@ module _ (P : program.Program) (path : List ℕ) (r : Frame) (S : List Site) (al
 
       pub items_step : (g : Node) (n' : ℕ) (V' : List Site) → WritesItem P path (record r { live = n }) V item g n' V' → ItemsLoop P path r S all others (gs ++ g ∷ []) n' V'
       items_step g n' V' w = record {
-        live = w.live others ∙ ap (λ z. live_behind n z) (sym is) ∙ loop.live;
+        live = w.live others ∙ ap (λ z. live_after_items n z) (sym is) ∙ loop.live;
         stands = w.stands others (subst (λ z. ItemsStand P (record r { live = n }) z) is loop.stands);
         writes = λ h U k. subst (λ z. WritesItems P path r S all z U) (sym (row_last gs g h))
             (loop.writes (seq g h) U (subst (λ z. WritesItems P path (record r { live = n }) V z (seq g h) U) (sym is) (w.writes others h U k)));
@@ -101,8 +101,8 @@ module _ (P : program.Program) (path : List ℕ) (r : Frame) (S : List Site) (al
       }
 
     module _ (none : rest ≡ no_more) where
-      pub items_last : n ≡ live_behind r.live all
-      items_last = sym (ap (λ z. live_behind n z) none) ∙ loop.live
+      pub items_last : n ≡ live_after_items r.live all
+      items_last = sym (ap (λ z. live_after_items n z) none) ∙ loop.live
 
       pub items_end : WritesItems P path r S all (row gs empty) V
       items_end = loop.writes empty V (subst (λ z. WritesItems P path (record r { live = n }) V z empty V) (sym none) (none_written P path (record r { live = n }) V))

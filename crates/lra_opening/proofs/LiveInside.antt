@@ -4,7 +4,7 @@ use Rattle.std.proofs.lemmas.List.{drop_all}
 use Rattle.lra_base.specs.Limits.{greatest_live}
 use Rattle.lra_program.specs.Program as program
 use Rattle.lra_program.specs.Program.{no_more, declaration, array, statement}
-use Rattle.lra_program.specs.Sites.{live_behind}
+use Rattle.lra_program.specs.Sites.{live_after_items}
 use Rattle.lra_program.specs.declared.arrays.Array.{Array}
 use Rattle.lra_program.specs.declared.program.Declarator.{Declarator}
 use Rattle.lra_program.specs.declared.program.Stmt.{Stmt}
@@ -13,14 +13,14 @@ use Rattle.lra_program.specs.declared.program.BlockItem as code_item
 use Rattle.lra_program.specs.ProgramViews.{item_view, items_of}
 use Rattle.lra_opening.proofs.Shown.{shown_declaration, shown_array, shown_statement}
 
-pub live_low : (n : ℕ) (b : program.BlockItems) → n ≤ live_behind n b
+pub live_low : (n : ℕ) (b : program.BlockItems) → n ≤ live_after_items n b
 live_low n no_more = omega arith
 live_low n (declaration d b) = let h = live_low (suc n) b in omega arith
 live_low n (array at a b) = live_low n b
 live_low n (statement s b) = live_low n b
 
 abbrev pub behind_items : ℕ → List BlockItem → ℕ
-behind_items n items = live_behind n (items_of (map item_view items))
+behind_items n items = live_after_items n (items_of (map item_view items))
 
 pub items_at : (items : List BlockItem) (i : ℕ) (x : BlockItem) → i < length items → x ≡ get_or items i x → drop i items ≡ x ∷ drop (i + 1) items
 items_at items i x l e = drop-cons items i x l ∙ ap (λ (y : BlockItem). y ∷ drop (suc i) items) (sym e) ∙ rw add-one refl

@@ -3,13 +3,13 @@ use Rattle.std.proofs.Common.{◌≡◌, ℕ, ◌+◌, ◌≤◌, Some, List, []
 use Rattle.std.proofs.lemmas.List.{map-append}
 use Rattle.lra_base.specs.Limits.{greatest_live}
 use Rattle.lra_program.specs.Program.{Program, BlockItems, switch, Cases}
-use Rattle.lra_program.specs.Step.{keep}
+use Rattle.lra_program.specs.Step.{truncate_to}
 use Rattle.lra_program.specs.Sites.{Site, plain_site, call_events}
 use Rattle.lra_program.specs.ProgramViews.{expr_view, call_view, item_view, items_of, case_view, cases_of}
-use Rattle.lra_operations.specs.declared.graph.Node as code
-use Rattle.lra_operations.specs.declared.graph.Arm as code_arm
-use Rattle.lra_operations.specs.Graph.{Node, point, act, seq, arm}
-use Rattle.lra_operations.specs.GraphViews.{node_view, arm_view}
+use Rattle.lra_operations.specs.declared.tree.Node as code
+use Rattle.lra_operations.specs.declared.tree.Arm as code_arm
+use Rattle.lra_operations.specs.Tree.{Node, point, act, seq, arm}
+use Rattle.lra_operations.specs.TreeViews.{node_view, arm_view}
 use Rattle.lra_opening.specs.declared.points.Limit.{Limit}
 use Rattle.lra_opening.specs.declared.points.GraphError.{GraphError}
 use Rattle.lra_opening.specs.declared.frame.Frame.{Frame}
@@ -149,7 +149,8 @@ module _ (P : Program) where
     -- behind a block's items
     pub block_closes : (end : ℕ) (g : Node) (x : code.Node) (U : List Site) → IsOpen P whole under (record { frame = f; place = place.Block end }) → IsWritten P under g n V → path ≡ under.path
         → walk V (plain_site path end n ∷ []) ≡ passed U
-        → node_view x ≡ seq g (seq (point (length V)) (act (length V) (keep f.live))) → Leads P whole (next.Written (record { node = x; live = f.live })) path U
+        → node_view x ≡ seq g (seq (point (length V)) (act (length V) (truncate_to f.live))) →
+        Leads P whole (next.Written (record { node = x; live = f.live })) path U
     block_closes end g x U o w e at a =
         let k = o.continues.writes g n V U w (subst (λ z. walk V (plain_site z end n ∷ []) ≡ passed U) (e ∙ o.path) at) in
         (rw (a, o.frame) k, e ∙ o.path)

@@ -1,7 +1,7 @@
 -- What values of the code's types stand for, form by form.
 use Rattle.std.proofs.Common.{◌≡◌, ℕ, map, Option, Some, ap, ◌∙◌, rules, Box, Vec, Global}
 use Rattle.lra_program.specs.Program as program
-use Rattle.lra_operations.specs.Graph as graph
+use Rattle.lra_operations.specs.Tree as graph
 use Rattle.lra_program.specs.declared.arrays.Array.{Array}
 use Rattle.lra_program.specs.declared.program.Variable.{Variable}
 use Rattle.lra_program.specs.declared.program.Element.{Element}
@@ -19,13 +19,13 @@ use Rattle.lra_base.specs.declared.case_labels.CaseLabel.{CaseLabel}
 use Rattle.lra_program.specs.declared.program.BlockItems.{BlockItems, the_lemmas as items_lemmas}
 use Rattle.lra_program.specs.declared.program.Stmt.{Stmt, the_lemmas as stmt_lemmas}
 use Rattle.lra_program.specs.declared.program.Stmt as code
-use Rattle.lra_operations.specs.declared.graph.Op.{Op}
-use Rattle.lra_operations.specs.declared.graph.Node.{the_lemmas as node_lemmas}
-use Rattle.lra_operations.specs.declared.graph.Node as code_node
-use Rattle.lra_operations.specs.declared.graph.Arm as code_arm
+use Rattle.lra_operations.specs.declared.tree.Op.{Op}
+use Rattle.lra_operations.specs.declared.tree.Node.{the_lemmas as node_lemmas}
+use Rattle.lra_operations.specs.declared.tree.Node as code_node
+use Rattle.lra_operations.specs.declared.tree.Arm as code_arm
 use Rattle.lra_program.specs.ProgramViews.{variable_view, expr_view, element_view, cond_view, call_view, rvalue_view, given_view, declarator_view}
 use Rattle.lra_program.specs.ProgramViews.{stmt_view, item_view, items_of, items_view, case_view, cases_of}
-use Rattle.lra_operations.specs.GraphViews.{op_view, node_view, arm_view}
+use Rattle.lra_operations.specs.TreeViews.{op_view, node_view, arm_view}
 use Rattle.lra_opening.specs.Open.{entry_part}
 
 pub shown_empty : node_view code_node.Empty ≡ graph.empty

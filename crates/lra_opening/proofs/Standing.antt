@@ -6,7 +6,7 @@ use Rattle.lra_program.specs.Program.{break, continue, return, BlockItems, no_mo
 use Rattle.lra_program.specs.Program.{statement, switch, Cases, labelled, stated, Expr, Function, Program}
 use Rattle.lra_base.specs.declared.case_labels.CaseLabel.{CaseLabel}
 use Rattle.lra_program.specs.declared.arrays.Array.{Array}
-use Rattle.lra_program.specs.Sites.{live_behind}
+use Rattle.lra_program.specs.Sites.{live_after_items}
 use Rattle.lra_program.specs.WellFormed.{Jumps, no_jumps, in_loop, in_switch, IsWellFormed}
 use Rattle.lra_agreement.proofs.DistinctSites.{all_at, main_at}
 use Rattle.lra_opening.specs.declared.frame.Frame.{Frame}
@@ -27,7 +27,7 @@ stands_as r X Y f x = record {
   back_low = x.back_low;
 }
 
-both_live : (base own live : ℕ) (b : BlockItems) → base + own ≤ live → base + live_behind own b ≤ live_behind live b
+both_live : (base own live : ℕ) (b : BlockItems) → base + own ≤ live → base + live_after_items own b ≤ live_after_items live b
 both_live base own live no_more l = l
 both_live base own live (declaration d b) l = both_live base (suc own) (suc live) b (omega arith)
 both_live base own live (array at a b) l = both_live base own live b l
@@ -164,13 +164,13 @@ module _ (P : Program) (r : Frame) where
       false_true e = cc
 
   -- its loop, behind its variables
-  pub for_again : (at : ℕ) (init : BlockItems) (c : Cond) (s t : Stmt) (n : ℕ) → n ≡ live_behind r.live init → StmtStands P r (for at init c s t)
+  pub for_again : (at : ℕ) (init : BlockItems) (c : Cond) (s t : Stmt) (n : ℕ) → n ≡ live_after_items r.live init → StmtStands P r (for at init c s t)
       → StmtStands P (record r { live = n }) (loop at c s t)
   for_again at init c s t n same x =
       let low = live_low r.live init in
       record {
         jumps = no_jumps;
-        own = live_behind x.own init;
+        own = live_after_items x.own init;
         good = (x.good.1, x.good.2, x.good.3);
         within = let w = both_live r.base x.own r.live init x.within in omega arith;
         breaks = λ e. absurd (false_true e);

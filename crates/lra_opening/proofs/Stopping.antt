@@ -3,7 +3,7 @@ use Rattle.std.proofs.Common.{◌≡◌, ℕ, List, [], ◌∷◌, ◌++◌, Res
 use Rattle.std.specs.Result.{IsErrAnd}
 use Rattle.std.proofs.lemmas.Result.{err_from_is_err_and}
 use Rattle.lra_program.specs.Program.{Cond, Stmt, for, BlockItems, Program}
-use Rattle.lra_program.specs.Sites.{Site, Event, plain_site, live_behind, stmt_events, items_events}
+use Rattle.lra_program.specs.Sites.{Site, Event, plain_site, live_after_items, stmt_events, items_events}
 use Rattle.lra_opening.specs.declared.points.Limit.{Limit}
 use Rattle.lra_opening.specs.declared.points.GraphError.{GraphError}
 use Rattle.lra_opening.specs.declared.points.GraphError.TheVariants.{Passed, Memory}
@@ -77,7 +77,7 @@ module _ (P : Program) (path : List ℕ) (r : Frame) (S : List Site) (init : Blo
   whole = stmt_events (inside P path r) path r.live (for at init c s t)
 
   abbrev last : ℕ
-  last = live_behind r.live init
+  last = live_after_items r.live init
 
   pub for_at_begin : (V : List Site) (n : ℕ) (x : Limit) → n ≡ last → walk S (own n) ≡ passed V → walk V begin ≡ stopped x → walk S whole ≡ stopped x
   for_at_begin V n x same e h = middle_stopped S V (own last) (begin ++ turns last) (rounds last) x (subst (λ z. walk S (own z) ≡ passed V) same e) (walk_stop V begin (turns last) x h)

@@ -8,14 +8,15 @@ use Rattle.lra_program.specs.Program.{BlockItems, no_more, declaration, array, s
 use Rattle.lra_program.specs.declared.arrays.Array.{Array}
 use Rattle.lra_program.specs.Value.{Argument, index_of}
 use Rattle.lra_program.specs.Step as step
-use Rattle.lra_program.specs.Step.{Op, append, fill, give, give_element, give_any, push, push_for, keep, test, arguments_for, behind_main}
+use Rattle.lra_program.specs.Step.{Op, append, fill, store_value, store_element, havoc, push, push_for, truncate_to, test, arguments_for, main_receiver}
 use Rattle.lra_base.specs.declared.number_types.NumberType.{NumberType}
 use Rattle.lra_program.specs.declared.receivers.Receiver.{Receiver}
-use Rattle.lra_program.specs.Receivers.{variable_at, waiting_in, nobody, behind_result}
-use Rattle.lra_operations.specs.Graph.{Exit, broken, continued, returned, Node, empty, point, act, check, seq, choose, leave, Arms, no_arms, entry, arm}
-use Rattle.lra_program.specs.Sites.{Site, comes, plain_site, live_behind, rvalue_events, given_events, stmt_events, cases_events, items_events, function_events, call_events}
+use Rattle.lra_program.specs.Receivers.{variable_at, waiting_in, nobody, result_receiver}
+use Rattle.lra_operations.specs.Tree.{Exit, broken, continued, returned, Node, empty, point, act, check, seq, choose, leave, Arms, no_arms, entry, arm}
+use Rattle.lra_program.specs.Sites.{Site, comes, plain_site, live_after_items, rvalue_events, given_events, stmt_events, cases_events, items_events, function_events, call_events}
 use Rattle.lra_operations.specs.Inlined as inlined
-use Rattle.lra_operations.specs.Inlined.{spot_of, Has, HasSite, callee, Inl, InlCases, InlAll, Declares, Loops, Gives, Calls, as_nothing, as_block, as_absent}
+use Rattle.lra_operations.specs.Inlined.{spot_of, IsSiteAt, IsSiteWith, callee, InlineStmt, InlineCases, InlineItems, InlineDeclarator, InlineLoop}
+use Rattle.lra_operations.specs.Inlined.{InlineRvalue, InlineCall, as_nothing, as_block, as_absent}
 use Rattle.lra_operations.specs.Inlined.{as_assign, as_write, as_write_call, as_call, as_if, as_loop}
 use Rattle.lra_operations.specs.Inlined.{as_for, as_break, as_continue, as_switch, as_no_cases, as_labelled, as_stated, switch_node}
 use Rattle.lra_operations.specs.Inlined.{as_return, as_return_value, as_return_call, as_end, as_end_value, as_end_call, as_assert}
@@ -47,18 +48,18 @@ among_cases is = record { path = is.path; base = is.base; breaks = refl; continu
 with_live : {P : Program} {path : List ℕ} {r : Frame} {f : inlined.Frame} (n : ℕ) → IsFrame P path r f → IsFrame P path (record r { live = n }) f
 with_live n is = record { path = is.path; base = is.base; breaks = is.breaks; continues = is.continues; receiver = is.receiver; back = is.back }
 
-back_there : (o : Option step.Back) (n : ℕ) → back_length o ≡ Some n → (c : step.Back) × (o ≡ Some c) × (c.length ≡ n)
+back_there : (o : Option step.ReturnFrame) (n : ℕ) → back_length o ≡ Some n → (c : step.ReturnFrame) × (o ≡ Some c) × (c.length ≡ n)
 back_there None n e = absurd (none-some n e)
 back_there (Some c) n e = (c, refl, same_Some c.length n e)
 
 -- what gets the value of the function that runs: a called one's, and `main`'s
-receiver_there : (P : Program) (o : Option step.Back) (c : step.Back) (x : Receiver) → o ≡ Some c → receiver_behind P o ≡ x → c.receiver ≡ x
+receiver_there : (P : Program) (o : Option step.ReturnFrame) (c : step.ReturnFrame) (x : Receiver) → o ≡ Some c → receiver_behind P o ≡ x → c.receiver ≡ x
 receiver_there P o c x e is = sym (ap (receiver_behind P) e) ∙ is
 
-main_there : (P : Program) (o : Option step.Back) (x : Receiver) → o ≡ None → receiver_behind P o ≡ x → behind_main P ≡ x
+main_there : (P : Program) (o : Option step.ReturnFrame) (x : Receiver) → o ≡ None → receiver_behind P o ≡ x → main_receiver P ≡ x
 main_there P o x e is = sym (ap (receiver_behind P) e) ∙ is
 
-no_back_there : (o : Option step.Back) → back_length o ≡ None → o ≡ None
+no_back_there : (o : Option step.ReturnFrame) → back_length o ≡ None → o ≡ None
 no_back_there None e = refl
 no_back_there (Some c) e = absurd (none-some _ (sym e))
 
@@ -75,9 +76,10 @@ module _ (P : Program) (path : List ℕ) (r : Frame) where
   -- a return behind its point q
   abbrev pub WritesReturn : ℕ → List Site → Option Rvalue → Node → List Site → Type 0
   WritesReturn q S o g U = Writes P path r (given_events (inside P path r) path N o) S U
-      (λ T f. (at : ℕ) → length S ≡ suc q → Has T (spot_of f N q) at → Inl P T (spot_of f N q) (return at o) (seq (point q) g) (length U))
+      (λ T f. (at : ℕ) → length S ≡ suc q → IsSiteAt T (spot_of f N q) at → InlineStmt P T (spot_of f N q) (return at o) (seq (point q) g) (length U))
 
-  has_point : (S U T : List Site) (f : inlined.Frame) (at n : ℕ) (asserts : Bool) → Pointed S (site at n asserts) U → Begins U T → IsFrame P path r f → HasSite
+  has_point : (S U T : List Site) (f : inlined.Frame) (at n : ℕ) (asserts : Bool) → Pointed S (site at n asserts) U → Begins U T → IsFrame P path r f →
+      IsSiteWith
       T (spot_of f n (length S)) at asserts
   has_point S U T f at n asserts e b is = rw is.path (point_there S U T (site at n asserts) e b)
 
@@ -93,26 +95,27 @@ module _ (P : Program) (path : List ℕ) (r : Frame) where
     placed = λ T f b is. rw (i, one_longer S U (site at N false) e) (as_nothing (has_point S U T f at N false e b is));
   }
 
-  pub block_written : (S V U : List Site) (q n end : ℕ) (items : BlockItems) (h tail g : Node) → WritesItems P path r S items h V → n ≡ live_behind N items → q ≡ length V
+  pub block_written : (S V U : List Site) (q n end : ℕ) (items : BlockItems) (h tail g : Node) → WritesItems P path r S items h V → n ≡ live_after_items N items → q ≡ length V
       → Pointed V (site end n false) U
-      → tail ≡ seq (point q) (act q (keep N)) → g ≡ seq h tail → WritesStmt P path r S (block items end) g U
+      → tail ≡ seq (point q) (act q (truncate_to N)) → g ≡ seq h tail → WritesStmt P path r S (block items end) g U
   block_written S V U q n end items h tail g x same i e a a' =
-      let e' : Pointed V (site end (live_behind N items) false) U = rw (← same) e in
+      let e' : Pointed V (site end (live_after_items N items) false) U = rw (← same) e in
       record {
-        walked = walk_then S (items_events (inside P path r) path N items) (plain_site path end (live_behind N items) ∷ []) V (passed U) x.walked e';
-        placed = λ T f b is. rw (a', a, i, one_longer V U (site end (live_behind N items) false) e')
-            (as_block (x.placed T f (begins_join V U T (pointed_begins V U (site end (live_behind N items) false) e') b) is)
-            (has_point V U T f end (live_behind N items) false e' b is));
+        walked = walk_then S (items_events (inside P path r) path N items) (plain_site path end (live_after_items N items) ∷ []) V (passed U) x.walked e';
+        placed = λ T f b is. rw (a', a, i, one_longer V U (site end (live_after_items N items) false) e')
+            (as_block (x.placed T f (begins_join V U T (pointed_begins V U (site end (live_after_items N items) false) e') b) is)
+            (has_point V U T f end (live_after_items N items) false e' b is));
       }
 
-  gives_as : (T : List Site) (f : inlined.Frame) (n k k' m m' : ℕ) (x x' : Receiver) (s : Rvalue) (h : Node) (u : ℕ) → k ≡ k' → m ≡ m' → x ≡ x' → Gives P T
+  gives_as : (T : List Site) (f : inlined.Frame) (n k k' m m' : ℕ) (x x' : Receiver) (s : Rvalue) (h : Node) (u : ℕ) → k ≡ k' → m ≡ m' → x ≡ x' →
+      InlineRvalue P T
       (spot_of f n k) m x s h u
-      → Gives P T (spot_of f n k') m' x' s h u
+      → InlineRvalue P T (spot_of f n k') m' x' s h u
   gives_as T f n k k' m m' x x' s h u a b c y =
-      subst (λ z. Gives P T (spot_of f n k') m' z s h u) c (subst (λ z. Gives P T (spot_of f n k') z x s h u) b (subst (λ z. Gives P T (spot_of f n z) m x s h u) a y))
+      subst (λ z. InlineRvalue P T (spot_of f n k') m' z s h u) c (subst (λ z. InlineRvalue P T (spot_of f n k') z x s h u) b (subst (λ z. InlineRvalue P T (spot_of f n z) m x s h u) a y))
 
-  inl_as : (T : List Site) (f : inlined.Frame) (n k k' : ℕ) (s : Stmt) (h : Node) (u : ℕ) → k ≡ k' → Inl P T (spot_of f n k) s h u → Inl P T (spot_of f n k') s h u
-  inl_as T f n k k' s h u e y = subst (λ z. Inl P T (spot_of f n z) s h u) e y
+  inl_as : (T : List Site) (f : inlined.Frame) (n k k' : ℕ) (s : Stmt) (h : Node) (u : ℕ) → k ≡ k' → InlineStmt P T (spot_of f n k) s h u → InlineStmt P T (spot_of f n k') s h u
+  inl_as T f n k k' s h u e y = subst (λ z. InlineStmt P T (spot_of f n z) s h u) e y
 
   pub assign_written : (S V U : List Site) (q at place : ℕ) (x : Variable) (s : Rvalue) (h g : Node) → q ≡ length S → Pointed S (site at N false) V → place ≡
       index_of r.base x.slot
@@ -130,7 +133,7 @@ module _ (P : Program) (path : List ℕ) (r : Frame) where
 
   -- an element that gets a value, and one whose value a call gives
   pub write_written : (S U : List Site) (q at : ℕ) (x : Element) (e : Expr) (h g : Node) → q ≡ length S → Pointed S (site at N false) U
-      → h ≡ act q (give_element r.base x e) → g ≡ seq (point q) h → WritesStmt P path r S (write at x (value e)) g U
+      → h ≡ act q (store_element r.base x e) → g ≡ seq (point q) h → WritesStmt P path r S (write at x (value e)) g U
   write_written S U q at x e h g i pointed a a' = record {
     walked = pointed;
     placed = λ T f b is.
@@ -138,9 +141,9 @@ module _ (P : Program) (path : List ℕ) (r : Frame) where
   }
 
   calls_as : (T : List Site) (f : inlined.Frame) (n k k' m m' : ℕ) (x : Receiver) (gives gives' : List Argument → Op) (c : Call) (h : Node) (u : ℕ) → k ≡ k'
-      → m ≡ m' → gives ≡ gives' → Calls P T (spot_of f n k) m x gives c h u → Calls P T (spot_of f n k') m' x gives' c h u
-  calls_as T f n k k' m m' x gives gives' c h u a b d y = subst (λ z. Calls P T (spot_of f n k') m' x z c h u) d
-      (subst (λ z. Calls P T (spot_of f n k') z x gives c h u) b (subst (λ z. Calls P T (spot_of f n z) m x gives c h u) a y))
+      → m ≡ m' → gives ≡ gives' → InlineCall P T (spot_of f n k) m x gives c h u → InlineCall P T (spot_of f n k') m' x gives' c h u
+  calls_as T f n k k' m m' x gives gives' c h u a b d y = subst (λ z. InlineCall P T (spot_of f n k') m' x z c h u) d
+      (subst (λ z. InlineCall P T (spot_of f n k') z x gives c h u) b (subst (λ z. InlineCall P T (spot_of f n z) m x gives c h u) a y))
 
   pub write_called : (S V U : List Site) (q at : ℕ) (x : Element) (c : Call) (h g : Node) → q ≡ length S → Pointed S (site at N false) V
       → WritesCall P path r q (waiting_in x.array) (push_for r.base x) V c h U
@@ -202,8 +205,8 @@ module _ (P : Program) (path : List ℕ) (r : Frame) where
         (y.placed T (record f { breaks = Some N; continues = Some N }) b (in_loop (Some N) is)));
   }
 
-  loops_as : (T : List Site) (f : inlined.Frame) (n k k' m m' : ℕ) (s : Stmt) (g : Node) (u : ℕ) → k ≡ k' → m ≡ m' → Loops P T (spot_of f n k) m s g u → Loops P T (spot_of f n k') m' s g u
-  loops_as T f n k k' m m' s g u a b y = subst (λ z. Loops P T (spot_of f n k') z s g u) b (subst (λ z. Loops P T (spot_of f n z) m s g u) a y)
+  loops_as : (T : List Site) (f : inlined.Frame) (n k k' m m' : ℕ) (s : Stmt) (g : Node) (u : ℕ) → k ≡ k' → m ≡ m' → InlineLoop P T (spot_of f n k) m s g u → InlineLoop P T (spot_of f n k') m' s g u
+  loops_as T f n k k' m m' s g u a b y = subst (λ z. InlineLoop P T (spot_of f n k') z s g u) b (subst (λ z. InlineLoop P T (spot_of f n z) m s g u) a y)
 
   pub loop_written : (S V U : List Site) (q at : ℕ) (c : Cond) (s t : Stmt) (g : Node) → q ≡ length S → Pointed S (site at N false) V → WritesLoop P path r q V c s t g U
       → WritesStmt P path r S (loop at c s t) g U
@@ -211,13 +214,13 @@ module _ (P : Program) (path : List ℕ) (r : Frame) where
     walked = walk_then S (plain_site path at N ∷ []) (stmt_events (inside P path r) path N t ++ stmt_events (inside P path r) path N s) V (passed U) e x.walked;
     placed = λ T f b is.
         let b' = begins_join V U T (begins_walk V (stmt_events (inside P path r) path N t ++ stmt_events (inside P path r) path N s) U x.walked) b in
-        let has : Has T (spot_of f N q) at = subst (λ z. Has T (spot_of f N z) at) (sym i) (has_point S V T f at N false e b' is) in
+        let has : IsSiteAt T (spot_of f N q) at = subst (λ z. IsSiteAt T (spot_of f N z) at) (sym i) (has_point S V T f at N false e b' is) in
         as_loop
         (loops_as T f N q (length S) (length V) (suc (length S)) (loop at c s t) g (length U) i (one_longer S V (site at N false) e) (x.placed T f b is at has));
   }
 
   pub break_written : (S U : List Site) (q at m : ℕ) (h g : Node) → q ≡ length S → Pointed S (site at N false) U → r.breaks ≡ Some m → m ≤ N
-      → h ≡ seq (act q (keep m)) (leave N broken)
+      → h ≡ seq (act q (truncate_to m)) (leave N broken)
       → g ≡ seq (point q) h
       → WritesStmt P path r S (break at) g U
   break_written S U q at m h g i e j low a a' = record {
@@ -226,7 +229,7 @@ module _ (P : Program) (path : List ℕ) (r : Frame) where
   }
 
   pub continue_written : (S U : List Site) (q at m : ℕ) (h g : Node) → q ≡ length S → Pointed S (site at N false) U → r.continues ≡ Some m → m ≤ N
-      → h ≡ seq (act q (keep m)) (leave N continued) → g ≡ seq (point q) h
+      → h ≡ seq (act q (truncate_to m)) (leave N continued) → g ≡ seq (point q) h
       → WritesStmt P path r S (continue at) g U
   continue_written S U q at m h g i e j low a a' = record {
     walked = e;
@@ -246,11 +249,12 @@ module _ (P : Program) (path : List ℕ) (r : Frame) where
     placed = λ T f b is. rw (a, i, ← is.base, one_longer S U (site at N false) e) (as_assume (has_point S U T f at N false e b is));
   }
 
-  pub for_written : (S V W U : List Site) (q at n : ℕ) (init : BlockItems) (c : Cond) (s t : Stmt) (h k l g : Node) → q ≡ length S → n ≡ live_behind N init → Pointed S (site at n false) V
+  pub for_written : (S V W U : List Site) (q at n : ℕ) (init : BlockItems) (c : Cond) (s t : Stmt) (h k l g : Node) → q ≡ length S → n ≡ live_after_items N init → Pointed S (site at n false) V
       → WritesItems P path r V init h W
-      → WritesLoop P path (record r { live = n }) q W c s t k U → l ≡ seq k (act q (keep N)) → g ≡ seq h l → WritesStmt P path r S (for at init c s t) g U
+      → WritesLoop P path (record r { live = n }) q W c s t k U → l ≡ seq k (act q (truncate_to N)) → g ≡ seq h l →
+      WritesStmt P path r S (for at init c s t) g U
   for_written S V W U q at n init c s t h k l g i same e x y a a' =
-      let m = live_behind N init in
+      let m = live_after_items N init in
       let e' : Pointed S (site at m false) V = subst (λ z. Pointed S (site at z false) V) same e in
       let y' = subst (λ z. WritesLoop P path (record r { live = z }) q W c s t k U) same y in
       let begin = items_events (inside P path r) path N init in
@@ -263,9 +267,9 @@ module _ (P : Program) (path : List ℕ) (r : Frame) where
         placed = λ T f b is.
             let b' = begins_join W U T (begins_walk W rest U y'.walked) b in
             let b'' = begins_join V W T (begins_walk V begin W x.walked) b' in
-            let has : Has T (spot_of f m q) at = subst (λ z. Has T (spot_of f m z) at) (sym i) (has_point S V T f at m false e' b'' is) in
+            let has : IsSiteAt T (spot_of f m q) at = subst (λ z. IsSiteAt T (spot_of f m z) at) (sym i) (has_point S V T f at m false e' b'' is) in
             rw (a', a, i) (as_for
-            (subst (λ z. InlAll P T (spot_of f N z) init h m (length W)) (one_longer S V (site at m false) e') (x.placed T f b' is))
+            (subst (λ z. InlineItems P T (spot_of f N z) init h m (length W)) (one_longer S V (site at m false) e') (x.placed T f b' is))
             (loops_as T f m q (length S) (length W) (length W) (loop at c s t) k (length U) i refl (y'.placed T f b (with_live m is) at has)));
       }
 
@@ -275,38 +279,38 @@ module _ (P : Program) (path : List ℕ) (r : Frame) where
     walked = walk_then S (plain_site path at N ∷ []) (given_events (inside P path r) path N o) V (passed U) e x.walked;
     placed = λ T f b is.
         let b' = begins_join V U T (begins_walk V (given_events (inside P path r) path N o) U x.walked) b in
-        let has : Has T (spot_of f N q) at = subst (λ z. Has T (spot_of f N z) at) (sym i) (has_point S V T f at N false e b' is) in
+        let has : IsSiteAt T (spot_of f N q) at = subst (λ z. IsSiteAt T (spot_of f N z) at) (sym i) (has_point S V T f at N false e b' is) in
         rw a (inl_as T f N q (length S) (return at o) (seq (point q) h) (length U) i (x.placed T f b is at (one_longer S V (site at N false) e ∙ ap suc (sym i)) has));
   }
 
   return_as : (T : List Site) (f : inlined.Frame) (q : ℕ) (s : Stmt) (op : Receiver → step.Op) (u : ℕ) (t t' : Receiver) (m m' : ℕ) → t ≡ t' → m ≡ m'
-      → Inl P T (spot_of f N q) s (seq (point q) (return_node q (op t) m N)) u
-      → Inl P T (spot_of f N q) s (seq (point q) (return_node q (op t') m' N)) u
-  return_as T f q s op u t t' m m' a b y = subst (λ z. Inl P T (spot_of f N q) s (seq (point q) (return_node q (op t') z N)) u) b
-      (subst (λ z. Inl P T (spot_of f N q) s (seq (point q) (return_node q (op z) m N)) u) a y)
+      → InlineStmt P T (spot_of f N q) s (seq (point q) (return_node q (op t) m N)) u
+      → InlineStmt P T (spot_of f N q) s (seq (point q) (return_node q (op t') m' N)) u
+  return_as T f q s op u t t' m m' a b y = subst (λ z. InlineStmt P T (spot_of f N q) s (seq (point q) (return_node q (op t') z N)) u) b
+      (subst (λ z. InlineStmt P T (spot_of f N q) s (seq (point q) (return_node q (op z) m N)) u) a y)
 
   module _ (S : List Site) (q n : ℕ) (back : r.back ≡ Some n) (low : n ≤ N) where
-    pub return_any_written : (g : Node) → g ≡ return_node q (give_any r.receiver) n N → WritesReturn q S None g S
+    pub return_any_written : (g : Node) → g ≡ return_node q (havoc r.receiver) n N → WritesReturn q S None g S
     return_any_written g a = record {
       walked = refl;
       placed = λ T f bs is at long has.
           let z = back_there f.back n (is.back ∙ back) in
           let low' : z.0.length ≤ N = subst (λ m. m ≤ N) (sym z.2) low in
-          rw (a, long) (return_as T f q (return at None) give_any (suc q) z.0.receiver r.receiver z.0.length n
+          rw (a, long) (return_as T f q (return at None) havoc (suc q) z.0.receiver r.receiver z.0.length n
           (receiver_there P f.back z.0 r.receiver z.1 is.receiver) z.2 (as_return z.1 low' has));
     }
 
-    pub return_value_written : (e : Expr) (g : Node) → g ≡ return_node q (give r.base r.receiver e) n N → WritesReturn q S (Some (value e)) g S
+    pub return_value_written : (e : Expr) (g : Node) → g ≡ return_node q (store_value r.base r.receiver e) n N → WritesReturn q S (Some (value e)) g S
     return_value_written e g a = record {
       walked = refl;
       placed = λ T f bs is at long has.
           let z = back_there f.back n (is.back ∙ back) in
           let low' : z.0.length ≤ N = subst (λ m. m ≤ N) (sym z.2) low in
-          rw (a, long, ← is.base) (return_as T f q (return at (Some (value e))) (λ t. give f.here.base t e) (suc q) z.0.receiver r.receiver z.0.length n
+          rw (a, long, ← is.base) (return_as T f q (return at (Some (value e))) (λ t. store_value f.here.base t e) (suc q) z.0.receiver r.receiver z.0.length n
           (receiver_there P f.back z.0 r.receiver z.1 is.receiver) z.2 (as_return_value z.1 low' has));
     }
 
-    pub return_call_written : (U : List Site) (c : Call) (h k g : Node) → WritesRvalue P path r q r.receiver S (result c) h U → k ≡ seq (act q (keep n))
+    pub return_call_written : (U : List Site) (c : Call) (h k g : Node) → WritesRvalue P path r q r.receiver S (result c) h U → k ≡ seq (act q (truncate_to n))
         (leave N returned) → g ≡ seq h k
         → WritesReturn q S (Some (result c)) g U
     return_call_written U c h k g y a a' = record {
@@ -323,13 +327,13 @@ module _ (P : Program) (path : List ℕ) (r : Frame) where
     pub end_any_written : (g : Node) → g ≡ leave N returned → WritesReturn q S None g S
     end_any_written g a = record { walked = refl; placed = λ T f bs is at long has. rw (a, long) (as_end (no_back_there f.back (is.back ∙ back)) has) }
 
-    pub end_value_written : (e : Expr) (g : Node) → g ≡ seq (act q (give r.base r.receiver e)) (leave N returned) → WritesReturn q S (Some (value e)) g S
+    pub end_value_written : (e : Expr) (g : Node) → g ≡ seq (act q (store_value r.base r.receiver e)) (leave N returned) → WritesReturn q S (Some (value e)) g S
     end_value_written e g a = record {
       walked = refl;
       placed = λ T f bs is at long has.
           let none = no_back_there f.back (is.back ∙ back) in
-          rw (a, long, ← is.base) (subst (λ x. Inl P T (spot_of f N q) (return at (Some (value e)))
-          (seq (point q) (seq (act q (give f.here.base x e)) (leave N returned))) (suc q))
+          rw (a, long, ← is.base) (subst (λ x. InlineStmt P T (spot_of f N q) (return at (Some (value e)))
+          (seq (point q) (seq (act q (store_value f.here.base x e)) (leave N returned))) (suc q))
           (main_there P f.back r.receiver none is.receiver) (as_end_value none has));
     }
 
@@ -340,7 +344,7 @@ module _ (P : Program) (path : List ℕ) (r : Frame) where
       placed = λ T f bs is at long has.
           let none = no_back_there f.back (is.back ∙ back) in
           rw a (as_end_call none has
-          (gives_as T f N q q (length S) (suc q) r.receiver (behind_main P) (result c) h (length U) refl long
+          (gives_as T f N q q (length S) (suc q) r.receiver (main_receiver P) (result c) h (length U) refl long
           (sym (main_there P f.back r.receiver none is.receiver)) (y.placed T f bs is)));
     }
 
@@ -357,7 +361,8 @@ module _ (P : Program) (path : List ℕ) (r : Frame) where
     call_back : (U : List Site) (c : Call) (h : Node) (o : Option ℕ) → r.back ≡ o → WritesRvalue P path r q r.receiver V (result c) h U
         → WritesReturn q V (Some (result c)) (call_left o q h N) U
     call_back U c h None e y = end_call_written V q e U c h (call_left None q h N) y refl
-    call_back U c h (Some n) e y = return_call_written V q n e (low n e) U c h (seq (act q (keep n)) (leave N returned)) (call_left (Some n) q h N) y refl refl
+    call_back U c h (Some n) e y =
+        return_call_written V q n e (low n e) U c h (seq (act q (truncate_to n)) (leave N returned)) (call_left (Some n) q h N) y refl refl
 
     module _ (S : List Site) (at : ℕ) (g : Node) (i : q ≡ length S) (pointed : Pointed S (site at N false) V) where
       pub any_returned : g ≡ seq (point q) (any_left r.back r.receiver q N) → WritesStmt P path r S (return at None) g V
@@ -388,9 +393,9 @@ module _ (P : Program) (path : List ℕ) (r : Frame) where
         as_stated (x.placed T f b' is) (y.placed T f b is);
   }
 
-  cases_as : (T : List Site) (f : inlined.Frame) (n k k' : ℕ) (cs : Cases) (arms : Arms) (u : ℕ) → k ≡ k' → InlCases P T (spot_of f n k) cs arms u
-      → InlCases P T (spot_of f n k') cs arms u
-  cases_as T f n k k' cs arms u e y = subst (λ z. InlCases P T (spot_of f n z) cs arms u) e y
+  cases_as : (T : List Site) (f : inlined.Frame) (n k k' : ℕ) (cs : Cases) (arms : Arms) (u : ℕ) → k ≡ k' → InlineCases P T (spot_of f n k) cs arms u
+      → InlineCases P T (spot_of f n k') cs arms u
+  cases_as T f n k k' cs arms u e y = subst (λ z. InlineCases P T (spot_of f n z) cs arms u) e y
 
   pub switch_written : (S V U : List Site) (q at : ℕ) (e : Expr) (cs : Cases) (arms : Arms) (g : Node) → q ≡ length S → Pointed S (site at N false) V
       → WritesCases P path (cases_frame r) V cs arms U
@@ -428,9 +433,9 @@ module _ (P : Program) (path : List ℕ) (r : Frame) where
         placed = λ T f bs is.
             let bs' = begins_join W U T (begins_walk W rest U y'.walked) bs in
             let bs'' = begins_join V W T (begins_walk V mid W x.walked) bs' in
-            let x' : Declares P T (spot_of f N (length S)) (suc (length S)) d.number_type d.rvalue h (length W) =
-            subst (λ z. Declares P T (spot_of f N (length S)) z d.number_type d.rvalue h (length W)) (one_longer S V (site d.label N false) e)
-            (subst (λ z. Declares P T (spot_of f N z) (length V) d.number_type d.rvalue h (length W)) i (x.placed T f bs' is)) in
+            let x' : InlineDeclarator P T (spot_of f N (length S)) (suc (length S)) d.number_type d.rvalue h (length W) =
+            subst (λ z. InlineDeclarator P T (spot_of f N (length S)) z d.number_type d.rvalue h (length W)) (one_longer S V (site d.label N false) e)
+            (subst (λ z. InlineDeclarator P T (spot_of f N z) (length V) d.number_type d.rvalue h (length W)) i (x.placed T f bs' is)) in
             rw (a', a, i) (as_declaration (has_point S V T f d.label N false e bs'' is) x'
             (y'.placed T f bs (with_live (suc N) is)));
       }
@@ -443,7 +448,8 @@ module _ (P : Program) (path : List ℕ) (r : Frame) where
         walked = walk_then S (plain_site path at N ∷ []) rest V (passed U) e y.walked;
         placed = λ T f bs is.
             let bs' = begins_join V U T (begins_walk V rest U y.walked) bs in
-            let y' = subst (λ z. InlAll P T (spot_of f N z) b k (live_behind N b) (length U)) (one_longer S V (site at N false) e) (y.placed T f bs is) in
+            let y' = subst (λ z. InlineItems P T (spot_of f N z) b k (live_after_items N b) (length U)) (one_longer S V (site at N false) e)
+            (y.placed T f bs is) in
             rw (a'', a', a, i) (as_array (has_point S V T f at N false e bs' is) y');
       }
 
@@ -457,7 +463,8 @@ module _ (P : Program) (path : List ℕ) (r : Frame) where
       let y' = subst (λ z. WritesRvalue P path (record r { live = z }) q (variable_at r.live t) S e h U) same y in
       record { walked = y'.walked; placed = λ T f b is. rw a (as_given (y'.placed T f b (with_live (suc N) is))) }
 
-  pub value_written : (S : List Site) (q : ℕ) (x : Receiver) (e : Expr) (g : Node) → g ≡ act q (give r.base x e) → WritesRvalue P path r q x S (value e) g S
+  pub value_written : (S : List Site) (q : ℕ) (x : Receiver) (e : Expr) (g : Node) → g ≡ act q (store_value r.base x e) →
+      WritesRvalue P path r q x S (value e) g S
   value_written S q x e g a = record { walked = refl; placed = λ T f b is. rw (a, ← is.base) as_value }
 
   -- a call that may still be made
@@ -472,16 +479,16 @@ module _ (P : Program) (path : List ℕ) (r : Frame) where
         breaks = None;
         continues = None;
         receiver =
-            behind_result fn.result_type x;
+            result_receiver fn.result_type x;
         back = Some r.live;
       }) S
       fn.body h V
-      → n ≡ live_behind (N + length fn.parameters) fn.body → k ≡ length V → Pointed V
+      → n ≡ live_after_items (N + length fn.parameters) fn.body → k ≡ length V → Pointed V
       (record { path = c.label ∷ path; label = fn.end; live = n; asserts = false }) U
-      → g ≡ callee_node q k N (behind_result fn.result_type x) (gives (arguments_for fn.parameters c.arguments)) (length fn.parameters) h
+      → g ≡ callee_node q k N (result_receiver fn.result_type x) (gives (arguments_for fn.parameters c.arguments)) (length fn.parameters) h
       → WritesCall P path r q x gives S c g U
   result_written S V U q k n more x gives c fn h g left found wide y same i e a =
-      let m = live_behind (N + length fn.parameters) fn.body in
+      let m = live_after_items (N + length fn.parameters) fn.body in
       let last : Site = record { path = c.label ∷ path; label = fn.end; live = m; asserts = false } in
       let e' : Pointed V last U = subst (λ z. Pointed V (record { path = c.label ∷ path; label = fn.end; live = z; asserts = false }) U) same e in
       record {
@@ -496,12 +503,12 @@ module _ (P : Program) (path : List ℕ) (r : Frame) where
               calls_left = more;
               breaks = None;
               continues = None;
-              receiver = behind_result fn.result_type x;
+              receiver = result_receiver fn.result_type x;
               back = Some r.live;
-            }) (callee f N (behind_result fn.result_type x) c) = record
+            }) (callee f N (result_receiver fn.result_type x) c) = record
             { path = ap (λ z. c.label ∷ z) is.path; base = refl; breaks = refl; continues = refl; receiver = refl; back = refl } in
             rw (a, i, one_longer V U last e')
-            (is_call {s = spot_of f N q} found wide (y.placed T (callee f N (behind_result fn.result_type x) c)
+            (is_call {s = spot_of f N q} found wide (y.placed T (callee f N (result_receiver fn.result_type x) c)
             (begins_join V U T (pointed_begins V U last e') b) is')
             (rw is.path (point_there V U T last e' b)));
       }
@@ -510,7 +517,7 @@ module _ (P : Program) (path : List ℕ) (r : Frame) where
 module _ (path : List ℕ) (r : Frame) where
   pub leaves_written : (S U : List Site) (q at m : ℕ) (exit : Exit) (h g : Node) → q ≡ length S
       → Pointed S (record { path = path; label = at; live = r.live; asserts = false }) U → length_left exit r ≡ Some m
-      → h ≡ seq (act q (keep m)) (leave r.live exit) → g ≡ seq (point q) h → LeavesLoop path r S at exit g U
+      → h ≡ seq (act q (truncate_to m)) (leave r.live exit) → g ≡ seq (point q) h → LeavesLoop path r S at exit g U
   leaves_written S U q at m broken h g i e j a a' P d low = break_written P path r S U q at m h g i e j (low m j) a a'
   leaves_written S U q at m continued h g i e j a a' P d low = continue_written P path r S U q at m h g i e j (low m j) a a'
   leaves_written S U q at m returned h g i e j a a' P d low = absurd (d refl)

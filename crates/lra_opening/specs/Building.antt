@@ -5,13 +5,13 @@ use Rattle.std.specs.Prelude.{slice_get}
 use Rattle.lra_program.specs.Program.{Expr, Cond, Call, Rvalue, Stmt, loop, break, continue, return, Cases, BlockItems}
 use Rattle.lra_program.specs.Program.{Function, Program}
 use Rattle.lra_program.specs.Step as step
-use Rattle.lra_program.specs.Step.{Op, give, give_any, keep, behind_main}
+use Rattle.lra_program.specs.Step.{Op, store_value, havoc, truncate_to, main_receiver}
 use Rattle.lra_program.specs.Value.{Argument}
 use Rattle.lra_base.specs.declared.number_types.NumberType.{NumberType}
 use Rattle.lra_program.specs.declared.receivers.Receiver.{Receiver}
-use Rattle.lra_program.specs.Receivers.{behind_result}
-use Rattle.lra_operations.specs.Graph.{Exit, broken, continued, returned, Node, act, leave, seq, Arms}
-use Rattle.lra_program.specs.Sites.{Site, Event, live_behind, rvalue_events, given_events, stmt_events}
+use Rattle.lra_program.specs.Receivers.{result_receiver}
+use Rattle.lra_operations.specs.Tree.{Exit, broken, continued, returned, Node, act, leave, seq, Arms}
+use Rattle.lra_program.specs.Sites.{Site, Event, live_after_items, rvalue_events, given_events, stmt_events}
 use Rattle.lra_program.specs.Sites.{cases_events, items_events, call_events}
 use Rattle.lra_operations.specs.Inlined as inlined
 use Rattle.lra_program.specs.WellFormed.{Jumps, IsGoodCall, IsGoodGiven, IsGoodStmt, AreGoodCases, AreGoodItems}
@@ -22,13 +22,13 @@ use Rattle.lra_opening.specs.declared.frame.Frame.{Frame}
 -- frames ------------------------------------------------------------------------------------------------------------
 
 -- how long the caller's store is
-abbrev pub back_length : Option step.Back → Option ℕ
+abbrev pub back_length : Option step.ReturnFrame → Option ℕ
 back_length None = None
 back_length (Some b) = Some b.length
 
 -- what gets the value of the function that runs
-abbrev pub receiver_behind : Program → Option step.Back → Receiver
-receiver_behind P None = behind_main P
+abbrev pub receiver_behind : Program → Option step.ReturnFrame → Receiver
+receiver_behind P None = main_receiver P
 receiver_behind P (Some b) = b.receiver
 
 pub record IsFrame (P : Program) (calls : List ℕ) (r : Frame) (f : inlined.Frame) : Type 0 where
@@ -88,15 +88,15 @@ callee_frame r x params = record {
 -- called function the store is cut to the caller's n
 abbrev pub any_left : Option ℕ → Receiver → ℕ → ℕ → Node
 any_left None x q live = leave live returned
-any_left (Some n) x q live = inlined.return_node q (give_any x) n live
+any_left (Some n) x q live = inlined.return_node q (havoc x) n live
 
 abbrev pub value_left : Option ℕ → Receiver → ℕ → ℕ → Expr → ℕ → Node
-value_left None x q base e live = seq (act q (give base x e)) (leave live returned)
-value_left (Some n) x q base e live = inlined.return_node q (give base x e) n live
+value_left None x q base e live = seq (act q (store_value base x e)) (leave live returned)
+value_left (Some n) x q base e live = inlined.return_node q (store_value base x e) n live
 
 abbrev pub call_left : Option ℕ → ℕ → Node → ℕ → Node
 call_left None q g live = seq g (leave live returned)
-call_left (Some n) q g live = seq g (seq (act q (keep n)) (leave live returned))
+call_left (Some n) q g live = seq g (seq (act q (truncate_to n)) (leave live returned))
 
 -- what is written ---------------------------------------------------------------------------------------------------
 
@@ -115,38 +115,38 @@ module _ (P : Program) (path : List ℕ) (r : Frame) where
 
   abbrev pub WritesStmt : List Site → Stmt → Node → List Site → Type 0
   WritesStmt S s g U = Writes P path r (stmt_events inside path r.live s) S U
-      (λ T f. inlined.Inl P T (inlined.spot_of f r.live (length S)) s g (length U))
+      (λ T f. inlined.InlineStmt P T (inlined.spot_of f r.live (length S)) s g (length U))
 
   -- the statements of a `switch`
   abbrev pub WritesCases : List Site → Cases → Arms → List Site → Type 0
   WritesCases S cs arms U = Writes P path r (cases_events inside path r.live cs) S U
-      (λ T f. inlined.InlCases P T (inlined.spot_of f r.live (length S)) cs arms (length U))
+      (λ T f. inlined.InlineCases P T (inlined.spot_of f r.live (length S)) cs arms (length U))
 
   abbrev pub WritesItems : List Site → BlockItems → Node → List Site → Type 0
   WritesItems S b g U = Writes P path r (items_events inside path r.live b) S U
-      (λ T f. inlined.InlAll P T (inlined.spot_of f r.live (length S)) b g (live_behind r.live b) (length U))
+      (λ T f. inlined.InlineItems P T (inlined.spot_of f r.live (length S)) b g (live_after_items r.live b) (length U))
 
   -- what a receiver gets, from the point q on
   abbrev pub WritesRvalue : ℕ → Receiver → List Site → Rvalue → Node → List Site → Type 0
   WritesRvalue q x S e g U = Writes P path r (rvalue_events inside path r.live e) S U
-      (λ T f. inlined.Gives P T (inlined.spot_of f r.live q) (length S) x e g (length U))
+      (λ T f. inlined.InlineRvalue P T (inlined.spot_of f r.live q) (length S) x e g (length U))
 
   -- a call for the receiver, at the point q, whose arguments an operation gives
   abbrev pub WritesCall : ℕ → Receiver → (List Argument → Op) → List Site → Call → Node → List Site → Type 0
   WritesCall q x gives S c g U = Writes P path r (inside path r.live c) S U
-      (λ T f. inlined.Calls P T (inlined.spot_of f r.live q) (length S) x gives c g (length U))
+      (λ T f. inlined.InlineCall P T (inlined.spot_of f r.live q) (length S) x gives c g (length U))
 
   -- a loop behind its own point q
   abbrev pub WritesLoop : ℕ → List Site → Cond → Stmt → Stmt → Node → List Site → Type 0
   WritesLoop q S c a step g U =
       Writes P path r (stmt_events inside path r.live step ++ stmt_events inside path r.live a) S U
-      (λ T f. (at : ℕ) → inlined.Has T (inlined.spot_of f r.live q) at
-      → inlined.Loops P T (inlined.spot_of f r.live q) (length S) (loop at c a step) g (length U))
+      (λ T f. (at : ℕ) → inlined.IsSiteAt T (inlined.spot_of f r.live q) at
+      → inlined.InlineLoop P T (inlined.spot_of f r.live q) (length S) (loop at c a step) g (length U))
 
   -- a declarator, and its variable's value, behind its point q
   abbrev pub WritesDeclared : ℕ → List Site → NumberType → Option Rvalue → Node → List Site → Type 0
   WritesDeclared q S t o g U = Writes P path r (given_events inside path (suc r.live) o) S U
-      (λ T f. inlined.Declares P T (inlined.spot_of f r.live q) (length S) t o g (length U))
+      (λ T f. inlined.InlineDeclarator P T (inlined.spot_of f r.live q) (length S) t o g (length U))
 
 -- the body of the function that a call names, from the points S to V, behind which n live
 pub record WritesBody (P : Program) (path : List ℕ) (r : Frame) (x : Receiver) (c : Call) (S : List Site) (g : Node)
@@ -155,8 +155,8 @@ pub record WritesBody (P : Program) (path : List ℕ) (r : Frame) (x : Receiver)
   pub found : slice_get P.functions c.function ≡ Some fn
   pub some_left : r.calls_left ≢ 0
   pub written : WritesItems P (c.label ∷ path)
-      (callee_frame r (behind_result fn.result_type x) (length fn.parameters)) S fn.body g V
-  pub last : n ≡ live_behind (r.live + length fn.parameters) fn.body
+      (callee_frame r (result_receiver fn.result_type x) (length fn.parameters)) S fn.body g V
+  pub last : n ≡ live_after_items (r.live + length fn.parameters) fn.body
 
 -- an item takes what stands behind it: it stands in the frame with some items behind it
 abbrev pub ItemStands : Program → Frame → (BlockItems → BlockItems) → Type 0
@@ -166,7 +166,7 @@ module _ (P : Program) (path : List ℕ) (r : Frame) where
   -- it is written out, and n live behind it: whatever stands behind it then begins there
   pub record WritesItem (S : List Site) (item : BlockItems → BlockItems) (g : Node) (n : ℕ) (V : List Site)
       : Type 0 where
-    pub live : (b : BlockItems) → live_behind n b ≡ live_behind r.live (item b)
+    pub live : (b : BlockItems) → live_after_items n b ≡ live_after_items r.live (item b)
     pub stands : (b : BlockItems) → ItemsStand P r (item b) → ItemsStand P (record r { live = n }) b
     pub writes : (b : BlockItems) (h : Node) (U : List Site) → WritesItems P path (record r { live = n }) V b h U
         → WritesItems P path r S (item b) (seq g h) U

@@ -1,8 +1,8 @@
 -- What is owed for a part, by what stands around it in code, and by the points before it and behind it.
 use Rattle.std.specs.Prelude.{◌≡◌, ℕ, List, [], ◌∷◌, map, true, ⊤, Vec, Option, Some, None, option_map}
 use Rattle.std.specs.declared.alloc.Global.{Global}
-use Rattle.lra_operations.specs.declared.graph.Node as code
-use Rattle.lra_operations.specs.declared.graph.Site as code_site
+use Rattle.lra_operations.specs.declared.tree.Node as code
+use Rattle.lra_operations.specs.declared.tree.Site as code_site
 use Rattle.lra_program.specs.declared.receivers.Receiver.{Receiver}
 use Rattle.lra_program.specs.Step.{Op, push, push_for}
 use Rattle.lra_program.specs.Value.{Argument}
@@ -10,12 +10,12 @@ use Rattle.lra_program.specs.declared.program.Expr as code_expr
 use Rattle.lra_program.specs.declared.program.CaseItem as code_case
 use Rattle.lra_program.specs.Program.{Call, Element, Stmt, block, assign, write, call, if, loop, for, return, switch}
 use Rattle.lra_program.specs.Program.{BlockItems, Program}
-use Rattle.lra_operations.specs.Graph.{Exit, Node}
+use Rattle.lra_operations.specs.Tree.{Exit, Node}
 use Rattle.lra_program.specs.Sites.{Site, Event, comes, plain_site, stmt_events}
 use Rattle.lra_program.specs.Sites.{items_events, call_events}
 use Rattle.lra_program.specs.ProgramViews.{expr_view, element_view, cond_view, stmt_view, case_view, cases_of}
 use Rattle.lra_program.specs.ProgramViews.{program_view}
-use Rattle.lra_operations.specs.GraphViews.{node_view, site_view}
+use Rattle.lra_operations.specs.TreeViews.{node_view, site_view}
 use Rattle.lra_opening.specs.Limits.{walk, passed, stopped}
 use Rattle.lra_opening.specs.Building as building
 use Rattle.lra_opening.specs.declared.points.Limit.{Limit}

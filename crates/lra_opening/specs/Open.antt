@@ -4,17 +4,18 @@ use Rattle.std.specs.Prelude.{◌≡◌, ℕ, ◌+◌, ◌≤◌, List, [], ◌�
 use Rattle.lra_base.specs.Limits.{greatest_live}
 use Rattle.lra_base.specs.declared.case_labels.CaseLabel.{CaseLabel}
 use Rattle.lra_program.specs.declared.program.CaseItem.{CaseItem}
-use Rattle.lra_operations.specs.declared.graph.Arm.{Arm}
+use Rattle.lra_operations.specs.declared.tree.Arm.{Arm}
 use Rattle.lra_program.specs.Program as resolved
 use Rattle.lra_program.specs.Program.{Declarator, declaration, array, BlockItems, Program, Cond}
 use Rattle.lra_program.specs.declared.arrays.Array as arrays
-use Rattle.lra_program.specs.Step.{append, keep}
-use Rattle.lra_program.specs.Sites.{Site, live_behind, plain_site, stmt_events, cases_events, items_events, call_events}
+use Rattle.lra_program.specs.Step.{append, truncate_to}
+use Rattle.lra_program.specs.Sites.{Site, live_after_items, plain_site, stmt_events, cases_events, items_events}
+use Rattle.lra_program.specs.Sites.{call_events}
 use Rattle.lra_program.specs.ProgramViews.{expr_view, cond_view, call_view, stmt_view, declarator_view, item_view}
 use Rattle.lra_program.specs.ProgramViews.{items_of, case_view, cases_of}
-use Rattle.lra_operations.specs.Graph as graph
-use Rattle.lra_operations.specs.Graph.{Node, point, act, seq, choose, Arms}
-use Rattle.lra_operations.specs.GraphViews.{node_view, row, ArmPart, arm_view, arms_before}
+use Rattle.lra_operations.specs.Tree as graph
+use Rattle.lra_operations.specs.Tree.{Node, point, act, seq, choose, Arms}
+use Rattle.lra_operations.specs.TreeViews.{node_view, row, ArmPart, arm_view, arms_before}
 use Rattle.lra_operations.specs.Inlined.{loop_node, switch_node}
 use Rattle.lra_opening.specs.Limits.{walk, passed, stopped}
 use Rattle.lra_opening.specs.Building.{inside, call_left, ItemsStand, ItemStands, StmtStands, CasesStand, CallStands}
@@ -81,7 +82,7 @@ module _ (P : Program) where
   WrittenAs (a_stmt s) path r S g n V = WritesStmt P path r S s g V × (n ≡ r.live)
   WrittenAs (a_declaration d) path r S g n V = WritesItem P path r S (declaration d) g n V
   WrittenAs (an_array at a) path r S g n V = WritesItem P path r S (array at a) g n V
-  WrittenAs (all_items b) path r S g n V = WritesItems P path r S b g V × (n ≡ live_behind r.live b)
+  WrittenAs (all_items b) path r S g n V = WritesItems P path r S b g V × (n ≡ live_after_items r.live b)
   WrittenAs (a_call caller c) path r S g n V = WritesCallOf P path r caller S c g V × (n ≡ r.live)
   WrittenAs (all_rounds q c a step) path r S g n V = WritesLoop P path r q S c a step g V
 
@@ -132,14 +133,15 @@ module _ (P : Program) where
   pub record Ends (whole under : Due) (end : ℕ) : Type 0 where
     pub writes : (g : Node) (n : ℕ) (V U : List Site) → IsWritten under g n V
         → walk V (plain_site whole.path end n ∷ []) ≡ passed U
-        → IsWritten whole (seq g (seq (point (length V)) (act (length V) (keep whole.frame.live)))) whole.frame.live U
+        → IsWritten whole (seq g (seq (point (length V)) (act (length V) (truncate_to whole.frame.live))))
+        whole.frame.live U
     pub stops : (g : Node) (n : ℕ) (V : List Site) (l : Limit) → IsWritten under g n V
         → walk V (plain_site whole.path end n ∷ []) ≡ stopped l → Stops whole l
 
   -- items of which these are written, and these are left: whatever is written of those comes behind them
   pub record ItemsLoop (path : List ℕ) (r : Frame) (S : List Site) (all rest : BlockItems) (gs : List Node) (n : ℕ)
       (V : List Site) : Type 0 where
-    pub live : live_behind n rest ≡ live_behind r.live all
+    pub live : live_after_items n rest ≡ live_after_items r.live all
     pub stands : ItemsStand P (record r { live = n }) rest
     pub writes : (h : Node) (U : List Site) → WritesItems P path (record r { live = n }) V rest h U
         → WritesItems P path r S all (row gs h) U
@@ -203,9 +205,9 @@ module _ (P : Program) where
   Continues whole under (Forked x) = ForkContinues whole under x
   Continues whole under (Init q r) = Forks whole under
       (λ n V. due (part_view (Rounds q r)) whole.path (record whole.frame { live = n }) V)
-      (λ g h. seq g (seq h (act q (keep whole.frame.live))))
+      (λ g h. seq g (seq h (act q (truncate_to whole.frame.live))))
   Continues whole under (AroundAt q g) = Closes whole under
-      (λ h. seq (node_view g) (seq h (act q (keep whole.frame.live)))) whole.frame.live
+      (λ h. seq (node_view g) (seq h (act q (truncate_to whole.frame.live)))) whole.frame.live
   Continues whole under (Block end) = Ends whole under end
   Continues whole under (Given q) = Closes whole under (λ g. seq (point q) g) whole.frame.live
   Continues whole under (Declared q t) = (g : Node) (n : ℕ) (V : List Site) → IsWritten under g n V

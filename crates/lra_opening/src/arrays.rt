@@ -50,7 +50,7 @@ fn write_value<'a>(
     let point = open_point(here, label, sites)?;
     let element = element.copy(here.alloc)?;
     let value = value.copy(here.alloc)?;
-    let give = Node::Act(point, Op::GiveElement(here.frame.base, element, value));
+    let give = Node::Act(point, Op::StoreElement(here.frame.base, element, value));
     close(put_point(here.alloc, point, give), here.frame.live)
 }
 

@@ -4,7 +4,7 @@ ghost use Rattle.std.specs.Prelude.{◌≡◌, ◌<◌, ℕ, List, map, IfOk};
 ghost use Rattle.lra_program.specs.Program as resolved;
 ghost use Rattle.lra_program.specs.Sites as points;
 ghost use Rattle.lra_program.specs.ProgramViews.{expr_view, case_view, cases_of};
-ghost use Rattle.lra_operations.specs.GraphViews.{arm_view};
+ghost use Rattle.lra_operations.specs.TreeViews.{arm_view};
 ghost use Rattle.lra_opening.specs.Limits.{OnLimit};
 ghost use Rattle.lra_opening.specs.Open.{Due, a_stmt, due, SwitchLoop, PassesLabels, from_next, IsBehind, Leads};
 ghost use Rattle.lra_opening.specs.Steps.{next_left, kind_left, cases_left};

@@ -1,7 +1,7 @@
 //! Where a statement stands.
 
 ghost use Rattle.std.specs.Prelude.{◌≡◌};
-ghost use Rattle.lra_operations.specs.GraphViews.{exit_view};
+ghost use Rattle.lra_operations.specs.TreeViews.{exit_view};
 ghost use Rattle.lra_opening.specs.Building.{length_left};
 
 use lra_operations::{Exit, Path};

@@ -4,7 +4,7 @@ ghost use Rattle.std.specs.Prelude.{◌≡◌, ◌<◌, ◌+◌, ◌^◌, ℕ, m
 ghost use Rattle.std.specs.Borrow.{Bor};
 ghost use Rattle.lra_program.specs.Program as resolved;
 ghost use Rattle.lra_program.specs.declared.program.Stmt as code;
-ghost use Rattle.lra_program.specs.Sites.{live_behind};
+ghost use Rattle.lra_program.specs.Sites.{live_after_items};
 ghost use Rattle.lra_program.specs.Value.{index_of};
 ghost use Rattle.lra_program.specs.ProgramViews.{slot_view, variable_view, cond_view, call_view, rvalue_view, stmt_view};
 ghost use Rattle.lra_program.specs.ProgramViews.{declarator_view, item_view, items_of};
@@ -45,8 +45,8 @@ fn store_index(base: usize, slot: Slot) -> usize
 
 /// How many variables live behind the items, where the number fits.
 fn live_inside(live: usize, items: &[BlockItem]) -> Option<usize>
-    ensures { MatchOption result (greatest_live < live_behind live (items_of (map item_view items.now)))
-        (λ n. n ≡ live_behind live (items_of (map item_view items.now))) }
+    ensures { MatchOption result (greatest_live < live_after_items live (items_of (map item_view items.now)))
+        (λ n. n ≡ live_after_items live (items_of (map item_view items.now))) }
 {
     let mut inside = live;
     'items: for item in items {
@@ -209,7 +209,7 @@ fn open_assign<'a>(
     match rvalue {
         Rvalue::Value(value) => {
             let value = value.copy(here.alloc)?;
-            let give = Op::Give(frame.base, receiver, value);
+            let give = Op::StoreValue(frame.base, receiver, value);
             close(
                 put_point(here.alloc, point, Node::Act(point, give)),
                 frame.live,
@@ -340,7 +340,7 @@ pub fn open_declaration<'a>(
         }
         Some(Rvalue::Value(value)) => {
             let value = value.copy(alloc)?;
-            let give = Op::Give(frame.base, receiver, value);
+            let give = Op::StoreValue(frame.base, receiver, value);
             let node = Node::Act(point, give);
             close(declare(alloc, point, number_type, node), live)
         }

@@ -3,8 +3,8 @@
 ghost use Rattle.std.specs.Prelude.{◌≡◌, IfOk, None, Some};
 ghost use Rattle.lra_program.specs.Program as resolved;
 ghost use Rattle.lra_program.specs.ProgramViews.{expr_view, call_view, given_view};
-ghost use Rattle.lra_operations.specs.Graph.{seq, point as own};
-ghost use Rattle.lra_operations.specs.GraphViews.{node_view};
+ghost use Rattle.lra_operations.specs.Tree.{seq, point as own};
+ghost use Rattle.lra_operations.specs.TreeViews.{node_view};
 ghost use Rattle.lra_opening.specs.Building.{any_left, value_left, call_left};
 ghost use Rattle.lra_opening.specs.Limits.{OnLimit};
 ghost use Rattle.lra_opening.specs.Inlining.{StmtStands, StopsStmt};
@@ -29,7 +29,7 @@ fn leave_any(around: &Around<'_>, point: usize) -> Result<Node, AllocError>
     let frame = around.frame;
     match frame.back {
         Some(length) => {
-            let any = Op::GiveAny(frame.receiver);
+            let any = Op::Havoc(frame.receiver);
             let left = give_and_leave(alloc, point, any, length, frame.live)?;
             put_point(alloc, point, left)
         }
@@ -45,7 +45,7 @@ fn leave_value(around: &Around<'_>, point: usize, value: &Expr) -> Result<Node, 
 {
     let alloc = around.alloc;
     let frame = around.frame;
-    let give = Op::Give(frame.base, frame.receiver, value.copy(alloc)?);
+    let give = Op::StoreValue(frame.base, frame.receiver, value.copy(alloc)?);
     match frame.back {
         Some(length) => {
             let left = give_and_leave(alloc, point, give, length, frame.live)?;

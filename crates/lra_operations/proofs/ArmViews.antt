@@ -2,14 +2,14 @@
 use Rattle.std.proofs.Common.{rules, ◌≡◌, ◌∙◌, ◌∷◌, [], List, Bool, false, map, ap, sym}
 use Rattle.std.specs.Prelude.{◌||◌}
 use Rattle.std.specs.List.{list_any}
-use Rattle.lra_base.specs.CaseLabels.{are_alike}
+use Rattle.lra_base.specs.CaseLabels.{is_same_case}
 use Rattle.lra_base.specs.declared.case_labels.CaseLabel.{CaseLabel}
 use Rattle.lra_base.specs.declared.case_labels.CaseLabel.TheVariants.{Default}
-use Rattle.lra_operations.specs.declared.graph.Arm.{Arm}
-use Rattle.lra_operations.specs.declared.graph.Arm.TheVariants.{Entry, Tree}
-use Rattle.lra_operations.specs.declared.graph.Node.{Node, the_lemmas}
-use Rattle.lra_operations.specs.Graph.{Arms, no_arms, entry, arm, entries_of}
-use Rattle.lra_operations.specs.GraphViews.{ArmPart, node_view, arm_view, arms_of}
+use Rattle.lra_operations.specs.declared.tree.Arm.{Arm}
+use Rattle.lra_operations.specs.declared.tree.Arm.TheVariants.{Entry, Tree}
+use Rattle.lra_operations.specs.declared.tree.Node.{Node, the_lemmas}
+use Rattle.lra_operations.specs.Tree.{Arms, no_arms, entry, arm, entries_of}
+use Rattle.lra_operations.specs.TreeViews.{ArmPart, node_view, arm_view, arms_of}
 
 pub entry_view : (l : CaseLabel) → arm_view (Entry l) ≡ entry l
 entry_view l = search (rules, the_lemmas)
@@ -41,9 +41,9 @@ arms_none arms is = ap (λ (xs : List Arm). arms_of (map arm_view xs)) is
 -- whether a label is `default` ----------------------------------------------------------------------------------------
 
 abbrev pub default_in : Arms → Bool
-default_in h = list_any (are_alike Default) (entries_of h)
+default_in h = list_any (is_same_case Default) (entries_of h)
 
-pub entry_default : (a : Arm) (l : CaseLabel) (b : Bool) (h : Arms) → a ≡ Entry l → b ≡ are_alike Default l → default_in (arm_view a h) ≡ (b || default_in h)
+pub entry_default : (a : Arm) (l : CaseLabel) (b : Bool) (h : Arms) → a ≡ Entry l → b ≡ is_same_case Default l → default_in (arm_view a h) ≡ (b || default_in h)
 entry_default a l b h is same = ap default_in (entry_seen a l h is) ∙ ap (λ (c : Bool). c || default_in h) (sym same)
 
 pub tree_default : (a : Arm) (g : Node) (h : Arms) → a ≡ Tree g → default_in (arm_view a h) ≡ (false || default_in h)

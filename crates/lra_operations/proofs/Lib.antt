@@ -2,8 +2,8 @@
 mod NodeViewExamples
 mod DistinctExamples
 pub mod SizeLaws
-pub mod TrailLaws
-pub mod TrailUses
+pub mod TraceLaws
+pub mod TraceUses
 pub mod ArmViews
 pub mod ArmRows
-mod TrailExamples
+mod TraceExamples

@@ -2,11 +2,11 @@
 use Rattle.std.proofs.Common.{◌≡◌, ℕ, ◌+◌, ◌<◌, List, [], ◌∷◌, ◌++◌, Box, Global, Vec, map, rules, arith, ap, ◌∙◌, refl}
 use Rattle.std.specs.Box.{with_value}
 use Rattle.std.specs.List.{sum_by}
-use Rattle.lra_operations.specs.Sizes.{sizes, whole_size, hung_size, arm_sizes, arms_size, hung_arms_size}
-use Rattle.lra_operations.specs.declared.graph.Node.{Node, the_lemmas as node_lemmas}
-use Rattle.lra_operations.specs.declared.graph.Node.TheVariants as at
-use Rattle.lra_operations.specs.declared.graph.Arm.{Arm}
-use Rattle.lra_operations.specs.declared.graph.Arm.TheVariants as of
+use Rattle.lra_operations.specs.Sizes.{sizes, whole_size, hung_size, arm_sizes, arms_tree_sizes, hung_arms_size}
+use Rattle.lra_operations.specs.declared.tree.Node.{Node, the_lemmas as node_lemmas}
+use Rattle.lra_operations.specs.declared.tree.Node.TheVariants as at
+use Rattle.lra_operations.specs.declared.tree.Arm.{Arm}
+use Rattle.lra_operations.specs.declared.tree.Arm.TheVariants as of
 use Rattle.lra_program.specs.declared.program.Cond.{Cond}
 use Rattle.lra_program.specs.declared.program.Expr.{Expr}
 use Rattle.lra_base.specs.declared.case_labels.CaseLabel.{CaseLabel}
@@ -38,11 +38,11 @@ choose_smaller q base c a b rest = omega (arith, whole_of_choose q base c a b, h
 
 -- arms -------------------------------------------------------------------------------------------------------------
 
-size_behind : (xs : List (ℕ × ℕ)) (a : ℕ × ℕ) → arms_size (xs ++ a ∷ []) ≡ arms_size xs + (1 + a.0)
+size_behind : (xs : List (ℕ × ℕ)) (a : ℕ × ℕ) → arms_tree_sizes (xs ++ a ∷ []) ≡ arms_tree_sizes xs + (1 + a.0)
 size_behind [] a = omega arith
 size_behind (x ∷ xs) a = omega (arith, size_behind xs a)
 
-hung_behind : (xs : List (ℕ × ℕ)) (a : ℕ × ℕ) → hung_arms_size (xs ++ a ∷ []) ≡ arms_size xs + a.1
+hung_behind : (xs : List (ℕ × ℕ)) (a : ℕ × ℕ) → hung_arms_size (xs ++ a ∷ []) ≡ arms_tree_sizes xs + a.1
 hung_behind [] a = omega arith
 hung_behind (x ∷ []) a = omega arith
 hung_behind (x ∷ y ∷ xs) a = omega (arith, hung_behind (y ∷ xs) a)
@@ -54,7 +54,7 @@ sizes_behind : (arms : List Arm) (a : Arm) → sizes_of (arms ++ a ∷ []) ≡ s
 sizes_behind [] a = refl
 sizes_behind (b ∷ arms) a = ap (λ xs. arm_sizes b ∷ xs) (sizes_behind arms a)
 
-whole_of_select : (q base : ℕ) (e : Expr) (arms : Vec Arm Global) → whole_size (at.Select q base e arms) ≡ 2 + arms_size (sizes_of arms.items)
+whole_of_select : (q base : ℕ) (e : Expr) (arms : Vec Arm Global) → whole_size (at.Select q base e arms) ≡ 2 + arms_tree_sizes (sizes_of arms.items)
 whole_of_select q base e arms = search (rules, node_lemmas)
 
 hung_of_select : (q base : ℕ) (e : Expr) (arms : Vec Arm Global) → hung_size (at.Select q base e arms) ≡ 2 + hung_arms_size (sizes_of arms.items)
@@ -75,7 +75,7 @@ whole_with : (q base : ℕ) (e : Expr) (arms more : Vec Arm Global) (a : Arm) �
 whole_with q base e arms more a is = omega (
   arith,
   whole_of_select q base e arms,
-  whole_of_select q base e more ∙ ap (λ xs. 2 + arms_size (sizes_of xs)) is ∙ ap (λ xs. 2 + arms_size xs) (sizes_behind arms.items a),
+  whole_of_select q base e more ∙ ap (λ xs. 2 + arms_tree_sizes (sizes_of xs)) is ∙ ap (λ xs. 2 + arms_tree_sizes xs) (sizes_behind arms.items a),
   size_behind (sizes_of arms.items) (arm_sizes a),
 )
 

@@ -5,17 +5,17 @@ use Rattle.lra_program.specs.Program.{Program}
 use Rattle.lra_program.specs.Value.{is_word}
 use Rattle.lra_program.specs.Step.{State}
 use Rattle.lra_program.specs.Run.{begun, Point, At, Fails}
-use Rattle.lra_operations.specs.Graph.{Node, seq, point, Comes, FailsAt}
+use Rattle.lra_operations.specs.Tree.{Node, seq, point, ReachesPoint, FailsAt}
 use Rattle.lra_program.specs.Sites.{Site, sites_of}
-use Rattle.lra_operations.specs.Inlined.{Has, InlAll, move, main_spot}
+use Rattle.lra_operations.specs.Inlined.{IsSiteAt, InlineItems, move, main_inline_state}
 
 -- main's items, and the point of its end; the points are those of the program
-pub record IsGraph (P : Program) (g : Node) : Type 0 where
+pub record IsInlinedTree (P : Program) (g : Node) : Type 0 where
   pub body : Node
   pub last : ℕ
   pub live : ℕ
-  pub inlined : InlAll P (sites_of P) (main_spot P) P.main.body body live last
-  pub ends : Has (sites_of P) (move (main_spot P) live last) P.main.end
+  pub inlined : InlineItems P (sites_of P) (main_inline_state P) P.main.body body live last
+  pub ends : IsSiteAt (sites_of P) (move (main_inline_state P) live last) P.main.end
   pub all : length (sites_of P) ≡ suc last
   pub parts : g ≡ seq body (point last)
 
@@ -23,7 +23,7 @@ pub record IsGraph (P : Program) (g : Node) : Type 0 where
 abbrev pub Reached : Program → Node → ℕ → List ℤ → Type 0
 Reached P g number store =
     (draws : List ℤ) × AllByRecursion (λ z. IsTrue (is_word z)) draws × (t : State) ×
-    Comes g (begun P draws) number t × (t.store ≡ store)
+    ReachesPoint g (begun P draws) number t × (t.store ≡ store)
 
 -- it fails the assertion of this number
 abbrev pub Failed : Program → Node → ℕ → Type 0
@@ -55,5 +55,5 @@ pub record Agrees (P : Program) (g : Node) : Type 0 where
 
 -- A run is at a point by its path and label, the tree by its number; so each tree of a program agrees with its runs
 -- where no two of its points have one path and label.
-abbrev pub GraphsAgree : Type 0
-GraphsAgree = (P : Program) (g : Node) → AreDistinct (sites_of P) → IsGraph P g → Agrees P g
+abbrev pub TreesAgree : Type 0
+TreesAgree = (P : Program) (g : Node) → AreDistinct (sites_of P) → IsInlinedTree P g → Agrees P g

@@ -1,10 +1,10 @@
 -- In the order in which they are to be read.
-pub mod Graph
-pub mod Trails
+pub mod Tree
+pub mod Traces
 pub mod Inlined
 pub mod Agree
-pub mod TrailsAgree
-pub mod Asked
-pub mod GraphViews
+pub mod TracesAgree
+pub mod CheckedOperations
+pub mod TreeViews
 pub mod Sizes
 pub mod Parts

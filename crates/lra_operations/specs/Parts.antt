@@ -1,12 +1,12 @@
 -- The tree, and the arm, that these are the parts of.
-use Rattle.lra_operations.specs.declared.graph.Arm.{Arm}
-use Rattle.lra_operations.specs.declared.graph.Arm.TheVariants as arm
-use Rattle.lra_operations.specs.declared.graph.ArmParts.{ArmParts}
-use Rattle.lra_operations.specs.declared.graph.ArmParts.TheVariants as arm_parts
-use Rattle.lra_operations.specs.declared.graph.Node.{Node}
-use Rattle.lra_operations.specs.declared.graph.Node.TheVariants as tree
-use Rattle.lra_operations.specs.declared.graph.Parts.{Parts}
-use Rattle.lra_operations.specs.declared.graph.Parts.TheVariants as parts
+use Rattle.lra_operations.specs.declared.tree.Arm.{Arm}
+use Rattle.lra_operations.specs.declared.tree.Arm.TheVariants as arm
+use Rattle.lra_operations.specs.declared.tree.ArmParts.{ArmParts}
+use Rattle.lra_operations.specs.declared.tree.ArmParts.TheVariants as arm_parts
+use Rattle.lra_operations.specs.declared.tree.Node.{Node}
+use Rattle.lra_operations.specs.declared.tree.Node.TheVariants as tree
+use Rattle.lra_operations.specs.declared.tree.Parts.{Parts}
+use Rattle.lra_operations.specs.declared.tree.Parts.TheVariants as parts
 
 abbrev pub whole_arm_of : ArmParts → Arm
 whole_arm_of (arm_parts.Entry l) = arm.Entry l
@@ -15,7 +15,7 @@ whole_arm_of (arm_parts.Tree g) = arm.Tree g
 abbrev pub whole_of : Parts → Node
 whole_of parts.Empty = tree.Empty
 whole_of (parts.Point q) = tree.Point q
-whole_of (parts.Aside q what) = tree.Aside q what
+whole_of (parts.Aside q what) = tree.Probe q what
 whole_of (parts.Act q o) = tree.Act q o
 whole_of (parts.Check q base c) = tree.Check q base c
 whole_of (parts.Seq gs last) = tree.Seq gs last

@@ -3,10 +3,10 @@
 -- one for itself, and where the rest hangs in place of its last arm two. Each arm counts one more.
 use Rattle.std.specs.Prelude.{ℕ, ◌+◌, List, [], ◌∷◌}
 use Rattle.std.specs.List.{sum_by}
-use Rattle.lra_operations.specs.declared.graph.Node.{Node}
-use Rattle.lra_operations.specs.declared.graph.Arm.{Arm}
-use Rattle.lra_operations.specs.declared.graph.Arm.TheFolds.{fold-Arm, fold-Node}
-use Rattle.lra_operations.specs.declared.graph.Arm.TheOpen.{Arm-F, Node-F}
+use Rattle.lra_operations.specs.declared.tree.Node.{Node}
+use Rattle.lra_operations.specs.declared.tree.Arm.{Arm}
+use Rattle.lra_operations.specs.declared.tree.Arm.TheFolds.{fold-Arm, fold-Node}
+use Rattle.lra_operations.specs.declared.tree.Arm.TheOpen.{Arm-F, Node-F}
 
 -- the tree of an arm; an entry counts nothing
 abbrev pub arm_size_step : Arm-F (ℕ × ℕ) (ℕ × ℕ) → ℕ × ℕ
@@ -14,9 +14,9 @@ arm_size_step (Arm-F.Entry l) = (0, 0)
 arm_size_step (Arm-F.Tree g) = g
 
 -- the trees of arms that are still to be opened, and of arms whose last one is the rest
-abbrev pub arms_size : List (ℕ × ℕ) → ℕ
-arms_size [] = 0
-arms_size (a ∷ arms) = (1 + a.0) + arms_size arms
+abbrev pub arms_tree_sizes : List (ℕ × ℕ) → ℕ
+arms_tree_sizes [] = 0
+arms_tree_sizes (a ∷ arms) = (1 + a.0) + arms_tree_sizes arms
 
 abbrev pub hung_arms_size : List (ℕ × ℕ) → ℕ
 hung_arms_size [] = 0
@@ -37,7 +37,7 @@ size_step (Node-F.Choose q base c a b) = (2 + (a.value.0 + b.value.0), 1 + (a.va
 size_step (Node-F.Iterate q base c a) = (2 + a.value.0, 1 + a.value.0)
 size_step (Node-F.Catch q k a) = (2 + a.value.0, 1 + a.value.0)
 size_step (Node-F.Leave n k) = (1, 0)
-size_step (Node-F.Select q base e arms) = (2 + arms_size arms.items, 2 + hung_arms_size arms.items)
+size_step (Node-F.Select q base e arms) = (2 + arms_tree_sizes arms.items, 2 + hung_arms_size arms.items)
 
 abbrev pub sizes : Node → ℕ × ℕ
 sizes = fold-Node (ℕ × ℕ) (ℕ × ℕ) arm_size_step size_step

@@ -3,15 +3,15 @@
 ghost use Rattle.std.specs.Prelude.{◌≡◌, ◌||◌, map};
 ghost use Rattle.std.specs.List.{list_any};
 ghost use Rattle.lra_base.specs.declared.case_labels.CaseLabel.TheVariants.{Default};
-ghost use Rattle.lra_base.specs.CaseLabels.{are_alike};
-ghost use Rattle.lra_operations.specs.Graph.{Arms, entries_of};
-ghost use Rattle.lra_operations.specs.GraphViews.{arm_view, arms_of};
+ghost use Rattle.lra_base.specs.CaseLabels.{is_same_case};
+ghost use Rattle.lra_operations.specs.Tree.{Arms, entries_of};
+ghost use Rattle.lra_operations.specs.TreeViews.{arm_view, arms_of};
 
 use crate::Arm;
 use lra_base::CaseLabel;
 
 fn names_default(label: &CaseLabel) -> bool
-    ensures { result ≡ are_alike Default label.now }
+    ensures { result ≡ is_same_case Default label.now }
 {
     match label {
         CaseLabel::Case(_) => false,
@@ -21,9 +21,9 @@ fn names_default(label: &CaseLabel) -> bool
 
 /// Whether the arm is the label `default`.
 fn is_default(arm: &Arm) -> bool
-    ensures { (behind : Arms) → list_any (are_alike Default) (entries_of
+    ensures { (behind : Arms) → list_any (is_same_case Default) (entries_of
         (arm_view arm.now behind)) ≡
-        (result || list_any (are_alike Default) (entries_of behind)) }
+        (result || list_any (is_same_case Default) (entries_of behind)) }
 {
     match arm {
         Arm::Entry(label) => names_default(label),
@@ -33,7 +33,8 @@ fn is_default(arm: &Arm) -> bool
 
 /// Whether one of the labels is `default`.
 pub fn any_default(arms: &[Arm]) -> bool
-    ensures { result ≡ list_any (are_alike Default) (entries_of (arms_of (map arm_view arms.now))) }
+    ensures { result ≡ list_any (is_same_case Default)
+        (entries_of (arms_of (map arm_view arms.now))) }
 {
     let mut left = arms;
     'arms: while let Some((arm, behind)) = left.split_first() {

@@ -3,10 +3,10 @@
 ghost use Rattle.std.specs.Prelude.{◌≡◌, ◌+◌, ◌<◌, ◌^◌, ◌++◌, ◌∷◌, [], length, map, IfOk};
 ghost use Rattle.lra_program.specs.Step as step;
 ghost use Rattle.lra_program.specs.Step.{arguments_for};
-ghost use Rattle.lra_operations.specs.Graph as graph;
+ghost use Rattle.lra_operations.specs.Tree as graph;
 ghost use Rattle.lra_operations.specs.Inlined.{loop_node, switch_node, callee_node, call_node, return_node};
 ghost use Rattle.lra_program.specs.ProgramViews.{expr_view, element_view, cond_view};
-ghost use Rattle.lra_operations.specs.GraphViews.{op_view, exit_view, node_view, row, arm_view, arms_of};
+ghost use Rattle.lra_operations.specs.TreeViews.{op_view, exit_view, node_view, row, arm_view, arms_of};
 
 use crate::{Arm, Exit, Node, Op};
 use lra_base::NumberType;
@@ -79,9 +79,9 @@ pub fn close_block(
     items: Node,
 ) -> Result<Node, AllocError>
     ensures { IfOk result (λ g. node_view g
-        ≡ graph.seq (node_view items) (graph.seq (graph.point point) (graph.act point (step.keep live)))) }
+        ≡ graph.seq (node_view items) (graph.seq (graph.point point) (graph.act point (step.truncate_to live)))) }
 {
-    let end = put_point(alloc, point, Node::Act(point, Op::Keep(live)))?;
+    let end = put_point(alloc, point, Node::Act(point, Op::TruncateTo(live)))?;
     put_in_turn(alloc, items, end)
 }
 
@@ -94,9 +94,9 @@ pub fn enclose_for(
     rounds: Node,
 ) -> Result<Node, AllocError>
     ensures { IfOk result (λ g. node_view g
-        ≡ graph.seq (node_view init) (graph.seq (node_view rounds) (graph.act point (step.keep live)))) }
+        ≡ graph.seq (node_view init) (graph.seq (node_view rounds) (graph.act point (step.truncate_to live)))) }
 {
-    let rest = put_in_turn(alloc, rounds, Node::Act(point, Op::Keep(live)))?;
+    let rest = put_in_turn(alloc, rounds, Node::Act(point, Op::TruncateTo(live)))?;
     put_in_turn(alloc, init, rest)
 }
 
@@ -175,9 +175,15 @@ pub fn cut_and_leave(
     exit: Exit,
 ) -> Result<Node, AllocError>
     ensures { IfOk result (λ g. node_view g
-        ≡ graph.seq (graph.act point (step.keep length)) (graph.leave live (exit_view exit))) }
+        ≡ graph.seq (graph.act point (step.truncate_to length))
+        (graph.leave live (exit_view exit))) }
 {
-    put_act(alloc, point, Op::Keep(length), Node::Leave(live, exit))
+    put_act(
+        alloc,
+        point,
+        Op::TruncateTo(length),
+        Node::Leave(live, exit),
+    )
 }
 
 /// A `return` that gives its value, then cuts the store.
@@ -204,12 +210,14 @@ fn call_end(
 ) -> Result<Node, AllocError>
     requires { live + parameters < 2 ^ 64 }
     ensures { IfOk result (λ g. node_view g
-        ≡ graph.seq (graph.point end) (graph.seq (graph.act end (step.keep (live + parameters)))
-        (graph.seq (graph.act end (step.give_any receiver)) (graph.act end (step.keep live))))) }
+        ≡ graph.seq (graph.point end)
+        (graph.seq (graph.act end (step.truncate_to (live + parameters)))
+        (graph.seq (graph.act end (step.havoc receiver))
+        (graph.act end (step.truncate_to live))))) }
 {
-    let last = Node::Act(end, Op::Keep(live));
-    let given = put_act(alloc, end, Op::GiveAny(receiver), last)?;
-    let cut = put_act(alloc, end, Op::Keep(live + parameters), given)?;
+    let last = Node::Act(end, Op::TruncateTo(live));
+    let given = put_act(alloc, end, Op::Havoc(receiver), last)?;
+    let cut = put_act(alloc, end, Op::TruncateTo(live + parameters), given)?;
     put_point(alloc, end, cut)
 }
 

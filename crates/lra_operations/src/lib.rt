@@ -4,10 +4,10 @@
 #![tactic(auto)]
 
 mod arms;
-mod asides;
 pub mod forms;
-mod graph;
+mod probes;
+mod tree;
 
 pub use arms::any_default;
-pub use asides::Aside;
-pub use graph::{Arm, ArmParts, Exit, Graph, Node, Op, Parts, Path, Site};
+pub use probes::Probe;
+pub use tree::{Arm, ArmParts, Exit, InlinedProgram, Node, Op, Parts, Path, Site};

@@ -19,7 +19,7 @@ shows_generators Box = false
 shows_generators Oct = false
 
 -- a loop's head can stop at rows that are given to it
-abbrev pub stops_at_rows : Domain → Bool
-stops_at_rows Poly = true
-stops_at_rows Box = false
-stops_at_rows Oct = false
+abbrev pub supports_thresholds : Domain → Bool
+supports_thresholds Poly = true
+supports_thresholds Box = false
+supports_thresholds Oct = false

@@ -9,7 +9,7 @@ use Rattle.lra_options.specs.declared.options.NumberOption.{NumberOption}
 use Rattle.lra_options.specs.declared.options.NumberOption.TheVariants.{Parts, Delay, Narrow}
 use Rattle.lra_options.specs.declared.options.FlagOption.{FlagOption}
 use Rattle.lra_options.specs.declared.options.FlagOption.TheVariants.{Limited, Thresholds, Fits}
-use Rattle.lra_options.specs.Domains.{stops_at_rows}
+use Rattle.lra_options.specs.Domains.{supports_thresholds}
 
 -- numbers ----------------------------------------------------------------------------------------------------------
 
@@ -41,10 +41,10 @@ set_number Delay value o = record o { delay = value }
 set_number Narrow value o = record o { narrow = value }
 
 -- a report tells it always, or only where it isn't its default
-abbrev pub is_number_always_told : NumberOption → Bool
-is_number_always_told Parts = true
-is_number_always_told Delay = true
-is_number_always_told Narrow = true
+abbrev pub is_number_always_reported : NumberOption → Bool
+is_number_always_reported Parts = true
+is_number_always_reported Delay = true
+is_number_always_reported Narrow = true
 
 -- in the order of the first line
 abbrev pub number_options : List NumberOption
@@ -64,13 +64,13 @@ default_number option = written_number (number_row option).default
 -- stand beside `--best`
 pub record FlagRow : Type 0 where
   pub name : List ℕ
-  pub is_always_told : Bool
+  pub is_always_reported : Bool
   pub stands_beside_best : Bool
 
 abbrev pub flag_row : FlagOption → FlagRow
-flag_row Limited = record { name = codes "limited"; is_always_told = true; stands_beside_best = false }
-flag_row Thresholds = record { name = codes "thresholds"; is_always_told = false; stands_beside_best = false }
-flag_row Fits = record { name = codes "fits"; is_always_told = false; stands_beside_best = true }
+flag_row Limited = record { name = codes "limited"; is_always_reported = true; stands_beside_best = false }
+flag_row Thresholds = record { name = codes "thresholds"; is_always_reported = false; stands_beside_best = false }
+flag_row Fits = record { name = codes "fits"; is_always_reported = false; stands_beside_best = true }
 
 abbrev pub flag_value : FlagOption → Options → Bool
 flag_value Limited o = o.limited
@@ -86,8 +86,8 @@ set_flag Fits value o = record o { fits = value }
 abbrev pub flag_options : List FlagOption
 flag_options = Limited ∷ Thresholds ∷ Fits ∷ []
 
-abbrev pub is_told : FlagOption → Options → Bool
-is_told option o = (flag_row option).is_always_told || flag_value option o
+abbrev pub is_reported : FlagOption → Options → Bool
+is_reported option o = (flag_row option).is_always_reported || flag_value option o
 
 -- defaults ---------------------------------------------------------------------------------------------------------
 
@@ -116,9 +116,9 @@ best_options = record {
 }
 
 -- they can be given together: a widening is limited in one way, and thresholds limit heads that can stop at rows
-abbrev pub agree : Options → Bool
-agree o = not o.thresholds || (not o.limited && stops_at_rows o.domain)
+abbrev pub are_compatible : Options → Bool
+are_compatible o = not o.thresholds || (not o.limited && supports_thresholds o.domain)
 
-abbrev pub is_number_told : NumberOption → Options → Bool
-is_number_told option o = is_number_always_told option
+abbrev pub is_number_reported : NumberOption → Options → Bool
+is_number_reported option o = is_number_always_reported option
     || not (nat_eq (number_value option o) (number_value option default_options))

@@ -1,9 +1,9 @@
 //! How a source is analysed.
 
 ghost use Rattle.std.specs.Prelude.{◌≡◌, Some};
-ghost use Rattle.lra_options.specs.Domains.{domain_name, shows_generators, stops_at_rows};
+ghost use Rattle.lra_options.specs.Domains.{domain_name, shows_generators, supports_thresholds};
 ghost use Rattle.lra_options.specs.OptionRows.{number_row, number_value, set_number};
-ghost use Rattle.lra_options.specs.OptionRows.{is_number_always_told, is_number_told};
+ghost use Rattle.lra_options.specs.OptionRows.{is_number_always_reported, is_number_reported};
 ghost use Rattle.lra_options.specs.OptionRows.{flag_row, flag_value, set_flag};
 ghost use Rattle.lra_options.specs.OptionRows as rows;
 
@@ -45,8 +45,8 @@ impl Domain {
     }
 
     /// Whether its heads can stop at rows that are given.
-    pub fn stops_at_rows(self) -> bool
-        ensures { result ≡ stops_at_rows self }
+    pub fn supports_thresholds(self) -> bool
+        ensures { result ≡ supports_thresholds self }
     {
         match self {
             Domain::Poly => true,
@@ -77,10 +77,10 @@ pub struct Options {
 
 impl Options {
     /// Whether they can be given together.
-    pub fn agree(self) -> bool
-        ensures { result ≡ rows.agree self }
+    pub fn are_compatible(self) -> bool
+        ensures { result ≡ rows.are_compatible self }
     {
-        !self.thresholds || (!self.limited && self.domain.stops_at_rows())
+        !self.thresholds || (!self.limited && self.domain.supports_thresholds())
     }
 }
 
@@ -179,8 +179,8 @@ impl NumberOption {
     }
 
     /// Whether a report tells it also where it is its default.
-    fn is_always_told(self) -> bool
-        ensures { result ≡ is_number_always_told self }
+    fn is_always_reported(self) -> bool
+        ensures { result ≡ is_number_always_reported self }
     {
         match self {
             NumberOption::Parts => true,
@@ -190,10 +190,10 @@ impl NumberOption {
     }
 
     /// Whether a report under these options tells it.
-    pub fn is_told(self, options: Options) -> bool
-        ensures { result ≡ is_number_told self options }
+    pub fn is_reported(self, options: Options) -> bool
+        ensures { result ≡ is_number_reported self options }
     {
-        self.is_always_told() || self.value(options) != self.value(default_options())
+        self.is_always_reported() || self.value(options) != self.value(default_options())
     }
 }
 
@@ -228,8 +228,8 @@ impl FlagOption {
     }
 
     /// Whether a report tells it also where it is off.
-    fn is_always_told(self) -> bool
-        ensures { result ≡ (flag_row self).is_always_told }
+    fn is_always_reported(self) -> bool
+        ensures { result ≡ (flag_row self).is_always_reported }
     {
         match self {
             FlagOption::Limited => true,
@@ -281,10 +281,10 @@ impl FlagOption {
     }
 
     /// Whether a report under these options tells it.
-    pub fn is_told(self, options: Options) -> bool
-        ensures { result ≡ rows.is_told self options }
+    pub fn is_reported(self, options: Options) -> bool
+        ensures { result ≡ rows.is_reported self options }
     {
-        self.is_always_told() || self.value(options)
+        self.is_always_reported() || self.value(options)
     }
 }
 

@@ -4,9 +4,9 @@ use Rattle.lra_domain.specs.declared.Exactness.{Exactness}
 use Rattle.lra_interference.specs.Interference.{Interference}
 use Rattle.lra_domain.specs.Abstraction.{Abstraction}
 use Rattle.lra_program.specs.Program.{Expr, Cond}
-use Rattle.lra_operations.specs.declared.asides.Aside.TheVariants.{Entering, Noting}
-use Rattle.lra_operations.specs.Graph.{Exit, broken, continued, returned, Node, empty, point, aside, act, check, seq, choose, iterate, catch, leave}
-use Rattle.lra_operations.specs.Graph.{select, Arms, no_arms, entry, arm}
+use Rattle.lra_operations.specs.declared.probes.Probe.TheVariants.{InterferencePoint, RecordWrite}
+use Rattle.lra_operations.specs.Tree.{Exit, broken, continued, returned, Node, empty, point, probe, act, check, seq, choose, iterate, catch, leave}
+use Rattle.lra_operations.specs.Tree.{select, Arms, no_arms, entry, arm}
 use Rattle.lra_flow.specs.Plan.{Plan, Widening}
 use Rattle.lra_flow.specs.Operations.{Operations, dropping}
 use Rattle.lra_flow.specs.Among.{admitted, DerivedPass}
@@ -61,8 +61,8 @@ module _ (V H : Type 0) (ops : Operations V H) (admission : Admission V) (set : 
     pub passed_again : (g : Node) (f : Option ℕ) (v : V) (r : Result V) → PassAmong V H ops admission set g f v r
         → PassAmong V H ops admission set g (Some p) v (flagged_at p r)
     passed_again empty f v r is = ap (flagged_at p) is
-    passed_again (aside q Entering) f v r (w, e, taken, is) = (w, e, taken, ap (flagged_at p) is)
-    passed_again (aside q (Noting place)) f v r is = ap (flagged_at p) is
+    passed_again (probe q InterferencePoint) f v r (w, e, taken, is) = (w, e, taken, ap (flagged_at p) is)
+    passed_again (probe q (RecordWrite place)) f v r is = ap (flagged_at p) is
     passed_again (point q) f v r is = ap (flagged_at p) is
     passed_again (act q op) f v r (w, e, done, is) = (w, e, done, ap (flagged_at p) is)
     passed_again (check q base c) f v r (u, w, d, e, off, on, is) = (u, w, d, e, off, on, ap (flagged_at p) is)

@@ -2,9 +2,9 @@
 use Rattle.std.proofs.Common.{ℕ, List, [], ◌∷◌, map, Option, sym, subst}
 use Rattle.lra_interference.specs.Interference.{Interference, no_interference}
 use Rattle.lra_domain.specs.Abstraction.{Abstraction}
-use Rattle.lra_operations.specs.declared.graph.Node as node
-use Rattle.lra_operations.specs.Graph as graph
-use Rattle.lra_operations.specs.GraphViews.{node_view, row}
+use Rattle.lra_operations.specs.declared.tree.Node as node
+use Rattle.lra_operations.specs.Tree as graph
+use Rattle.lra_operations.specs.TreeViews.{node_view, row}
 use Rattle.lra_flow.specs.Plan.{Plan}
 use Rattle.lra_flow.specs.Among.{DerivedPass}
 use Rattle.lra_flow.specs.Pass.{Result}

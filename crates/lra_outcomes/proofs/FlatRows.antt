@@ -4,8 +4,8 @@ use Rattle.lra_flow.specs.Room.{most_live}
 use Rattle.lra_flow.specs.Plan.{Plan}
 use Rattle.lra_interference.specs.Interference.{Interference}
 use Rattle.lra_domain.specs.Abstraction.{Abstraction}
-use Rattle.lra_operations.specs.Graph as graph
-use Rattle.lra_operations.specs.declared.graph.Node as node
+use Rattle.lra_operations.specs.Tree as graph
+use Rattle.lra_operations.specs.declared.tree.Node as node
 use Rattle.lra_flow.specs.Pass.{Result, in_turn}
 use Rattle.lra_outcomes.specs.declared.outcome.Outcome.{Outcome}
 use Rattle.lra_outcomes.specs.Fits.{TreeFits}

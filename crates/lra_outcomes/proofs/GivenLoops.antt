@@ -1,6 +1,6 @@
 -- Which rows a loop's head is given, by how it widens.
 use Rattle.std.proofs.Common.{◌≡◌, ℕ, ℤ, List, None, Some, refl, ap}
-use Rattle.lra_operations.specs.Graph.{Node}
+use Rattle.lra_operations.specs.Tree.{Node}
 use Rattle.lra_program.specs.Program.{Cond}
 use Rattle.lra_flow.specs.Given.{given_rows}
 use Rattle.lra_flow.specs.Plan.{Widening, standard, limited, by_thresholds, constants_in}

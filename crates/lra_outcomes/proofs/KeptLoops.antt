@@ -8,7 +8,7 @@ use Rattle.lra_interference.specs.Interference.{Interference}
 use Rattle.lra_domain.specs.Abstraction.{Abstraction}
 use Rattle.lra_domain.specs.declared.Exactness.{Exactness}
 use Rattle.lra_program.specs.Program.{Cond}
-use Rattle.lra_operations.specs.Graph.{Exit, broken, continued, returned, Node, choose, iterate}
+use Rattle.lra_operations.specs.Tree.{Exit, broken, continued, returned, Node, choose, iterate}
 use Rattle.lra_flow.specs.Plan.{Plan}
 use Rattle.lra_flow.specs.Among.{admitted}
 use Rattle.lra_flow.specs.Operations.{dropping}

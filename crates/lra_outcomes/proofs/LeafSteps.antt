@@ -6,8 +6,8 @@ use Rattle.std.proofs.lemmas.List.{append-nil, map-append}
 use Rattle.lra_interference.specs.Interference.{Interference}
 use Rattle.lra_domain.specs.Abstraction.{Abstraction}
 use Rattle.lra_domain.specs.declared.Exactness.{Exactness}
-use Rattle.lra_operations.specs.Graph.{Exit, broken, continued, returned}
-use Rattle.lra_operations.specs.Graph as graph
+use Rattle.lra_operations.specs.Tree.{Exit, broken, continued, returned}
+use Rattle.lra_operations.specs.Tree as graph
 use Rattle.lra_flow.specs.Plan.{Plan}
 use Rattle.lra_flow.specs.Among.{DerivedPass}
 use Rattle.lra_flow.specs.Operations.{dropping}

@@ -9,18 +9,18 @@ use Rattle.lra_interference.specs.Interference.{Interference}
 use Rattle.lra_domain.specs.Abstraction.{Abstraction}
 use Rattle.lra_domain.specs.declared.Exactness.{Exactness}
 use Rattle.lra_program.specs.declared.program.Cond as declared_cond
-use Rattle.lra_operations.specs.declared.asides.Aside as declared_aside
-use Rattle.lra_operations.specs.declared.graph.Exit as declared_exit
-use Rattle.lra_operations.specs.declared.graph.Op as declared_op
-use Rattle.lra_operations.specs.declared.graph.Node.{Node, Empty, Point, Aside, Act, Check, Seq, Choose, Iterate, Catch, Leave, Select, the_lemmas}
-use Rattle.lra_operations.specs.declared.graph.Arm.{Arm}
-use Rattle.lra_operations.specs.declared.graph.Arm.TheVariants.{Tree as TreeArm}
+use Rattle.lra_operations.specs.declared.probes.Probe as declared_aside
+use Rattle.lra_operations.specs.declared.tree.Exit as declared_exit
+use Rattle.lra_operations.specs.declared.tree.Op as declared_op
+use Rattle.lra_operations.specs.declared.tree.Node.{Node, Empty, Point, Probe, Act, Check, Seq, Choose, Iterate, Catch, Leave, Select, the_lemmas}
+use Rattle.lra_operations.specs.declared.tree.Arm.{Arm}
+use Rattle.lra_operations.specs.declared.tree.Arm.TheVariants.{Tree as TreeArm}
 use Rattle.lra_program.specs.declared.program.Expr as declared_expr
 use Rattle.lra_program.specs.ProgramViews.{cond_view, expr_view}
-use Rattle.lra_operations.specs.GraphViews.{exit_view, node_view, row, arm_view, arms_of}
+use Rattle.lra_operations.specs.TreeViews.{exit_view, node_view, row, arm_view, arms_of}
 use Rattle.lra_program.specs.Program.{Cond}
-use Rattle.lra_operations.specs.Graph.{Exit, broken, continued, returned}
-use Rattle.lra_operations.specs.Graph as graph
+use Rattle.lra_operations.specs.Tree.{Exit, broken, continued, returned}
+use Rattle.lra_operations.specs.Tree as graph
 use Rattle.lra_flow.specs.Plan.{Plan}
 use Rattle.lra_flow.specs.Among.{DerivedPass}
 use Rattle.lra_flow.specs.Operations.{dropping}
@@ -38,7 +38,7 @@ empty_steps n = search (rules, the_lemmas)
 pub point_steps : (n q : ℕ) → node_steps n (Point q) ≡ 1
 point_steps n q = search (rules, the_lemmas)
 
-pub aside_steps : (n q : ℕ) (what : declared_aside.Aside) → node_steps n (Aside q what) ≡ 2
+pub aside_steps : (n q : ℕ) (what : declared_aside.Probe) → node_steps n (Probe q what) ≡ 2
 aside_steps n q what = search (rules, the_lemmas)
 
 pub act_steps : (n q : ℕ) (o : declared_op.Op) → node_steps n (Act q o) ≡ 1

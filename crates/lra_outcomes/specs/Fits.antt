@@ -1,8 +1,8 @@
 -- With how many variables a tree of operations is left, and when its operations can be made of a value of so many
 -- dimensions.
 use Rattle.std.specs.Prelude.{◌≡◌, ◌≢◌, ℕ, ◌≤◌, ◌⊎◌, ⊤}
-use Rattle.lra_operations.specs.Graph.{Exit, Node, empty, point, aside, act, check, seq, choose, iterate, catch, leave}
-use Rattle.lra_operations.specs.Graph.{select, Arms, no_arms, entry, arm}
+use Rattle.lra_operations.specs.Tree.{Exit, Node, empty, point, probe, act, check, seq, choose, iterate, catch, leave}
+use Rattle.lra_operations.specs.Tree.{select, Arms, no_arms, entry, arm}
 use Rattle.lra_flow.specs.Live.{live_after}
 use Rattle.lra_change.specs.Changes.{OpFits}
 use Rattle.lra_flow.specs.Room.{most_live}
@@ -11,7 +11,7 @@ abbrev mutual
   -- a jump of this kind may leave it with so many
   pub JumpsWith : Node → ℕ → Exit → ℕ → Type 0
   JumpsWith empty n k m = ⊥
-  JumpsWith (aside here what) n k m = ⊥
+  JumpsWith (probe here what) n k m = ⊥
   JumpsWith (point q) n k m = ⊥
   JumpsWith (act q op) n k m = ⊥
   JumpsWith (check q base c) n k m = ⊥
@@ -32,7 +32,7 @@ abbrev mutual
 abbrev mutual
   pub TreeFits : Node → ℕ → Type 0
   TreeFits empty n = ⊤
-  TreeFits (aside here what) n = ⊤
+  TreeFits (probe here what) n = ⊤
   TreeFits (point q) n = ⊤
   TreeFits (act q op) n = OpFits op n
   TreeFits (check q base c) n = ⊤

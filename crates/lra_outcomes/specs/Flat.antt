@@ -2,9 +2,9 @@
 use Rattle.std.specs.Prelude.{◌≡◌, ℕ, List, [], ◌∷◌, map, Option, ⊤}
 use Rattle.lra_interference.specs.Interference.{Interference}
 use Rattle.lra_domain.specs.Abstraction.{Abstraction}
-use Rattle.lra_operations.specs.declared.graph.Node.{Node}
-use Rattle.lra_operations.specs.GraphViews.{node_view, row}
-use Rattle.lra_operations.specs.Graph as graph
+use Rattle.lra_operations.specs.declared.tree.Node.{Node}
+use Rattle.lra_operations.specs.TreeViews.{node_view, row}
+use Rattle.lra_operations.specs.Tree as graph
 use Rattle.lra_flow.specs.Plan.{Plan}
 use Rattle.lra_flow.specs.Pass.{Result, in_turn}
 use Rattle.lra_outcomes.specs.declared.flat.Flat as flat

@@ -3,8 +3,8 @@ use Rattle.std.specs.Prelude.{◌≡◌, ℕ, Option, None, Some, ⊤}
 use Rattle.std.specs.List.{All}
 use Rattle.lra_interference.specs.Interference.{Interference}
 use Rattle.lra_domain.specs.Abstraction.{Abstraction}
-use Rattle.lra_operations.specs.Graph.{Node, empty, point, aside, act, check, seq, choose, iterate, catch, leave}
-use Rattle.lra_operations.specs.Graph.{select, Arms, no_arms, entry, arm}
+use Rattle.lra_operations.specs.Tree.{Node, empty, point, probe, act, check, seq, choose, iterate, catch, leave}
+use Rattle.lra_operations.specs.Tree.{select, Arms, no_arms, entry, arm}
 use Rattle.lra_flow.specs.Plan.{Plan}
 use Rattle.lra_outcomes.specs.declared.memory.KeptLoop.{KeptLoop}
 use Rattle.lra_outcomes.specs.declared.memory.Memory.{Memory}
@@ -15,7 +15,7 @@ abbrev mutual
   -- each loop of the tree is the one that has its number among these
   pub HasLoops : (ℕ → Node) → Node → Type 0
   HasLoops loops empty = ⊤
-  HasLoops loops (aside here what) = ⊤
+  HasLoops loops (probe here what) = ⊤
   HasLoops loops (point q) = ⊤
   HasLoops loops (act q op) = ⊤
   HasLoops loops (check q base c) = ⊤

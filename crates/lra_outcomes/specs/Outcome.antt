@@ -13,7 +13,7 @@ use Rattle.lra_outcomes.specs.declared.outcome.Entered.TheVariants.{Again, Anew}
 use Rattle.lra_domain.specs.declared.Exactness.{Exactness}
 use Rattle.std.specs.List.{Contains}
 use Rattle.lra_program.specs.Program.{Cond}
-use Rattle.lra_operations.specs.Graph.{Exit, Node}
+use Rattle.lra_operations.specs.Tree.{Exit, Node}
 use Rattle.lra_flow.specs.Plan.{Plan}
 use Rattle.lra_flow.specs.Thresholds.{loop_rows}
 use Rattle.lra_flow.specs.Live.{live_after}

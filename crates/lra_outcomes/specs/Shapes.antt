@@ -1,9 +1,9 @@
 -- Trees of operations by what stands in them, and how many steps these take.
 use Rattle.std.specs.Prelude.{◌≡◌, ℕ, suc, ◌+◌, ◌*◌, map}
 use Rattle.lra_program.specs.ProgramViews.{cond_view, expr_view}
-use Rattle.lra_operations.specs.declared.graph.Node.{Node}
-use Rattle.lra_operations.specs.GraphViews.{exit_view, op_view, node_view, row, arm_view, arms_of}
-use Rattle.lra_operations.specs.Graph as graph
+use Rattle.lra_operations.specs.declared.tree.Node.{Node}
+use Rattle.lra_operations.specs.TreeViews.{exit_view, op_view, node_view, row, arm_view, arms_of}
+use Rattle.lra_operations.specs.Tree as graph
 use Rattle.lra_flow.specs.Plan.{Plan}
 use Rattle.lra_outcomes.specs.declared.shapes.Leaf as leaf
 use Rattle.lra_outcomes.specs.declared.shapes.Leaf.TheVariants.{Empty, Point, Act, Check, Leave}
@@ -22,7 +22,7 @@ leaf_view (Leave n k) = graph.leave n (exit_view k)
 -- plan
 abbrev pub IsShape : Plan → Node → Shape → Type 0
 IsShape set g (Leaf x) = (node_view g ≡ leaf_view x) × ((n : ℕ) → node_steps n g ≡ 1)
-IsShape set g (Aside q what) = (node_view g ≡ graph.aside q what) × ((n : ℕ) → node_steps n g ≡ 2)
+IsShape set g (Aside q what) = (node_view g ≡ graph.probe q what) × ((n : ℕ) → node_steps n g ≡ 2)
 IsShape set g (Row r) = (node_view g ≡ row (map node_view r.trees.now) (node_view r.last.now))
     × ((n : ℕ) → node_steps n g ≡ 1 + row_steps n r.trees.now r.last.now) × (r.plan.now ≡ set)
 IsShape set g (Choice k) = (node_view g ≡ graph.choose k.point k.base (cond_view k.condition.now)

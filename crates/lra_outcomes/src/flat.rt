@@ -5,7 +5,7 @@ ghost use Rattle.lra_flow.specs.Room.{most_live};
 ghost use Rattle.lra_flow.specs.Plan.{Plan};
 ghost use Rattle.std.specs.Prelude.{◌≡◌, ◌≤◌, true, map, IfSome, OnOk};
 ghost use Rattle.lra_interference.specs.Interference.{no_interference};
-ghost use Rattle.lra_operations.specs.GraphViews.{node_view, row};
+ghost use Rattle.lra_operations.specs.TreeViews.{node_view, row};
 ghost use Rattle.lra_outcomes.specs.Fits.{TreeFits};
 ghost use Rattle.lra_outcomes.specs.Flat.{flat_view, AreLeaves, Follows, HasLeaves, IsLeaf};
 ghost use Rattle.lra_outcomes.specs.Shapes.{leaf_view};

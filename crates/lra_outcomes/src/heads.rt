@@ -7,7 +7,7 @@ ghost use Rattle.lra_program.specs.ProgramViews.{cond_view};
 ghost use Rattle.lra_flow.specs.Room.{most_live};
 ghost use Rattle.lra_flow.specs.Plan.{mode_at};
 ghost use Rattle.lra_flow.specs.Thresholds.{loop_rows};
-ghost use Rattle.lra_operations.specs.GraphViews.{node_view};
+ghost use Rattle.lra_operations.specs.TreeViews.{node_view};
 ghost use Rattle.lra_flow.specs.Operations.{dropping};
 ghost use Rattle.lra_outcomes.specs.Heads.{IsValued, GrowsBy};
 ghost use Rattle.lra_outcomes.specs.Outcome.{seen};

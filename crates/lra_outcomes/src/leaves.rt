@@ -2,9 +2,9 @@
 
 ghost use Rattle.std.specs.Prelude.{◌≡◌, ◌≤◌, IfOk, OnOk};
 ghost use Rattle.lra_interference.specs.Interference.{no_interference};
-ghost use Rattle.lra_operations.specs.Graph.{act, check, leave, point as point_node};
+ghost use Rattle.lra_operations.specs.Tree.{act, check, leave, point as point_node};
 ghost use Rattle.lra_program.specs.ProgramViews.{cond_view};
-ghost use Rattle.lra_operations.specs.GraphViews.{exit_view, op_view};
+ghost use Rattle.lra_operations.specs.TreeViews.{exit_view, op_view};
 ghost use Rattle.lra_flow.specs.Room.{most_live};
 ghost use Rattle.lra_flow.specs.Plan.{Plan};
 ghost use Rattle.lra_change.specs.Changes.{OpFits};

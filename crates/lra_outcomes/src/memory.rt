@@ -1,7 +1,7 @@
 //! What is kept of loops that stand inside others.
 
 ghost use Rattle.std.specs.Prelude.{◌≡◌, ◌<◌, ℕ, [], Option, Some, length, slice_index_or, IfOk, OnOk};
-ghost use Rattle.lra_operations.specs.Graph.{Node};
+ghost use Rattle.lra_operations.specs.Tree.{Node};
 ghost use Rattle.lra_flow.specs.Plan.{Plan};
 ghost use Rattle.lra_outcomes.specs.declared.memory.KeptLoop.{KeptLoop};
 ghost use Rattle.lra_outcomes.specs.Outcome.{seen, IsKept};

@@ -1,8 +1,8 @@
 //! What a pass over a tree of operations gives.
 
 ghost use Rattle.std.specs.Prelude.{◌≡◌, ℕ, true, [], Option, None, IfOk, OnOk};
-ghost use Rattle.lra_operations.specs.Graph.{broken, continued, returned, Node};
-ghost use Rattle.lra_operations.specs.GraphViews.{exit_view};
+ghost use Rattle.lra_operations.specs.Tree.{broken, continued, returned, Node};
+ghost use Rattle.lra_operations.specs.TreeViews.{exit_view};
 ghost use Rattle.lra_flow.specs.Plan.{Plan};
 ghost use Rattle.lra_flow.specs.Operations.{dropping};
 ghost use Rattle.lra_flow.specs.Pass.{AreJoined, noted, goes_on, in_turn, jumps, behind};

@@ -4,7 +4,7 @@ ghost use Rattle.lra_flow.specs.Plan.{Plan};
 ghost use Rattle.lra_outcomes.specs.Shapes.{IsShape};
 
 use crate::plan::Plan;
-use lra_operations::{Arm, Aside, Exit, Node, Op};
+use lra_operations::{Arm, Exit, Node, Op, Probe};
 use lra_program::{Cond, Expr};
 
 /// A tree with no tree in it.
@@ -69,7 +69,7 @@ pub struct Selection<'a> {
 pub enum Shape<'a> {
     Leaf(Leaf<'a>),
     /// What is done at the point beside the program's own operations.
-    Aside(usize, Aside),
+    Aside(usize, Probe),
     Row(Row<'a>),
     Choice(Choice<'a>),
     Loop(Loop<'a>),
@@ -85,7 +85,7 @@ impl<'a> Shape<'a> {
         match node {
             Node::Empty => Shape::Leaf(Leaf::Empty),
             Node::Point(point) => Shape::Leaf(Leaf::Point(*point)),
-            Node::Aside(point, what) => Shape::Aside(*point, *what),
+            Node::Probe(point, what) => Shape::Aside(*point, *what),
             Node::Act(point, op) => Shape::Leaf(Leaf::Act(*point, op)),
             Node::Check(point, base, test) => Shape::Leaf(Leaf::Check(*point, *base, test)),
             Node::Seq(trees, last) => Shape::Row(Row {

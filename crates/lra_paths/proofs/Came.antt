@@ -7,15 +7,15 @@ use Rattle.std.proofs.lemmas.List.Elements.{Contains-append_left, Contains-appen
 use Rattle.lra_linear_spec.proofs.Membership.{contains_cases, contains_head, contains_none, map_has}
 use Rattle.lra_base.specs.declared.case_labels.CaseLabel.{CaseLabel}
 use Rattle.lra_base.specs.declared.case_labels.CaseLabel.TheVariants.{Default}
-use Rattle.lra_base.specs.CaseLabels.{are_alike, goal_of}
+use Rattle.lra_base.specs.CaseLabels.{is_same_case, goal_of}
 use Rattle.lra_program.specs.Program.{Expr, Cond}
 use Rattle.lra_program.specs.Value.{Drawn, truth_of}
-use Rattle.lra_program.specs.Step.{State, run_op, test, tested, kept_if, scene_at}
+use Rattle.lra_program.specs.Step.{State, run_op, test, tested, kept_if, environment_at}
 use Rattle.lra_program.specs.Step as step
-use Rattle.lra_program.specs.Trails.{passes, Trail, Alone}
-use Rattle.lra_operations.specs.Graph.{Exit, broken, continued, returned, normal, jump, Node, empty, aside, point, act, check, seq, choose, iterate, catch, leave}
-use Rattle.lra_operations.specs.Graph.{select, Arms, no_arms, entry, arm, entries_of}
-use Rattle.lra_operations.specs.Trails.{Stop, by_jump, to_point, to_failure, IsPoint, Outcome, to_end, stopped, Goes, Tests, TrailRounds}
+use Rattle.lra_program.specs.Traces.{visit, Trace, NoChange}
+use Rattle.lra_operations.specs.Tree.{Exit, broken, continued, returned, normal, jump, Node, empty, probe, point, act, check, seq, choose, iterate, catch, leave}
+use Rattle.lra_operations.specs.Tree.{select, Arms, no_arms, entry, arm, entries_of}
+use Rattle.lra_operations.specs.Traces.{Stop, by_jump, to_point, to_failure, StopsAtPoint, RunExtent, to_end, stopped, RunsUpTo, VisitsAndTests, TrailRounds}
 use Rattle.lra_operations.proofs.ArmRows.{arms_row, row_behind, row_of_behind, behind_of_row}
 use Rattle.lra_ways.specs.Ways.{Step, does, Goal, comes_to, denies, Way, Segment, Suffix, same_exit, each_then, then_way, then_out, segment_by}
 use Rattle.lra_ways.specs.Ways.{segment_to, tested_way, into_body}
@@ -39,19 +39,19 @@ store_tested wanted s None t e = absurd (none-some t e)
 store_tested wanted s (Some r) t e = store_kept wanted r.0 (record s { draws = r.1 }) t e
 
 store_of_test : (base : ℕ) (c : Cond) (wanted : Bool) (s t : State) → run_op (test base c wanted) s ≡ Some t → t.store ≡ s.store
-store_of_test base c wanted s t e = store_tested wanted s (truth_of c (scene_at base s) s.draws) t e
+store_of_test base c wanted s t e = store_tested wanted s (truth_of c (environment_at base s) s.draws) t e
 
 pub join_ops : (x y : List Step) (s m t : State) → RunsOps x s m → RunsOps y m t → RunsOps (x ++ y) s t
 join_ops [] y s m t e r = subst (λ u. RunsOps y u t) e r
 join_ops (step ∷ x) y s m t (u, o, q) r = (u, o, join_ops x y u m t q r)
 
-so_behind : (u : Outcome) (x y : List Step) (s m t : State) → RunsOps x s m → LeadsSo u y m t → LeadsSo u (x ++ y) s t
+so_behind : (u : RunExtent) (x y : List Step) (s m t : State) → RunsOps x s m → LeadsSo u y m t → LeadsSo u (x ++ y) s t
 so_behind to_end x y s m t r l = join_ops x y s m t r l
 so_behind (stopped (by_jump j)) x y s m t r l = join_ops x y s m t r l
 so_behind (stopped (to_point q)) x y s m t r l = join_ops x y s m t r l
 so_behind (stopped (to_failure q)) x y s m t r (v, l, e) = (v, join_ops x y s m v r l, e)
 
-so_led : (u : Outcome) (step : Step) (y : List Step) (s m t : State) → RunsStep step s m → LeadsSo u y m t → LeadsSo u (step ∷ y) s t
+so_led : (u : RunExtent) (step : Step) (y : List Step) (s m t : State) → RunsStep step s m → LeadsSo u y m t → LeadsSo u (step ∷ y) s t
 so_led to_end step y s m t o l = (m, o, l)
 so_led (stopped (by_jump j)) step y s m t o l = (m, o, l)
 so_led (stopped (to_point q)) step y s m t o l = (m, o, l)
@@ -59,7 +59,7 @@ so_led (stopped (to_failure q)) step y s m t o (v, l, e) = (v, (m, o, l), e)
 
 -- members ----------------------------------------------------------------------------------------------------------------
 
-first_then_first : (g h : Node) (u : Outcome) (x y : List Step) → IsFirst g to_end x → IsFirst h u y → IsFirst (seq g h) u (x ++ y)
+first_then_first : (g h : Node) (u : RunExtent) (x y : List Step) → IsFirst g to_end x → IsFirst h u y → IsFirst (seq g h) u (x ++ y)
 first_then_first g h to_end x y i j = each_then_has (through g normal) (through h normal) x y i j
 first_then_first g h (stopped (by_jump k)) x y i j = Contains-append_right (through g (jump k)) _ (x ++ y)
     (each_then_has (through g normal) (through h (jump k)) x y i j)
@@ -68,7 +68,7 @@ first_then_first g h (stopped (to_point q)) x y i j =
 first_then_first g h (stopped (to_failure q)) x y i j =
     Contains-append_right (enter g) _ _ (pairs_have then_way (through g normal) (enter h) x (record { ops = y; goal = denies q }) i j)
 
-next_then_first : (p : ℕ) (g h : Node) (u : Outcome) (x y : List Step) → IsNext p g to_end x → IsFirst h u y → IsNext p (seq g h) u (x ++ y)
+next_then_first : (p : ℕ) (g h : Node) (u : RunExtent) (x y : List Step) → IsNext p g to_end x → IsFirst h u y → IsNext p (seq g h) u (x ++ y)
 next_then_first p g h to_end x y i j = Contains-append_left _ (outs h normal) _
     (pairs_have then_out (outs g normal) (through h normal) (record { source = p; ops = x }) y i j)
 next_then_first p g h (stopped (by_jump k)) x y i j =
@@ -81,7 +81,7 @@ next_then_first p g h (stopped (to_failure q)) x y i j =
     Contains-append_left _ (inside h) _ (Contains-append_right (inside g) _ _
     (pairs_have segment_by (outs g normal) (enter h) (record { source = p; ops = x }) (record { ops = y; goal = denies q }) i j))
 
-next_in_second : (p : ℕ) (g h : Node) (u : Outcome) (x : List Step) → IsNext p h u x → IsNext p (seq g h) u x
+next_in_second : (p : ℕ) (g h : Node) (u : RunExtent) (x : List Step) → IsNext p h u x → IsNext p (seq g h) u x
 next_in_second p g h to_end x i = Contains-append_right _ (outs h normal) _ i
 next_in_second p g h (stopped (by_jump k)) x i = Contains-append_right _ (outs h (jump k)) _ i
 next_in_second p g h (stopped (to_point q)) x i = Contains-append_right _ (inside h) _ i
@@ -99,25 +99,25 @@ next_stopped p g h (to_point q) x i = Contains-append_left _ (inside h) _ (Conta
 next_stopped p g h (to_failure q) x i = Contains-append_left _ (inside h) _ (Contains-append_left (inside g) _ _ i)
 
 module _ (q base : ℕ) (c : Cond) (g h : Node) where
-  first_on : (u : Outcome) (x : List Step) → IsFirst g u x → IsFirst (choose q base c g h) u (does (test base c true) ∷ x)
+  first_on : (u : RunExtent) (x : List Step) → IsFirst g u x → IsFirst (choose q base c g h) u (does (test base c true) ∷ x)
   first_on to_end x i = Contains-append_left _ _ _ (map_has (ways.tested base c true) (through g normal) x i)
   first_on (stopped (by_jump k)) x i = Contains-append_left _ _ _ (map_has (ways.tested base c true) (through g (jump k)) x i)
   first_on (stopped (to_point p)) x i = Contains-append_left _ _ _ (map_has (tested_way base c true) (enter g) (record { ops = x; goal = comes_to p }) i)
   first_on (stopped (to_failure p)) x i = Contains-append_left _ _ _ (map_has (tested_way base c true) (enter g) (record { ops = x; goal = denies p }) i)
 
-  first_off : (u : Outcome) (x : List Step) → IsFirst h u x → IsFirst (choose q base c g h) u (does (test base c false) ∷ x)
+  first_off : (u : RunExtent) (x : List Step) → IsFirst h u x → IsFirst (choose q base c g h) u (does (test base c false) ∷ x)
   first_off to_end x i = Contains-append_right _ _ _ (map_has (ways.tested base c false) (through h normal) x i)
   first_off (stopped (by_jump k)) x i = Contains-append_right _ _ _ (map_has (ways.tested base c false) (through h (jump k)) x i)
   first_off (stopped (to_point p)) x i = Contains-append_right _ _ _ (map_has (tested_way base c false) (enter h) (record { ops = x; goal = comes_to p }) i)
   first_off (stopped (to_failure p)) x i = Contains-append_right _ _ _ (map_has (tested_way base c false) (enter h) (record { ops = x; goal = denies p }) i)
 
-  next_on : (p : ℕ) (u : Outcome) (x : List Step) → IsNext p g u x → IsNext p (choose q base c g h) u x
+  next_on : (p : ℕ) (u : RunExtent) (x : List Step) → IsNext p g u x → IsNext p (choose q base c g h) u x
   next_on p to_end x i = Contains-append_left _ _ _ i
   next_on p (stopped (by_jump k)) x i = Contains-append_left _ _ _ i
   next_on p (stopped (to_point r)) x i = Contains-append_left _ _ _ i
   next_on p (stopped (to_failure r)) x i = Contains-append_left _ _ _ i
 
-  next_off : (p : ℕ) (u : Outcome) (x : List Step) → IsNext p h u x → IsNext p (choose q base c g h) u x
+  next_off : (p : ℕ) (u : RunExtent) (x : List Step) → IsNext p h u x → IsNext p (choose q base c g h) u x
   next_off p to_end x i = Contains-append_right _ _ _ i
   next_off p (stopped (by_jump k)) x i = Contains-append_right _ _ _ i
   next_off p (stopped (to_point r)) x i = Contains-append_right _ _ _ i
@@ -193,19 +193,19 @@ next_passed p q k g (to_point r) x n i = i
 next_passed p q k g (to_failure r) x n i = i
 
 not_jump : (p : ℕ) (k : Exit) → to_point p ≢ by_jump k
-not_jump p k e = subst (λ z. IsPoint p z) e refl
+not_jump p k e = subst (λ z. StopsAtPoint p z) e refl
 
 -- labels -----------------------------------------------------------------------------------------------------------------
 
 -- past no point, or to a first one, from one of these labels
-abbrev IsLabelled : (CaseLabel → Step) → Arms → Outcome → List Step → Type 0
+abbrev IsLabelled : (CaseLabel → Step) → Arms → RunExtent → List Step → Type 0
 IsLabelled go arms to_end x = Contains (through_labels go arms normal) x
 IsLabelled go arms (stopped (by_jump j)) x = Contains (through_labels go arms (jump j)) x
 IsLabelled go arms (stopped (to_point q)) x = Contains (enter_labels go arms) (record { ops = x; goal = comes_to q })
 IsLabelled go arms (stopped (to_failure q)) x = Contains (enter_labels go arms) (record { ops = x; goal = denies q })
 
 module _ (go : CaseLabel → Step) (l : CaseLabel) (arms : Arms) where
-  label_here : (u : Outcome) (x : List Step) → IsFirst (arms_row arms) u x → IsLabelled go (entry l arms) u (go l ∷ x)
+  label_here : (u : RunExtent) (x : List Step) → IsFirst (arms_row arms) u x → IsLabelled go (entry l arms) u (go l ∷ x)
   label_here to_end x i = Contains-append_left (map (led (go l)) (through_arms arms normal)) (through_labels go arms normal) (go l ∷ x)
       (map_has (led (go l)) (through_arms arms normal) x (subst (λ xs. Contains xs x) (through_row arms normal) i))
   label_here (stopped (by_jump j)) x i = Contains-append_left (map (led (go l)) (through_arms arms (jump j))) (through_labels go arms (jump j)) (go l ∷ x)
@@ -219,27 +219,27 @@ module _ (go : CaseLabel → Step) (l : CaseLabel) (arms : Arms) where
       Contains-append_left (map (led_way (go l)) (enter_arms arms)) (enter_labels go arms) (led_way (go l) way)
       (map_has (led_way (go l)) (enter_arms arms) way (subst (λ ways. Contains ways way) (enter_row arms) i))
 
-  label_later : (u : Outcome) (x : List Step) → IsLabelled go arms u x → IsLabelled go (entry l arms) u x
+  label_later : (u : RunExtent) (x : List Step) → IsLabelled go arms u x → IsLabelled go (entry l arms) u x
   label_later to_end x i = Contains-append_right _ (through_labels go arms normal) x i
   label_later (stopped (by_jump j)) x i = Contains-append_right _ (through_labels go arms (jump j)) x i
   label_later (stopped (to_point q)) x i = Contains-append_right _ (enter_labels go arms) _ i
   label_later (stopped (to_failure q)) x i = Contains-append_right _ (enter_labels go arms) _ i
 
-  label_by : (k : CaseLabel) (t : Bool) (u : Outcome) (x : List Step) → are_alike k l ≡ t → (t || list_any (are_alike k) (entries_of arms)) ≡ true
-      → (list_any (are_alike k) (entries_of arms) ≡ true → IsFirst (row_behind k arms) u x → IsLabelled go arms u (go k ∷ x))
+  label_by : (k : CaseLabel) (t : Bool) (u : RunExtent) (x : List Step) → is_same_case k l ≡ t → (t || list_any (is_same_case k) (entries_of arms)) ≡ true
+      → (list_any (is_same_case k) (entries_of arms) ≡ true → IsFirst (row_behind k arms) u x → IsLabelled go arms u (go k ∷ x))
       → IsFirst (cond t (arms_row arms) (row_behind k arms)) u x → IsLabelled go (entry l arms) u (go k ∷ x)
   label_by k true u x is there each i =
       subst (λ n. IsLabelled go (entry l arms) u (go n ∷ x)) (sym (alike_are k l is)) (label_here u x i)
   label_by k false u x is there each i = label_later u (go k ∷ x) (each there i)
 
 -- where the label is there, each way behind it is one from it
-label_first : (go : CaseLabel → Step) (l : CaseLabel) (arms : Arms) (u : Outcome) (x : List Step) → list_any (are_alike l) (entries_of arms) ≡ true
+label_first : (go : CaseLabel → Step) (l : CaseLabel) (arms : Arms) (u : RunExtent) (x : List Step) → list_any (is_same_case l) (entries_of arms) ≡ true
     → IsFirst (row_behind l arms) u x → IsLabelled go arms u (go l ∷ x)
 label_first go l no_arms u x there i = absurd (let no : false ≡ true = there in cc)
-label_first go l (entry k arms) u x there i = label_by go k arms l (are_alike l k) u x refl there (label_first go l arms u x) i
+label_first go l (entry k arms) u x there i = label_by go k arms l (is_same_case l k) u x refl there (label_first go l arms u x) i
 label_first go l (arm g arms) u x there i = label_first go l arms u x there i
 
-none_done : (u : Outcome) (x : List Step) → IsFirst empty u x → (u ≡ to_end) × (x ≡ [])
+none_done : (u : RunExtent) (x : List Step) → IsFirst empty u x → (u ≡ to_end) × (x ≡ [])
 none_done to_end x i = elim (contains_cases [] x [] i) [
   | inl e ↦ (refl, sym e)
   | inr d ↦ absurd (contains_none x d)
@@ -252,7 +252,7 @@ module _ (q base : ℕ) (e : Expr) (arms : Arms) where
   abbrev go : CaseLabel → Step
   go = goes_in base e arms
 
-  labelled_first : (u : Outcome) (x : List Step) → IsLabelled go arms u x → IsFirst (select q base e arms) u x
+  labelled_first : (u : RunExtent) (x : List Step) → IsLabelled go arms u x → IsFirst (select q base e arms) u x
   labelled_first to_end x i = Contains-append_left (through_labels go arms normal) _ x i
   labelled_first (stopped (by_jump j)) x i = Contains-append_left (through_labels go arms (jump j)) _ x i
   labelled_first (stopped (to_point p)) x i = i
@@ -263,34 +263,34 @@ module _ (q base : ℕ) (e : Expr) (arms : Arms) where
   past_first false is = Contains-append_right (through_labels go arms normal) _ (go Default ∷ []) (contains_head _ [])
 
   -- from the label to which a value goes, or past all of them
-  select_first : (z : ℤ) (l : CaseLabel) → l ≡ goal_of z (entries_of arms) → (u : Outcome) (x : List Step) → IsFirst (row_behind l arms) u x
+  select_first : (z : ℤ) (l : CaseLabel) → l ≡ goal_of z (entries_of arms) → (u : RunExtent) (x : List Step) → IsFirst (row_behind l arms) u x
       → IsFirst (select q base e arms) u (go l ∷ x)
-  select_first z l is u x i = by (list_any (are_alike l) (entries_of arms)) refl
+  select_first z l is u x i = by (list_any (is_same_case l) (entries_of arms)) refl
     where
-      by : (t : Bool) → list_any (are_alike l) (entries_of arms) ≡ t → IsFirst (select q base e arms) u (go l ∷ x)
+      by : (t : Bool) → list_any (is_same_case l) (entries_of arms) ≡ t → IsFirst (select q base e arms) u (go l ∷ x)
       by true there = labelled_first u (go l ∷ x) (label_first go l arms u x there i)
       by false never =
-          let (past, none) = goal_out z (entries_of arms) (subst (λ k. list_any (are_alike k) (entries_of arms) ≡ false) is never) in
+          let (past, none) = goal_out z (entries_of arms) (subst (λ k. list_any (is_same_case k) (entries_of arms) ≡ false) is never) in
           let (ends, nothing) = none_done u x (subst (λ g. IsFirst g u x) (none_behind l arms never) i) in
           subst (λ v. IsFirst (select q base e arms) v (go l ∷ x)) (sym ends)
           (subst (λ y. IsFirst (select q base e arms) to_end (go l ∷ y)) (sym nothing)
           (subst (λ k. IsFirst (select q base e arms) to_end (go k ∷ [])) (sym (is ∙ past))
-          (past_first (list_any (are_alike Default) (entries_of arms)) none)))
+          (past_first (list_any (is_same_case Default) (entries_of arms)) none)))
 
-next_at : (p : ℕ) (g h : Node) (t : Bool) (u : Outcome) (x : List Step) → (IsNext p g u x → IsNext p h u x) → IsNext p (cond t h g) u x → IsNext p h u x
+next_at : (p : ℕ) (g h : Node) (t : Bool) (u : RunExtent) (x : List Step) → (IsNext p g u x → IsNext p h u x) → IsNext p (cond t h g) u x → IsNext p h u x
 next_at p g h true u x each i = i
 next_at p g h false u x each i = each i
 
-next_behind : (p : ℕ) (l : CaseLabel) (arms : Arms) (u : Outcome) (x : List Step) → IsNext p (row_behind l arms) u x → IsNext p (arms_row arms) u x
+next_behind : (p : ℕ) (l : CaseLabel) (arms : Arms) (u : RunExtent) (x : List Step) → IsNext p (row_behind l arms) u x → IsNext p (arms_row arms) u x
 next_behind p l no_arms u x i = i
-next_behind p l (entry k arms) u x i = next_at p (row_behind l arms) (arms_row arms) (are_alike l k) u x (next_behind p l arms u x) i
+next_behind p l (entry k arms) u x i = next_at p (row_behind l arms) (arms_row arms) (is_same_case l k) u x (next_behind p l arms u x) i
 next_behind p l (arm g arms) u x i = next_in_second p g (arms_row arms) u x (next_behind p l arms u x i)
 
-select_next : (p q base : ℕ) (e : Expr) (l : CaseLabel) (arms : Arms) (u : Outcome) (x : List Step) → IsNext p (row_behind l arms) u x
+select_next : (p q base : ℕ) (e : Expr) (l : CaseLabel) (arms : Arms) (u : RunExtent) (x : List Step) → IsNext p (row_behind l arms) u x
     → IsNext p (select q base e arms) u x
 select_next p q base e l arms u x i = by u (next_behind p l arms u x i)
   where
-    by : (u : Outcome) → IsNext p (arms_row arms) u x → IsNext p (select q base e arms) u x
+    by : (u : RunExtent) → IsNext p (arms_row arms) u x → IsNext p (select q base e arms) u x
     by to_end i = subst (λ xs. Contains xs (record { source = p; ops = x })) (outs_row arms normal) i
     by (stopped (by_jump j)) i = subst (λ xs. Contains xs (record { source = p; ops = x })) (outs_row arms (jump j)) i
     by (stopped (to_point r)) i = subst (λ xs. Contains xs (record { source = p; way = record { ops = x; goal = comes_to r } })) (inside_row arms) i
@@ -299,32 +299,32 @@ select_next p q base e l arms u x i = by u (next_behind p l arms u x i)
 -- runs -------------------------------------------------------------------------------------------------------------------
 
 module _ {A : Type 0} (name : ℕ → A) where
-  abbrev G : Node → Trail A → Outcome → Trail A → Type 0
-  G = Goes name Alone
+  abbrev G : Node → Trace A → RunExtent → Trace A → Type 0
+  G = RunsUpTo name NoChange
 
   -- where only the ways and what was met before are other ones
-  lifted : (g h : Node) (a : Trail A) (u v : Outcome) (b : Trail A) → ((x : List Step) → IsFirst g u x → IsFirst h v x) →
+  lifted : (g h : Node) (a : Trace A) (u v : RunExtent) (b : Trace A) → ((x : List Step) → IsFirst g u x → IsFirst h v x) →
       ((p : ℕ) (x : List Step) → IsNext p g u x → IsNext p h v x)
       → ((x : List Step) (s t : State) → LeadsSo u x s t → LeadsSo v x s t) →
-      ((p : ℕ) (d : Trail A) → G g a (stopped (to_point p)) d → G h a (stopped (to_point p)) d)
+      ((p : ℕ) (d : Trace A) → G g a (stopped (to_point p)) d → G h a (stopped (to_point p)) d)
       → HasGone name g a u b → HasGone name h a v b
   lifted g h a u v b first next leads at (along_first x e i l) = along_first x e (first x i) (leads x a.state b.state l)
-  lifted g h a u v b first next leads at (along_next p m before x e k i l) = along_next p m before x e (at p (record { state = m; met = before }) k)
+  lifted g h a u v b first next leads at (along_next p m before x e k i l) = along_next p m before x e (at p (record { state = m; events = before }) k)
       (next p x i) (leads x m b.state l)
 
   -- past a point, and then along a way of the tree h
-  past : (q : ℕ) (g h : Node) (a w : Trail A) (u v : Outcome) (b : Trail A) (step : Step) → w.met ≡ passes (name q) a.state ∷ a.met
+  past : (q : ℕ) (g h : Node) (a w : Trace A) (u v : RunExtent) (b : Trace A) (step : Step) → w.events ≡ visit (name q) a.state ∷ a.events
       → RunsStep step a.state w.state → ((x : List Step) → IsFirst g u x → IsNext q h v (step ∷ x))
       → ((p : ℕ) (x : List Step) → IsNext p g u x → IsNext p h v x)
-      → ((x : List Step) (s t : State) → LeadsSo u x s t → LeadsSo v x s t) → (c : Trail A) → G h c (stopped (to_point q)) a
-      → ((p : ℕ) (d : Trail A) → G g w (stopped (to_point p)) d → G h c (stopped (to_point p)) d) → HasGone name g w u b → HasGone name h c v b
+      → ((x : List Step) (s t : State) → LeadsSo u x s t → LeadsSo v x s t) → (c : Trace A) → G h c (stopped (to_point q)) a
+      → ((p : ℕ) (d : Trace A) → G g w (stopped (to_point p)) d → G h c (stopped (to_point p)) d) → HasGone name g w u b → HasGone name h c v b
   past q g h a w u v b step met o first next leads c here at (along_first x e i l) =
-      along_next q a.state a.met (step ∷ x) (e ∙ met) here (first x i) (so_led v step x a.state w.state b.state o (leads x w.state b.state l))
+      along_next q a.state a.events (step ∷ x) (e ∙ met) here (first x i) (so_led v step x a.state w.state b.state o (leads x w.state b.state l))
   past q g h a w u v b step met o first next leads c here at (along_next p m before x e k i l) = along_next p m before x e
-      (at p (record { state = m; met = before }) k) (next p x i) (leads x m b.state l)
+      (at p (record { state = m; events = before }) k) (next p x i) (leads x m b.state l)
 
   -- one tree, and then the other
-  in_turn : (g h : Node) (a m : Trail A) (u : Outcome) (b : Trail A) → G g a to_end m → HasGone name g a to_end m → HasGone name h m u b → HasGone name
+  in_turn : (g h : Node) (a m : Trace A) (u : RunExtent) (b : Trace A) → G g a to_end m → HasGone name g a to_end m → HasGone name h m u b → HasGone name
       (seq g h) a u b
   in_turn g h a m u b r (along_first x e i l) (along_first y f j k) = along_first (x ++ y) (f ∙ e) (first_then_first g h u x y i j)
       (so_behind u x y a.state m.state b.state l k)
@@ -332,27 +332,27 @@ module _ {A : Type 0} (name : ℕ → A) where
       along_next p s before (x ++ y) (f ∙ e) (inl t) (next_then_first p g h u x y i j) (so_behind u x y s m.state b.state l k)
   in_turn g h a m u b r one (along_next p s before y f t j k) = along_next p s before y f (inr (m, r, t)) (next_in_second p g h u y j) k
 
-  after_step : (g : Node) (a m : Trail A) (u : Outcome) (b : Trail A) (step : Step) (tree : Node) → RunsStep step a.state m.state → m.met ≡ a.met
+  after_step : (g : Node) (a m : Trace A) (u : RunExtent) (b : Trace A) (step : Step) (tree : Node) → RunsStep step a.state m.state → m.events ≡ a.events
       → ((x : List Step) → IsFirst g u x → IsFirst tree u (step ∷ x)) → ((p : ℕ) (x : List Step) → IsNext p g u x → IsNext p tree u x)
-      → ((p : ℕ) (d : Trail A) → G g m (stopped (to_point p)) d → G tree a (stopped (to_point p)) d) → HasGone name g m u b → HasGone name tree a u b
+      → ((p : ℕ) (d : Trace A) → G g m (stopped (to_point p)) d → G tree a (stopped (to_point p)) d) → HasGone name g m u b → HasGone name tree a u b
   after_step g a m u b step tree o met first next at (along_first x e i l) = along_first (step ∷ x) (e ∙ met) (first x i)
       (so_led u step x a.state m.state b.state o l)
   after_step g a m u b step tree o met first next at (along_next p s before x e k i l) = along_next p s before x e
-      (at p (record { state = s; met = before }) k) (next p x i) l
+      (at p (record { state = s; events = before }) k) (next p x i) l
 
   -- the state in which a run that is alone passes a point
-  abbrev Turning : ℕ → ℕ → Cond → Node → Trail A → Trail A → Type 0
-  Turning q base c g u v = (w : Trail A) × Tests name Alone q base c true u w × G g w to_end v
+  abbrev Turning : ℕ → ℕ → Cond → Node → Trace A → Trace A → Type 0
+  Turning q base c g u v = (w : Trace A) × VisitsAndTests name NoChange q base c true u w × G g w to_end v
 
-  tests_run : (q base : ℕ) (c : Cond) (wanted : Bool) (a b : Trail A) → Tests name Alone q base c wanted a b →
-      (run_op (test base c wanted) a.state ≡ Some b.state) × (b.met ≡ passes (name q) a.state ∷ a.met)
+  tests_run : (q base : ℕ) (c : Cond) (wanted : Bool) (a b : Trace A) → VisitsAndTests name NoChange q base c wanted a b →
+      (run_op (test base c wanted) a.state ≡ Some b.state) × (b.events ≡ visit (name q) a.state ∷ a.events)
   tests_run q base c wanted a b (m, (e, i), (o, j)) = (subst (λ s. run_op (test base c wanted) s ≡ Some b.state) e o, j ∙ i)
 
   -- a loop's rounds lead to its point
-  heads : (q base : ℕ) (c : Cond) (g : Node) → ((a b : Trail A) → G g a to_end b → HasGone name g a to_end b) → (n : ℕ) (a b : Trail A) → TrailRounds
+  heads : (q base : ℕ) (c : Cond) (g : Node) → ((a b : Trace A) → G g a to_end b → HasGone name g a to_end b) → (n : ℕ) (a b : Trace A) → TrailRounds
       (Turning q base c g) n a b
       → HasGone name (iterate q base c g) a (stopped (to_point q)) b
-  heads q base c g each zero a b e = along_first [] (ap (λ (t : Trail A). t.met) e) (contains_head _ []) (ap (λ (t : Trail A). t.state) e)
+  heads q base c g each zero a b e = along_first [] (ap (λ (t : Trace A). t.events) e) (contains_head _ []) (ap (λ (t : Trace A). t.state) e)
   heads q base c g each (suc n) a b (m, r, (w, t, x)) =
       let (o, met) = tests_run q base c true m w t in
       past q g (iterate q base c g) m w to_end (stopped (to_point q)) b (does (test base c true)) met o (λ x i. round q base c g x i)
@@ -360,38 +360,38 @@ module _ {A : Type 0} (name : ℕ → A) where
       (λ x s t l. l) a
       (n, m, r, inl (refl, refl)) (λ p d y. (n, m, r, inr (w, t, y))) (each w b x)
 
-  stops_there : (q r : ℕ) (g : Node) (a b : Trail A) → r ≡ q → HasGone name g a (stopped (to_point q)) b → HasGone name g a (stopped (to_point r)) b
+  stops_there : (q r : ℕ) (g : Node) (a b : Trace A) → r ≡ q → HasGone name g a (stopped (to_point q)) b → HasGone name g a (stopped (to_point r)) b
   stops_there q r g a b e x = subst (λ n. HasGone name g a (stopped (to_point n)) b) (sym e) x
 
-  came_empty : (a : Trail A) (u : Outcome) (b : Trail A) → G empty a u b → HasGone name empty a u b
-  came_empty a to_end b e = along_first [] (ap (λ (t : Trail A). t.met) e) (contains_head _ []) (ap (λ (t : Trail A). t.state) e)
+  came_empty : (a : Trace A) (u : RunExtent) (b : Trace A) → G empty a u b → HasGone name empty a u b
+  came_empty a to_end b e = along_first [] (ap (λ (t : Trace A). t.events) e) (contains_head _ []) (ap (λ (t : Trace A). t.state) e)
   came_empty a (stopped z) b x = absurd x
 
-  came_seq : (g h : Node) → ((a : Trail A) (u : Outcome) (b : Trail A) → G g a u b → HasGone name g a u b)
-      → ((a : Trail A) (u : Outcome) (b : Trail A) → G h a u b → HasGone name h a u b)
-      → (a : Trail A) (u : Outcome) (b : Trail A) → G (seq g h) a u b → HasGone name (seq g h) a u b
+  came_seq : (g h : Node) → ((a : Trace A) (u : RunExtent) (b : Trace A) → G g a u b → HasGone name g a u b)
+      → ((a : Trace A) (u : RunExtent) (b : Trace A) → G h a u b → HasGone name h a u b)
+      → (a : Trace A) (u : RunExtent) (b : Trace A) → G (seq g h) a u b → HasGone name (seq g h) a u b
   came_seq g h one two a to_end b (m, x, y) = in_turn g h a m to_end b x (one a to_end m x) (two m to_end b y)
   came_seq g h one two a (stopped z) b (inl x) = lifted g (seq g h) a (stopped z) (stopped z) b (first_stopped g h z)
       (λ p x i. next_stopped p g h z x i) (λ x s t l. l) (λ p d y. inl y) (one a (stopped z) b x)
   came_seq g h one two a (stopped z) b (inr (m, x, y)) = in_turn g h a m (stopped z) b x (one a to_end m x) (two m (stopped z) b y)
 
   -- at a label, by whether it is the one
-  came_at : (g h : Node) (t : Bool) → ((a : Trail A) (u : Outcome) (b : Trail A) → G g a u b → HasGone name g a u b)
-      → ((a : Trail A) (u : Outcome) (b : Trail A) → G h a u b → HasGone name h a u b)
-      → (a : Trail A) (u : Outcome) (b : Trail A) → G (cond t g h) a u b → HasGone name (cond t g h) a u b
+  came_at : (g h : Node) (t : Bool) → ((a : Trace A) (u : RunExtent) (b : Trace A) → G g a u b → HasGone name g a u b)
+      → ((a : Trace A) (u : RunExtent) (b : Trace A) → G h a u b → HasGone name h a u b)
+      → (a : Trace A) (u : RunExtent) (b : Trace A) → G (cond t g h) a u b → HasGone name (cond t g h) a u b
   came_at g h true one two a u b x = one a u b x
   came_at g h false one two a u b x = two a u b x
 
   mutual
-    pub came : (g : Node) (a : Trail A) (u : Outcome) (b : Trail A) → G g a u b → HasGone name g a u b
+    pub came : (g : Node) (a : Trace A) (u : RunExtent) (b : Trace A) → G g a u b → HasGone name g a u b
     came empty a u b x = came_empty a u b x
-    came (aside here what) a to_end b e = along_first [] (ap (λ (t : Trail A). t.met) e) (contains_head _ []) (ap (λ (t : Trail A). t.state) e)
-    came (aside here what) a (stopped z) b x = absurd x
-    came (point q) a to_end b (e, i) = along_next q a.state a.met [] i (refl, refl) (contains_head _ []) e
+    came (probe here what) a to_end b e = along_first [] (ap (λ (t : Trace A). t.events) e) (contains_head _ []) (ap (λ (t : Trace A). t.state) e)
+    came (probe here what) a (stopped z) b x = absurd x
+    came (point q) a to_end b (e, i) = along_next q a.state a.events [] i (refl, refl) (contains_head _ []) e
     came (point q) a (stopped (by_jump j)) b (i, e) = absurd i
     came (point q) a (stopped (to_failure r)) b (i, e) = absurd i
     came (point q) a (stopped (to_point r)) b (i, e) =
-        stops_there q r (point q) a b i (along_first [] (ap (λ (t : Trail A). t.met) e) (contains_head _ []) (ap (λ (t : Trail A). t.state) e))
+        stops_there q r (point q) a b i (along_first [] (ap (λ (t : Trace A). t.events) e) (contains_head _ []) (ap (λ (t : Trace A). t.state) e))
     came (act q op) a to_end b (o, e) = along_first (does op ∷ []) e (contains_head _ []) (b.state, o, refl)
     came (act q op) a (stopped z) b x = absurd x
     came (check q base c) a to_end b (o, e) = along_first (does (test base c true) ∷ []) e (contains_head _ []) (b.state, o, refl)
@@ -399,8 +399,8 @@ module _ {A : Type 0} (name : ℕ → A) where
     came (check q base c) a (stopped (to_point r)) b (i, e, t, o) = absurd i
     came (check q base c) a (stopped (to_failure r)) b (i, e, t, o) =
         subst (λ n. HasGone name (check q base c) a (stopped (to_failure n)) b) (sym i)
-        (along_first (does (test base c false) ∷ []) (ap (λ (t : Trail A). t.met) e) (contains_head _ [])
-        (t, (t, o, refl), store_of_test base c false a.state t o ∙ sym (ap (λ (t : Trail A). t.state.store) e)))
+        (along_first (does (test base c false) ∷ []) (ap (λ (t : Trace A). t.events) e) (contains_head _ [])
+        (t, (t, o, refl), store_of_test base c false a.state t o ∙ sym (ap (λ (t : Trace A). t.state.store) e)))
     came (seq g h) a u b x = came_seq g h (came g) (came h) a u b x
     came (choose q base c g h) a u b (inl (m, (o, e), x)) =
         after_step g a m u b (does (test base c true)) (choose q base c g h) o e (first_on q base c g h u) (λ p x i. next_on q base c g h p u x i)
@@ -410,7 +410,7 @@ module _ {A : Type 0} (name : ℕ → A) where
         (λ p d y. inr (m, (o, e), y)) (came h m u b x)
     came (iterate q base c g) a to_end b (n, m, r, t) =
         let (o, met) = tests_run q base c false m b t in
-        along_next q m.state m.met (does (test base c false) ∷ []) met (n, m, r, inl (refl, refl)) (contains_head _ []) (b.state, o, refl)
+        along_next q m.state m.events (does (test base c false) ∷ []) met (n, m, r, inl (refl, refl)) (contains_head _ []) (b.state, o, refl)
     came (iterate q base c g) a (stopped (by_jump j)) b (n, m, r, inl (i, e)) = absurd i
     came (iterate q base c g) a (stopped (to_failure f)) b (n, m, r, inl (i, e)) = absurd i
     came (iterate q base c g) a (stopped (to_point p)) b (n, m, r, inl (i, e)) =
@@ -436,21 +436,22 @@ module _ {A : Type 0} (name : ℕ → A) where
     came (leave n k) a to_end b x = absurd x
     came (leave n k) a (stopped z) b (i, e) =
         subst (λ y. HasGone name (leave n k) a (stopped y) b) (sym i)
-        (along_first [] (ap (λ (t : Trail A). t.met) e)
+        (along_first [] (ap (λ (t : Trace A). t.events) e)
         (subst (λ c. Contains {X = List Step} (if c then [] ∷ [] else []) []) (sym (same k)) (contains_head [] []))
-        (ap (λ (t : Trail A). t.state) e))
+        (ap (λ (t : Trace A). t.state) e))
     came (select q base e arms) a u b (l, m, (found, met), x) =
         after_step (row_behind l arms) a m u b (goes_in base e arms l) (select q base e arms) found met
         (λ y i. select_first q base e arms found.0 l found.3 u y i) (λ p y i. select_next p q base e l arms u y i)
-        (λ p d y. (l, m, (found, met), behind_of_row name Alone l arms m (stopped (to_point p)) d y))
-        (came_behind l arms m u b (row_of_behind name Alone l arms m u b x))
+        (λ p d y. (l, m, (found, met), behind_of_row name NoChange l arms m (stopped (to_point p)) d y))
+        (came_behind l arms m u b (row_of_behind name NoChange l arms m u b x))
 
-    came_row : (arms : Arms) (a : Trail A) (u : Outcome) (b : Trail A) → G (arms_row arms) a u b → HasGone name (arms_row arms) a u b
+    came_row : (arms : Arms) (a : Trace A) (u : RunExtent) (b : Trace A) → G (arms_row arms) a u b → HasGone name (arms_row arms) a u b
     came_row no_arms a u b x = came_empty a u b x
     came_row (entry l arms) a u b x = came_row arms a u b x
     came_row (arm g arms) a u b x = came_seq g (arms_row arms) (came g) (came_row arms) a u b x
 
-    came_behind : (l : CaseLabel) (arms : Arms) (a : Trail A) (u : Outcome) (b : Trail A) → G (row_behind l arms) a u b → HasGone name (row_behind l arms) a u b
+    came_behind : (l : CaseLabel) (arms : Arms) (a : Trace A) (u : RunExtent) (b : Trace A) → G (row_behind l arms) a u b →
+        HasGone name (row_behind l arms) a u b
     came_behind l no_arms a u b x = came_empty a u b x
-    came_behind l (entry k arms) a u b x = came_at (arms_row arms) (row_behind l arms) (are_alike l k) (came_row arms) (came_behind l arms) a u b x
+    came_behind l (entry k arms) a u b x = came_at (arms_row arms) (row_behind l arms) (is_same_case l k) (came_row arms) (came_behind l arms) a u b x
     came_behind l (arm g arms) a u b x = came_behind l arms a u b x

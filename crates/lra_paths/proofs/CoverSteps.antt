@@ -11,12 +11,12 @@ use Rattle.lra_program.specs.Program.{Program}
 use Rattle.lra_program.specs.Step.{State, Config}
 use Rattle.lra_program.specs.Run.{start, begun, Point, IsOn, Reaches, At, Fails, IsFailing}
 use Rattle.lra_program.specs.Sites.{Site, sites_of}
-use Rattle.lra_program.specs.Trails.{Met, passes, Trail, Alone, Walks, Piece}
-use Rattle.lra_program.proofs.TrailLaws.{walk_of, walk_on}
-use Rattle.lra_operations.specs.Graph.{Node}
-use Rattle.lra_operations.specs.Trails.{to_point, to_failure, stopped}
+use Rattle.lra_program.specs.Traces.{TraceEvent, visit, Trace, NoChange, TracedSteps, RunSegment}
+use Rattle.lra_program.proofs.TraceLaws.{walk_of, walk_on}
+use Rattle.lra_operations.specs.Tree.{Node}
+use Rattle.lra_operations.specs.Traces.{to_point, to_failure, stopped}
 use Rattle.lra_operations.specs.Agree.{point_of}
-use Rattle.lra_operations.specs.TrailsAgree.{point_at, point_or_none, TreeGoes}
+use Rattle.lra_operations.specs.TracesAgree.{point_at, point_or_none, TreeRunsUpTo}
 use Rattle.lra_ways.specs.Ways.{Step, Goal, comes_to, denies, Way, Segment, enter, inside}
 use Rattle.lra_sides.specs.Sides.{written}
 use Rattle.lra_paths.specs.Paths.{same_goal, live_of, live_at, from_start, first_ways, next_segments, leading}
@@ -73,23 +73,23 @@ next_leads P g p ops goal s t k led =
 
 -- what was met -----------------------------------------------------------------------------------------------------------
 
-abbrev IsNothing : List (Met Point) → Type 0
+abbrev IsNothing : List (TraceEvent Point) → Type 0
 IsNothing [] = Unit {0}
 IsNothing (x ∷ xs) = ⊥
 
-abbrev point_met : Point → List (Met Point) → Point
+abbrev point_met : Point → List (TraceEvent Point) → Point
 point_met p [] = p
-point_met p (passes q s ∷ xs) = q
+point_met p (visit q s ∷ xs) = q
 
-abbrev state_met : State → List (Met Point) → State
+abbrev state_met : State → List (TraceEvent Point) → State
 state_met s [] = s
-state_met s (passes q t ∷ xs) = t
+state_met s (visit q t ∷ xs) = t
 
-abbrev met_before : List (Met Point) → List (Met Point)
+abbrev met_before : List (TraceEvent Point) → List (TraceEvent Point)
 met_before [] = []
 met_before (x ∷ xs) = xs
 
-nothing : (x : Met Point) (xs : List (Met Point)) → [] ≡ x ∷ xs → ⊥
+nothing : (x : TraceEvent Point) (xs : List (TraceEvent Point)) → [] ≡ x ∷ xs → ⊥
 nothing x xs e = subst IsNothing e tt
 
 module _ (P : Program) (g : Node) (has : FollowsRuns P g) where
@@ -97,10 +97,11 @@ module _ (P : Program) (g : Node) (has : FollowsRuns P g) where
   T = sites_of P
 
   -- with as many variables as live at the point
-  wide : (p : ℕ) (s : Site) (draws : List ℤ) (m : State) (before : List (Met Point)) → slice_get T p ≡ Some s → TreeGoes Alone P g draws (to_point p)
-      (record { state = m; met = before })
+  wide : (p : ℕ) (s : Site) (draws : List ℤ) (m : State) (before : List (TraceEvent Point)) → slice_get T p ≡ Some s →
+      TreeRunsUpTo NoChange P g draws (to_point p)
+      (record { state = m; events = before })
       → length m.store ≡ live_at P p
-  wide p s draws m before at x = has.trails.width p s draws (record { state = m; met = before }) at x ∙ sym (ap live_of at)
+  wide p s draws m before at x = has.trails.width p s draws (record { state = m; events = before }) at x ∙ sym (ap live_of at)
 
   -- two numbers of one point are the same
   one_number : (p q : ℕ) (r s : Site) → slice_get T p ≡ Some r → slice_get T q ≡ Some s → point_of r ≡ point_at T q → p ≡ q
@@ -110,29 +111,30 @@ module _ (P : Program) (g : Node) (has : FollowsRuns P g) where
 
   -- from the start ---------------------------------------------------------------------------------------------------
 
-  from_nothing : (draws : List ℤ) (q : ℕ) (a : Trail Point) → a.met ≡ [] → HasGone (point_at T) g (record { state = begun P draws; met = [] })
+  from_nothing : (draws : List ℤ) (q : ℕ) (a : Trace Point) → a.events ≡ [] → HasGone (point_at T) g (record { state = begun P draws; events = [] })
       (stopped (to_point q)) a
       → SomeLeads (leading P g 0 (comes_to q)) [] a.state.store
   from_nothing draws q a e (along_first ops same first leads) = first_leads P g ops (comes_to q) [] a.state.store first
       (start_leads P has.globals ops draws a.state leads)
-  from_nothing draws q a e (along_next p m before ops met there next leads) = absurd (nothing (passes (point_at T p) m) before (sym e ∙ met))
+  from_nothing draws q a e (along_next p m before ops met there next leads) = absurd (nothing (visit (point_at T p) m) before (sym e ∙ met))
 
-  starts : (draws : List ℤ) (n : ℕ) (d : Config) (q : ℕ) (s : Site) → slice_get T q ≡ Some s → Walks Alone P n (start P draws) [] d [] → IsOn d (point_of s)
+  starts : (draws : List ℤ) (n : ℕ) (d : Config) (q : ℕ) (s : Site) → slice_get T q ≡ Some s → TracedSteps NoChange P n (start P draws) [] d [] →
+      IsOn d (point_of s)
       → SomeLeads (leading P g 0 (comes_to q)) [] d.state.store
   starts draws n d q s at w on =
-      let a : Trail Point = record { state = d.state; met = [] } in
-      from_nothing draws q a refl (came (point_at T) g (record { state = begun P draws; met = [] }) (stopped (to_point q)) a
+      let a : Trace Point = record { state = d.state; events = [] } in
+      from_nothing draws q a refl (came (point_at T) g (record { state = begun P draws; events = [] }) (stopped (to_point q)) a
       ((has.trails.comes q s draws a at).0 (n, d, w, on, refl)))
 
   -- from the point that was met last ---------------------------------------------------------------------------------
 
-  from_last : (draws : List ℤ) (p q : ℕ) (r : Site) (m : State) (before : List (Met Point)) (a : Trail Point) → slice_get T p ≡ Some r → a.met ≡ passes
+  from_last : (draws : List ℤ) (p q : ℕ) (r : Site) (m : State) (before : List (TraceEvent Point)) (a : Trace Point) → slice_get T p ≡ Some r → a.events ≡ visit
       (point_of r) m ∷ before
-      → HasGone (point_at T) g (record { state = begun P draws; met = [] }) (stopped (to_point q)) a → SomeLeads (leading P g (suc p) (comes_to q))
+      → HasGone (point_at T) g (record { state = begun P draws; events = [] }) (stopped (to_point q)) a → SomeLeads (leading P g (suc p) (comes_to q))
       m.store a.state.store
-  from_last draws p q r m before a at e (along_first ops same first leads) = absurd (nothing (passes (point_of r) m) before (sym same ∙ e))
+  from_last draws p q r m before a at e (along_first ops same first leads) = absurd (nothing (visit (point_of r) m) before (sym same ∙ e))
   from_last draws p q r m before a at e (along_next p1 m1 before1 ops met there next leads) =
-      let (s1, at1) = has.points p1 draws (record { state = m1; met = before1 }) there in
+      let (s1, at1) = has.points p1 draws (record { state = m1; events = before1 }) there in
       let number = one_number p p1 r s1 at at1 (ap (point_met (point_of r)) (sym e ∙ met)) in
       let state = ap (state_met m) (sym e ∙ met) in
       let led = next_leads P g p1 ops (comes_to q) m1.store a.state.store next
@@ -140,26 +142,26 @@ module _ (P : Program) (g : Node) (has : FollowsRuns P g) where
       subst (λ n. SomeLeads (leading P g (suc n) (comes_to q)) m.store a.state.store) (sym number)
       (subst (λ (u : State). SomeLeads (leading P g (suc p1) (comes_to q)) u.store a.state.store) (sym state) led)
 
-  goes : (c d : Config) (p q : ℕ) (r s : Site) → slice_get T p ≡ Some r → slice_get T q ≡ Some s → Reaches P c → Piece Alone P (point_of r) c d → IsOn d
+  goes : (c d : Config) (p q : ℕ) (r s : Site) → slice_get T p ≡ Some r → slice_get T q ≡ Some s → Reaches P c → RunSegment NoChange P (point_of r) c d → IsOn d
       (point_of s)
       → SomeLeads (leading P g (suc p) (comes_to q)) c.state.store d.state.store
   goes c d p q r s at there run (on, n, piece) on_next =
       let (xs, w) = walk_of P run.length (start P run.draws) c [] run.steps in
-      let a : Trail Point = record { state = d.state; met = passes (point_of r) c.state ∷ xs } in
-      let all = walk_on Alone P run.length n (start P run.draws) c d [] xs (passes (point_of r) c.state ∷ xs) w (piece xs) in
+      let a : Trace Point = record { state = d.state; events = visit (point_of r) c.state ∷ xs } in
+      let all = walk_on NoChange P run.length n (start P run.draws) c d [] xs (visit (point_of r) c.state ∷ xs) w (piece xs) in
       from_last run.draws p q r c.state xs a at refl
-      (came (point_at T) g (record { state = begun P run.draws; met = [] }) (stopped (to_point q)) a
+      (came (point_at T) g (record { state = begun P run.draws; events = [] }) (stopped (to_point q)) a
       ((has.trails.comes q s run.draws a there).0 (all.0, d, all.1, on_next, refl)))
 
   -- where an assertion is false ---------------------------------------------------------------------------------------
 
-  from_denied : (draws : List ℤ) (q : ℕ) (s : Site) (m : State) (before : List (Met Point)) (a : Trail Point) → slice_get T q ≡ Some s → a.met ≡ passes
+  from_denied : (draws : List ℤ) (q : ℕ) (s : Site) (m : State) (before : List (TraceEvent Point)) (a : Trace Point) → slice_get T q ≡ Some s → a.events ≡ visit
       (point_of s) m ∷ before
-      → HasGone (point_at T) g (record { state = begun P draws; met = [] }) (stopped (to_failure q)) a → SomeLeads (leading P g (suc q) (denies q))
+      → HasGone (point_at T) g (record { state = begun P draws; events = [] }) (stopped (to_failure q)) a → SomeLeads (leading P g (suc q) (denies q))
       m.store a.state.store
-  from_denied draws q s m before a at e (along_first ops same first leads) = absurd (nothing (passes (point_of s) m) before (sym same ∙ e))
+  from_denied draws q s m before a at e (along_first ops same first leads) = absurd (nothing (visit (point_of s) m) before (sym same ∙ e))
   from_denied draws q s m before a at e (along_next p1 m1 before1 ops met there next (u, leads, store)) =
-      let (s1, at1) = has.points p1 draws (record { state = m1; met = before1 }) there in
+      let (s1, at1) = has.points p1 draws (record { state = m1; events = before1 }) there in
       let number = one_number q p1 s s1 at at1 (ap (point_met (point_of s)) (sym e ∙ met)) in
       let state = ap (state_met m) (sym e ∙ met) in
       let led = next_leads P g p1 ops (denies q) m1.store u.store next (written_from ops (live_at P p1) m1 u (wide p1 s1 draws m1 before1 at1 there) leads) in
@@ -169,11 +171,12 @@ module _ (P : Program) (g : Node) (has : FollowsRuns P g) where
 
   -- on the trail of the run
   failing : (c : Config) (q : ℕ) (s : Site) (run : Reaches P c) → slice_get T q ≡ Some s → IsOn c (point_of s) → IsFailing c.items c.here c.state
-      → (xs : List (Met Point)) × TreeGoes Alone P g run.draws (to_failure q) (record { state = c.state; met = passes (point_of s) c.state ∷ xs })
+      → (xs : List (TraceEvent Point))
+      × TreeRunsUpTo NoChange P g run.draws (to_failure q) (record { state = c.state; events = visit (point_of s) c.state ∷ xs })
   failing c q s run at on false_there =
       let (xs, w) = walk_of P run.length (start P run.draws) c [] run.steps in (
         xs,
-        (has.trails.fails q s run.draws (record { state = c.state; met = passes (point_of s) c.state ∷ xs }) at).0
+        (has.trails.fails q s run.draws (record { state = c.state; events = visit (point_of s) c.state ∷ xs }) at).0
             (run.length, c, xs, w, on, refl, false_there, refl),
       )
 
@@ -181,8 +184,8 @@ module _ (P : Program) (g : Node) (has : FollowsRuns P g) where
       → SomeLeads (leading P g (suc q) (denies q)) c.state.store c.state.store
   denied c q s at run on false_there =
       let (xs, x) = failing c q s run at on false_there in
-      let a : Trail Point = record { state = c.state; met = passes (point_of s) c.state ∷ xs } in
-      from_denied run.draws q s c.state xs a at refl (came (point_at T) g (record { state = begun P run.draws; met = [] }) (stopped (to_failure q)) a x)
+      let a : Trace Point = record { state = c.state; events = visit (point_of s) c.state ∷ xs } in
+      from_denied run.draws q s c.state xs a at refl (came (point_at T) g (record { state = begun P run.draws; events = [] }) (stopped (to_failure q)) a x)
 
   pub paths_cover : PathsCover P g
   paths_cover = record { starts = starts; goes = goes; denied = denied }
@@ -191,31 +194,33 @@ module _ (P : Program) (g : Node) (has : FollowsRuns P g) where
 
   module _ (holds : Goal → List ℤ → Type 0) (k : AreKept P g holds) where
     -- along a trail, from its end back
-    kept_on : (xs : List (Met Point)) (draws : List ℤ) (q : ℕ) (a : Trail Point) → a.met ≡ xs → TreeGoes Alone P g draws (to_point q) a → holds (comes_to q)
+    kept_on : (xs : List (TraceEvent Point)) (draws : List ℤ) (q : ℕ) (a : Trace Point) → a.events ≡ xs → TreeRunsUpTo NoChange P g draws (to_point q) a →
+        holds (comes_to q)
         a.state.store
     kept_on [] draws q a e x = k.first (comes_to q) a.state.store (has.points q draws a x) (from_nothing draws q a e
-        (came (point_at T) g (record { state = begun P draws; met = [] }) (stopped (to_point q)) a x))
-    kept_on (y ∷ xs) draws q a e x = by (came (point_at T) g (record { state = begun P draws; met = [] }) (stopped (to_point q)) a x)
+        (came (point_at T) g (record { state = begun P draws; events = [] }) (stopped (to_point q)) a x))
+    kept_on (y ∷ xs) draws q a e x = by (came (point_at T) g (record { state = begun P draws; events = [] }) (stopped (to_point q)) a x)
         (λ p b f z. kept_on xs draws p b f z)
       where
-        by : HasGone (point_at T) g (record { state = begun P draws; met = [] }) (stopped (to_point q)) a
-            → ((p : ℕ) (b : Trail Point) → b.met ≡ xs → TreeGoes Alone P g draws (to_point p) b → holds (comes_to p) b.state.store) → holds (comes_to q)
+        by : HasGone (point_at T) g (record { state = begun P draws; events = [] }) (stopped (to_point q)) a
+            → ((p : ℕ) (b : Trace Point) → b.events ≡ xs → TreeRunsUpTo NoChange P g draws (to_point p) b → holds (comes_to p) b.state.store) →
+            holds (comes_to q)
             a.state.store
         by (along_first ops same first leads) before = absurd (nothing y xs (sym same ∙ e))
         by (along_next p m earlier ops met there next leads) before =
-            let b : Trail Point = record { state = m; met = earlier } in
+            let b : Trace Point = record { state = m; events = earlier } in
             let (s, at) = has.points p draws b there in
             k.next p s (comes_to q) m.store a.state.store at (wide p s draws m earlier at there) (has.points q draws a x)
             (before p b (ap met_before (sym met ∙ e)) there)
             (next_leads P g p ops (comes_to q) m.store a.state.store next (written_from ops (live_at P p) m a.state (wide p s draws m earlier at there) leads))
 
-    kept_denied : (draws : List ℤ) (q : ℕ) (r : Site) (a : Trail Point) → slice_get T q ≡ Some r
-        → HasGone (point_at T) g (record { state = begun P draws; met = [] }) (stopped (to_failure q)) a
+    kept_denied : (draws : List ℤ) (q : ℕ) (r : Site) (a : Trace Point) → slice_get T q ≡ Some r
+        → HasGone (point_at T) g (record { state = begun P draws; events = [] }) (stopped (to_failure q)) a
         → (store : List ℤ) × holds (denies q) store
     kept_denied draws q r a is (along_first ops same first (u, leads, store)) =
         (u.store, k.first (denies q) u.store (r, is) (first_leads P g ops (denies q) [] u.store first (start_leads P has.globals ops draws u leads)))
     kept_denied draws q r a is (along_next p m before ops met there next (u, leads, store)) =
-        let b : Trail Point = record { state = m; met = before } in
+        let b : Trace Point = record { state = m; events = before } in
         let (s, at) = has.points p draws b there in (
           u.store,
           k.next p s (denies q) m.store u.store at (wide p s draws m before at there) (r, is) (kept_on before draws p b refl there)
@@ -225,14 +230,14 @@ module _ (P : Program) (g : Node) (has : FollowsRuns P g) where
     comes : (q : ℕ) (s : Site) (store : List ℤ) → slice_get T q ≡ Some s → At P (point_of s) store → holds (comes_to q) store
     comes q s store at (c, run, on, same) =
         let (xs, w) = walk_of P run.length (start P run.draws) c [] run.steps in
-        let a : Trail Point = record { state = c.state; met = xs } in
+        let a : Trace Point = record { state = c.state; events = xs } in
         subst (λ t. holds (comes_to q) t) same (kept_on xs run.draws q a refl ((has.trails.comes q s run.draws a at).0 (run.length, c, w, on, refl)))
 
     fails : (q : ℕ) (s : Site) → slice_get T q ≡ Some s → Fails P (point_of s) → (store : List ℤ) × holds (denies q) store
     fails q s at (c, run, on, false_there) =
         let (xs, x) = failing c q s run at on false_there in
-        let a : Trail Point = record { state = c.state; met = passes (point_of s) c.state ∷ xs } in
-        kept_denied run.draws q s a at (came (point_at T) g (record { state = begun P run.draws; met = [] }) (stopped (to_failure q)) a x)
+        let a : Trace Point = record { state = c.state; events = visit (point_of s) c.state ∷ xs } in
+        kept_denied run.draws q s a at (came (point_at T) g (record { state = begun P run.draws; events = [] }) (stopped (to_failure q)) a x)
 
     pub kept : HoldInAllRuns P holds
     kept = record { comes = comes; fails = fails }

@@ -11,7 +11,7 @@ use Rattle.lra_domain.specs.Actions.{Action}
 use Rattle.lra_domain.specs.Moves.{Moves, stay, first_then}
 use Rattle.lra_program.specs.declared.program.GlobalVariable.{GlobalVariable}
 use Rattle.lra_program.specs.Sites.{Site}
-use Rattle.lra_operations.specs.Graph.{Node}
+use Rattle.lra_operations.specs.Tree.{Node}
 use Rattle.lra_flow.specs.MovesOf.{first_values}
 use Rattle.lra_ways.specs.Ways.{Step, Goal, each_then, enter, inside, Way, Segment}
 use Rattle.lra_sides.specs.Sides.{sides, written, greatest_paths}

@@ -6,11 +6,11 @@ use Rattle.lra_program.specs.WellFormed.{AreGoodGlobals, IsWellFormed}
 use Rattle.lra_program.specs.Step.{State}
 use Rattle.lra_program.specs.Run.{Point}
 use Rattle.lra_program.specs.Sites.{Site, sites_of}
-use Rattle.lra_program.specs.Trails.{Trail, Alone}
-use Rattle.lra_operations.specs.Graph.{Node}
-use Rattle.lra_operations.specs.Trails.{to_point}
-use Rattle.lra_operations.specs.Agree.{AreDistinct, IsGraph}
-use Rattle.lra_operations.specs.TrailsAgree.{TreeGoes, TrailsAgree}
+use Rattle.lra_program.specs.Traces.{Trace, NoChange}
+use Rattle.lra_operations.specs.Tree.{Node}
+use Rattle.lra_operations.specs.Traces.{to_point}
+use Rattle.lra_operations.specs.Agree.{AreDistinct, IsInlinedTree}
+use Rattle.lra_operations.specs.TracesAgree.{TreeRunsUpTo, TracesAgree}
 use Rattle.lra_agreement.proofs.Agreement.{graphs_have_trails}
 use Rattle.lra_agreement.proofs.DistinctSites.{distinct_sites}
 use Rattle.lra_agreement.proofs.Performed.{performed}
@@ -19,16 +19,16 @@ use Rattle.lra_agreement.proofs.Performed.{performed}
 pub record FollowsRuns (P : Program) (g : Node) : Type 0 where
   pub globals : AreGoodGlobals P.globals
   pub distinct : AreDistinct (sites_of P)
-  pub trails : TrailsAgree Alone P g
+  pub trails : TracesAgree NoChange P g
   -- the tree has no other points than these
-  pub points : (q : ℕ) (draws : List ℤ) (a : Trail Point) → TreeGoes Alone P g draws (to_point q) a → (s : Site) × (slice_get (sites_of P) q ≡ Some s)
+  pub points : (q : ℕ) (draws : List ℤ) (a : Trace Point) → TreeRunsUpTo NoChange P g draws (to_point q) a → (s : Site) × (slice_get (sites_of P) q ≡ Some s)
 
-pub graphs_follow_runs : (P : Program) (g : Node) → IsWellFormed P → IsGraph P g → FollowsRuns P g
+pub graphs_follow_runs : (P : Program) (g : Node) → IsWellFormed P → IsInlinedTree P g → FollowsRuns P g
 graphs_follow_runs P g well is = record {
   globals = well.globals;
   distinct = distinct_sites P well;
   trails = graphs_have_trails P g (distinct_sites P well) is;
   points = λ q draws a x.
-      let y = performed Alone (λ s t e. ap (λ (x : State). length x.store) e) P g is draws q a x in
+      let y = performed NoChange (λ s t e. ap (λ (x : State). length x.store) e) P g is draws q a x in
       (record { path = y.there.here.path; label = y.label; live = length y.there.state.store; asserts = y.asserts }, y.site);
 }

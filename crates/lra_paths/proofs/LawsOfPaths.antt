@@ -3,22 +3,23 @@ use Rattle.std.proofs.Common.{ℕ, ℤ, List, Bool}
 use Rattle.std.specs.Prelude.{IsTrue}
 use Rattle.lra_program.specs.Program.{Program}
 use Rattle.lra_program.specs.WellFormed.{IsWellFormed}
-use Rattle.lra_operations.specs.Graph.{Node}
-use Rattle.lra_operations.specs.Agree.{IsGraph}
+use Rattle.lra_operations.specs.Tree.{Node}
+use Rattle.lra_operations.specs.Agree.{IsInlinedTree}
 use Rattle.lra_ways.specs.Ways.{Goal}
-use Rattle.lra_program.specs.Trails.{Trail, Alone}
-use Rattle.lra_operations.specs.Trails.{Outcome, Goes}
+use Rattle.lra_program.specs.Traces.{Trace, NoChange}
+use Rattle.lra_operations.specs.Traces.{RunExtent, RunsUpTo}
 use Rattle.lra_paths.proofs.Came.{came}
 use Rattle.lra_paths.specs.Covers.{HasGone, PathsCover, AreKept, HoldInAllRuns}
 use Rattle.lra_paths.proofs.FollowedRuns.{graphs_follow_runs}
 use Rattle.lra_paths.proofs.CoverSteps.{paths_cover, kept}
 
-pub all_paths_cover : (P : Program) (g : Node) → IsWellFormed P → IsGraph P g → PathsCover P g
+pub all_paths_cover : (P : Program) (g : Node) → IsWellFormed P → IsInlinedTree P g → PathsCover P g
 all_paths_cover P g well is = paths_cover P g (graphs_follow_runs P g well is)
 
-pub what_is_kept : (P : Program) (g : Node) → IsWellFormed P → IsGraph P g → (holds : Goal → List ℤ → Bool) → AreKept P g (λ goal t. IsTrue (holds goal t)) →
+pub what_is_kept : (P : Program) (g : Node) → IsWellFormed P → IsInlinedTree P g → (holds : Goal → List ℤ → Bool) →
+    AreKept P g (λ goal t. IsTrue (holds goal t)) →
     HoldInAllRuns P (λ goal t. IsTrue (holds goal t))
 what_is_kept P g well is holds k = kept P g (graphs_follow_runs P g well is) (λ goal t. IsTrue (holds goal t)) k
 
-pub all_ways_cover : (g : Node) (a : Trail ℕ) (u : Outcome) (b : Trail ℕ) → Goes (λ q. q) Alone g a u b → HasGone (λ q. q) g a u b
+pub all_ways_cover : (g : Node) (a : Trace ℕ) (u : RunExtent) (b : Trace ℕ) → RunsUpTo (λ q. q) NoChange g a u b → HasGone (λ q. q) g a u b
 all_ways_cover g a u b x = came (λ q. q) g a u b x

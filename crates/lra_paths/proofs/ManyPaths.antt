@@ -2,7 +2,7 @@
 use Rattle.std.proofs.Common.{ℕ, List, arith}
 use Rattle.lra_program.specs.declared.program.GlobalVariable.{GlobalVariable}
 use Rattle.lra_program.specs.Sites.{Site}
-use Rattle.lra_operations.specs.Graph.{Node}
+use Rattle.lra_operations.specs.Tree.{Node}
 use Rattle.lra_paths.specs.Paths.{AreFewIn, HasTooManyIn}
 
 pub not_both : (globals : List GlobalVariable) (sites : List Site) (g : Node) (q : ℕ) → AreFewIn globals sites g → HasTooManyIn globals sites g q → ⊥

@@ -13,11 +13,11 @@ use Rattle.lra_program.specs.Value.{Argument}
 use Rattle.lra_program.specs.Step.{Op, test}
 use Rattle.lra_program.specs.Sites.{Site, sites_of}
 use Rattle.lra_base.specs.declared.case_labels.CaseLabel.{CaseLabel}
-use Rattle.lra_operations.specs.Graph.{Exit, normal, Node, empty, point, act, check, seq, choose, iterate, catch, leave, select}
-use Rattle.lra_operations.specs.Graph.{Arms, no_arms, entry, arm}
+use Rattle.lra_operations.specs.Tree.{Exit, normal, Node, empty, point, act, check, seq, choose, iterate, catch, leave, select}
+use Rattle.lra_operations.specs.Tree.{Arms, no_arms, entry, arm}
 use Rattle.lra_operations.proofs.ArmRows.{arms_row}
-use Rattle.lra_operations.specs.Agree.{IsGraph}
-use Rattle.lra_operations.specs.Inlined.{Spot, Inl, InlAll, InlCases, Declares, Loops, Gives, Calls}
+use Rattle.lra_operations.specs.Agree.{IsInlinedTree}
+use Rattle.lra_operations.specs.Inlined.{InlineState, InlineStmt, InlineItems, InlineCases, InlineDeclarator, InlineLoop, InlineRvalue, InlineCall}
 use Rattle.lra_operations.specs.Inlined.{as_nothing, as_block, as_absent, as_assign, as_write, as_write_call, as_call, as_if, as_loop, as_for}
 use Rattle.lra_operations.specs.Inlined.{as_break, as_continue, as_return, as_return_value, as_return_call, as_end, as_end_value, as_end_call, as_assert}
 use Rattle.lra_operations.specs.Inlined.{as_switch, as_no_cases, as_labelled, as_stated}
@@ -175,7 +175,7 @@ own_select q base e arms x = record { first = x.labels (goes_in base e arms); ne
 -- trees of programs -------------------------------------------------------------------------------------------------------
 
 mutual
-  own_one : {P : Program} {T : List Site} {spot : Spot} {s : Stmt} {g : Node} {q : ℕ} → Inl P T spot s g q → AreOwn g
+  own_one : {P : Program} {T : List Site} {spot : InlineState} {s : Stmt} {g : Node} {q : ℕ} → InlineStmt P T spot s g q → AreOwn g
   own_one (as_nothing i) = own_point _
   own_one (as_block d i) = own_seq _ _ (own_all d) (own_seq _ _ (own_point _) (own_act _ _))
   own_one as_absent = own_empty
@@ -198,35 +198,37 @@ mutual
   own_one (as_assume i) = own_seq _ _ (own_point _) (own_act _ _)
   own_one (as_switch i d) = own_seq _ _ (own_point _) (own_catch _ _ _ (own_select _ _ _ _ (own_cases d)))
 
-  own_cases : {P : Program} {T : List Site} {spot : Spot} {cs : Cases} {arms : Arms} {q : ℕ} → InlCases P T spot cs arms q → ArmsOwn arms
+  own_cases : {P : Program} {T : List Site} {spot : InlineState} {cs : Cases} {arms : Arms} {q : ℕ} → InlineCases P T spot cs arms q → ArmsOwn arms
   own_cases as_no_cases = own_no_arms
   own_cases (as_labelled d) = own_entry _ _ (own_cases d)
   own_cases (as_stated d e) = own_arm _ _ (own_one d) (own_cases e)
 
-  own_all : {P : Program} {T : List Site} {spot : Spot} {s : BlockItems} {g : Node} {n q : ℕ} → InlAll P T spot s g n q → AreOwn g
+  own_all : {P : Program} {T : List Site} {spot : InlineState} {s : BlockItems} {g : Node} {n q : ℕ} → InlineItems P T spot s g n q → AreOwn g
   own_all as_none = own_empty
   own_all (as_declaration i j e) = own_seq _ _ (own_seq _ _ (own_point _) (own_declares j)) (own_all e)
   own_all (as_array i e) = own_seq _ _ (own_seq _ _ (own_point _) (own_act _ _)) (own_all e)
   own_all (as_statement d e) = own_seq _ _ (own_one d) (own_all e)
 
-  own_declares : {P : Program} {T : List Site} {spot : Spot} {r : ℕ} {t : NumberType} {e : Option Rvalue} {g : Node} {q : ℕ} → Declares P T spot r t e g q →
+  own_declares : {P : Program} {T : List Site} {spot : InlineState} {r : ℕ} {t : NumberType} {e : Option Rvalue} {g : Node} {q : ℕ} →
+      InlineDeclarator P T spot r t e g q →
       AreOwn g
   own_declares as_fresh = own_act _ _
   own_declares (as_given d) = own_seq _ _ (own_act _ _) (own_gives d)
 
-  own_loop : {P : Program} {T : List Site} {spot : Spot} {r : ℕ} {s : Stmt} {g : Node} {q : ℕ} → Loops P T spot r s g q → AreOwn g
+  own_loop : {P : Program} {T : List Site} {spot : InlineState} {r : ℕ} {s : Stmt} {g : Node} {q : ℕ} → InlineLoop P T spot r s g q → AreOwn g
   own_loop (is_loop i d e) = own_catch _ _ _ (own_iterate _ _ _ _ (own_seq _ _ (own_catch _ _ _ (own_one e)) (own_one d)))
 
-  own_gives : {P : Program} {T : List Site} {spot : Spot} {r : ℕ} {x : Receiver} {e : Rvalue} {g : Node} {q : ℕ} → Gives P T spot r x e g q → AreOwn g
+  own_gives : {P : Program} {T : List Site} {spot : InlineState} {r : ℕ} {x : Receiver} {e : Rvalue} {g : Node} {q : ℕ} → InlineRvalue P T spot r x e g q →
+      AreOwn g
   own_gives as_value = own_act _ _
   own_gives (as_result d) = own_call d
 
-  own_call : {P : Program} {T : List Site} {spot : Spot} {r : ℕ} {x : Receiver} {gives : List Argument → Op} {c : Call} {g : Node} {q : ℕ} →
-      Calls P T spot r x gives c g q → AreOwn g
+  own_call : {P : Program} {T : List Site} {spot : InlineState} {r : ℕ} {x : Receiver} {gives : List Argument → Op} {c : Call} {g : Node} {q : ℕ} →
+      InlineCall P T spot r x gives c g q → AreOwn g
   own_call (is_call i j d k) = own_seq _ _ (own_act _ _) (own_catch _ _ _ (own_seq _ _ (own_all d) (own_seq _ _ (own_point _)
       (own_seq _ _ (own_act _ _) (own_seq _ _ (own_act _ _) (own_act _ _))))))
 
-own_graph : (P : Program) (g : Node) → IsGraph P g → AreOwn g
+own_graph : (P : Program) (g : Node) → IsInlinedTree P g → AreOwn g
 own_graph P g is = subst AreOwn (sym is.parts) (own_seq is.body (point is.last) (own_all is.inlined) (own_point is.last))
 
 -- paths -------------------------------------------------------------------------------------------------------------------
@@ -248,7 +250,7 @@ other_denied : (s p q : ℕ) (goal : Goal) → p ≢ q → IsOwn s goal → (nat
 other_denied s p q (comes_to r) other h = not_false (nat_eq s p)
 other_denied s p q (denies r) other h = never_both (nat_eq s p) (nat_eq r q) (λ b d. other (sym (eqb-true s p b) ∙ h ∙ eqb-true r q d))
 
-module _ (P : Program) (g : Node) (is : IsGraph P g) (q : ℕ) where
+module _ (P : Program) (g : Node) (is : IsInlinedTree P g) (q : ℕ) where
   none_lead : (p : ℕ) → p ≢ suc q → leading P g p (denies q) ≡ []
   none_lead zero other = ap (flat_map (λ (way : Way). started P.globals way.ops))
       (none_pass (λ (way : Way). same_goal way.goal (denies q)) (enter g)
@@ -263,5 +265,5 @@ module _ (P : Program) (g : Node) (is : IsGraph P g) (q : ℕ) where
   own_denials inside_sites = only_one (λ p. paths_between P g p (denies q)) (suc q) (λ p other. ap (map (path_by p (denies q))) (none_lead p other)) 0
       (suc (length (sites_of P))) (omega arith) (omega (arith, inside_sites))
 
-pub denials_are_own : (P : Program) (g : Node) (q : ℕ) → IsGraph P g → q < length (sites_of P) → denials_of P g q ≡ paths_between P g (suc q) (denies q)
+pub denials_are_own : (P : Program) (g : Node) (q : ℕ) → IsInlinedTree P g → q < length (sites_of P) → denials_of P g q ≡ paths_between P g (suc q) (denies q)
 denials_are_own P g q is less = own_denials P g is q less

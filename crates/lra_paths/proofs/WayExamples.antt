@@ -4,15 +4,15 @@ use Rattle.lra_linear_spec.specs.declared.ConKind.TheVariants.{Ge, Eq}
 use Rattle.lra_base.specs.declared.number_types.NumberType.TheVariants.{Long}
 use Rattle.lra_base.specs.Operators.{below, differs}
 use Rattle.lra_program.specs.Program.{Expr, Cond, literal, read, input, compare, local}
-use Rattle.lra_program.specs.Step.{Op, keep, test}
+use Rattle.lra_program.specs.Step.{Op, truncate_to, test}
 use Rattle.lra_program.proofs.RunExamples.{long_variable}
-use Rattle.lra_operations.specs.Graph.{broken, continued, normal, Node, empty, point, act, check, seq, choose, iterate, catch, leave}
+use Rattle.lra_operations.specs.Tree.{broken, continued, normal, Node, empty, point, act, check, seq, choose, iterate, catch, leave}
 use Rattle.lra_domain.specs.Actions.{Action}
 use Rattle.lra_domain.specs.Actions as action
 use Rattle.lra_domain.specs.Moves.{make, first_then, join_of, cases}
 use Rattle.lra_base.specs.declared.case_labels.CaseLabel.{CaseLabel}
 use Rattle.lra_base.specs.declared.case_labels.CaseLabel.TheVariants.{Case, Default}
-use Rattle.lra_operations.specs.Graph.{select, no_arms, entry, arm}
+use Rattle.lra_operations.specs.Tree.{select, no_arms, entry, arm}
 use Rattle.lra_ways.specs.Ways.{Step, does, goes, comes_to, denies, through, enter, outs, inside}
 use Rattle.lra_sides.specs.Sides.{sides, written}
 
@@ -23,10 +23,10 @@ abbrev is_so : Cond
 is_so = compare below x (literal Long 2)
 
 abbrev drop_all : Op
-drop_all = keep 0
+drop_all = truncate_to 0
 
 abbrev drop_more : Op
-drop_more = keep 1
+drop_more = truncate_to 1
 
 -- ; ; : from the one point to the other
 abbrev two_points : Node

@@ -6,24 +6,24 @@ use Rattle.lra_program.specs.WellFormed.{IsWellFormed}
 use Rattle.lra_program.specs.Step.{State, Config}
 use Rattle.lra_program.specs.Run.{start, Point, IsOn, Reaches, At, Fails, IsFailing}
 use Rattle.lra_program.specs.Sites.{Site, sites_of}
-use Rattle.lra_program.specs.Trails.{Met, passes, Trail, Alone, Walks, Piece}
-use Rattle.lra_operations.specs.Graph.{normal, jump, Node}
-use Rattle.lra_operations.specs.Trails.{by_jump, to_point, to_failure, Outcome, to_end, stopped, Goes}
-use Rattle.lra_operations.specs.Agree.{IsGraph, point_of}
+use Rattle.lra_program.specs.Traces.{TraceEvent, visit, Trace, NoChange, TracedSteps, RunSegment}
+use Rattle.lra_operations.specs.Tree.{normal, jump, Node}
+use Rattle.lra_operations.specs.Traces.{by_jump, to_point, to_failure, RunExtent, to_end, stopped, RunsUpTo}
+use Rattle.lra_operations.specs.Agree.{IsInlinedTree, point_of}
 use Rattle.lra_ways.specs.Ways.{Step, Goal, comes_to, denies, through, enter, outs, inside, RunsOps}
 use Rattle.lra_paths.specs.Paths.{live_at, leading}
 
 -- trees ------------------------------------------------------------------------------------------------------------
 
 -- the operations are those of a way from the tree's start so far, past no point
-abbrev pub IsFirst : Node → Outcome → List Step → Type 0
+abbrev pub IsFirst : Node → RunExtent → List Step → Type 0
 IsFirst g to_end ops = Contains (through g normal) ops
 IsFirst g (stopped (by_jump j)) ops = Contains (through g (jump j)) ops
 IsFirst g (stopped (to_point q)) ops = Contains (enter g) (record { ops = ops; goal = comes_to q })
 IsFirst g (stopped (to_failure q)) ops = Contains (enter g) (record { ops = ops; goal = denies q })
 
 -- those of a way from the point in it so far, past no further point
-abbrev pub IsNext : ℕ → Node → Outcome → List Step → Type 0
+abbrev pub IsNext : ℕ → Node → RunExtent → List Step → Type 0
 IsNext p g to_end ops = Contains (outs g normal) (record { source = p; ops = ops })
 IsNext p g (stopped (by_jump j)) ops = Contains (outs g (jump j)) (record { source = p; ops = ops })
 IsNext p g (stopped (to_point q)) ops =
@@ -32,7 +32,7 @@ IsNext p g (stopped (to_failure q)) ops =
     Contains (inside g) (record { source = p; way = record { ops = ops; goal = denies q } })
 
 -- the operations lead from the one state to the other; an assertion that is false leaves the store as it was
-abbrev pub LeadsSo : Outcome → List Step → State → State → Type 0
+abbrev pub LeadsSo : RunExtent → List Step → State → State → Type 0
 LeadsSo to_end ops s t = RunsOps ops s t
 LeadsSo (stopped (by_jump j)) ops s t = RunsOps ops s t
 LeadsSo (stopped (to_point q)) ops s t = RunsOps ops s t
@@ -40,15 +40,16 @@ LeadsSo (stopped (to_failure q)) ops s t = (u : State) × RunsOps ops s u × (u.
 
 -- the run has met no point, and has gone along a way from the tree's start; or along one from the point that it met
 -- last, to which the tree comes on what was met before
-pub data HasGone {A : Type 0} (name : ℕ → A) (g : Node) (a : Trail A) (u : Outcome) (b : Trail A) : Type 0 where
-  along_first : (ops : List Step) → b.met ≡ a.met → IsFirst g u ops → LeadsSo u ops a.state b.state →
+pub data HasGone {A : Type 0} (name : ℕ → A) (g : Node) (a : Trace A) (u : RunExtent) (b : Trace A) : Type 0 where
+  along_first : (ops : List Step) → b.events ≡ a.events → IsFirst g u ops → LeadsSo u ops a.state b.state →
       HasGone name g a u b
-  along_next : (p : ℕ) (m : State) (before : List (Met A)) (ops : List Step) → b.met ≡ passes (name p) m ∷ before →
-      Goes name Alone g a (stopped (to_point p)) (record { state = m; met = before }) →
+  along_next : (p : ℕ) (m : State) (before : List (TraceEvent A)) (ops : List Step) →
+      b.events ≡ visit (name p) m ∷ before →
+      RunsUpTo name NoChange g a (stopped (to_point p)) (record { state = m; events = before }) →
       IsNext p g u ops → LeadsSo u ops m b.state → HasGone name g a u b
 
 abbrev pub WaysCover : Type 0
-WaysCover = (g : Node) (a : Trail ℕ) (u : Outcome) (b : Trail ℕ) → Goes (λ q. q) Alone g a u b →
+WaysCover = (g : Node) (a : Trace ℕ) (u : RunExtent) (b : Trace ℕ) → RunsUpTo (λ q. q) NoChange g a u b →
     HasGone (λ q. q) g a u b
 
 -- programs: well-formed ones, with the tree that stands for each -----------------------------------------------------
@@ -56,11 +57,11 @@ WaysCover = (g : Node) (a : Trail ℕ) (u : Outcome) (b : Trail ℕ) → Goes (�
 pub record PathsCover (P : Program) (g : Node) : Type 0 where
   -- from the start to the first point
   pub starts : (draws : List ℤ) (n : ℕ) (d : Config) (q : ℕ) (s : Site) →
-      slice_get (sites_of P) q ≡ Some s → Walks Alone P n (start P draws) [] d [] →
+      slice_get (sites_of P) q ≡ Some s → TracedSteps NoChange P n (start P draws) [] d [] →
       IsOn d (point_of s) → SomeLeads (leading P g 0 (comes_to q)) [] d.state.store
   -- from a point to the next one
   pub goes : (c d : Config) (p q : ℕ) (r s : Site) → slice_get (sites_of P) p ≡ Some r →
-      slice_get (sites_of P) q ≡ Some s → Reaches P c → Piece Alone P (point_of r) c d → IsOn d (point_of s) →
+      slice_get (sites_of P) q ≡ Some s → Reaches P c → RunSegment NoChange P (point_of r) c d → IsOn d (point_of s) →
       SomeLeads (leading P g (suc p) (comes_to q)) c.state.store d.state.store
   -- where an assertion is false
   pub denied : (c : Config) (q : ℕ) (s : Site) → slice_get (sites_of P) q ≡ Some s → Reaches P c →
@@ -68,7 +69,7 @@ pub record PathsCover (P : Program) (g : Node) : Type 0 where
       SomeLeads (leading P g (suc q) (denies q)) c.state.store c.state.store
 
 abbrev pub AllPathsCover : Type 0
-AllPathsCover = (P : Program) (g : Node) → IsWellFormed P → IsGraph P g → PathsCover P g
+AllPathsCover = (P : Program) (g : Node) → IsWellFormed P → IsInlinedTree P g → PathsCover P g
 
 -- its point is one of the program's
 abbrev pub IsGoalOf : Program → Goal → Type 0
@@ -92,5 +93,5 @@ pub record HoldInAllRuns (P : Program) (holds : Goal → List ℤ → Type 0) : 
 
 -- as a law of tests; for any relation it is the lemma from which this follows (`kept` of the proofs)
 abbrev pub WhatPathsKeepHolds : Type 0
-WhatPathsKeepHolds = (P : Program) (g : Node) → IsWellFormed P → IsGraph P g → (holds : Goal → List ℤ → Bool) →
+WhatPathsKeepHolds = (P : Program) (g : Node) → IsWellFormed P → IsInlinedTree P g → (holds : Goal → List ℤ → Bool) →
     AreKept P g (λ goal t. IsTrue (holds goal t)) → HoldInAllRuns P (λ goal t. IsTrue (holds goal t))

@@ -2,12 +2,12 @@
 use Rattle.std.specs.Prelude.{◌≡◌, ◌<◌, ℕ, suc, length}
 use Rattle.lra_program.specs.Program.{Program}
 use Rattle.lra_program.specs.Sites.{sites_of}
-use Rattle.lra_operations.specs.Graph.{Node}
-use Rattle.lra_operations.specs.Agree.{IsGraph}
+use Rattle.lra_operations.specs.Tree.{Node}
+use Rattle.lra_operations.specs.Agree.{IsInlinedTree}
 use Rattle.lra_ways.specs.Ways.{denies}
 use Rattle.lra_paths.specs.Paths.{paths_between, denials_of}
 
 -- so those that are counted at their source are all that there are
 abbrev pub DenialsAreOwn : Type 0
-DenialsAreOwn = (P : Program) (g : Node) (q : ℕ) → IsGraph P g → q < length (sites_of P) →
+DenialsAreOwn = (P : Program) (g : Node) (q : ℕ) → IsInlinedTree P g → q < length (sites_of P) →
     denials_of P g q ≡ paths_between P g (suc q) (denies q)

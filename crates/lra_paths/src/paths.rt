@@ -2,8 +2,8 @@
 //! table, out of which its paths are written.
 
 ghost use Rattle.std.specs.Prelude.{◌≡◌, ◌<◌, ℕ, length, map, slice_get, Err, IfOk, OnOk};
-ghost use Rattle.lra_operations.specs.Graph.{Node};
-ghost use Rattle.lra_operations.specs.GraphViews.{node_view, site_view};
+ghost use Rattle.lra_operations.specs.Tree.{Node};
+ghost use Rattle.lra_operations.specs.TreeViews.{node_view, site_view};
 ghost use Rattle.lra_paths.specs.Paths.{AreFewIn, HasTooManyIn, leading_in, live_of};
 ghost use Rattle.lra_paths.specs.Sources as sources;
 ghost use Rattle.lra_paths.specs.Sources.{Adds, IsDeparture, IsSource, all_departing, departing, ending};
@@ -16,7 +16,7 @@ ghost use Rattle.lra_ways.specs.Ways as trees;
 ghost use Rattle.lra_paths.specs.declared.paths.PathsFailure.TheVariants.{TooMany};
 
 use crate::sources::{Source, SourceWay};
-use lra_operations::{Graph, Site};
+use lra_operations::{InlinedProgram, Site};
 use lra_program::GlobalVariable;
 use lra_sides::{Entry, push_first_then, push_globals, push_stay, push_way};
 use lra_ways::{End, Goal, Move, Stretch, ways_of};
@@ -215,7 +215,7 @@ impl Paths<'_> {
 pub fn find_paths<'g>(
     alloc: Global,
     globals: &'g [GlobalVariable],
-    graph: &'g Graph,
+    graph: &'g InlinedProgram,
 ) -> Result<Paths<'g>, PathsFailure>
     ensures few { IfOk result (λ p. AreFewIn globals.now (map site_view graph.now.sites.items)
         (node_view graph.now.tree)) }

@@ -7,10 +7,10 @@ use Rattle.lra_domain.specs.Abstraction.{Abstraction}
 use Rattle.lra_domain.specs.declared.Exactness.{Exactness}
 use Rattle.lra_domain.specs.declared.Exactness.TheVariants.{Exact}
 use Rattle.lra_program.specs.ProgramViews.{cond_view}
-use Rattle.lra_operations.specs.declared.graph.Node as node
-use Rattle.lra_operations.specs.declared.graph.Exit as exit
-use Rattle.lra_operations.specs.Graph.{Node, choose, catch}
-use Rattle.lra_operations.specs.GraphViews.{exit_view, node_view, row}
+use Rattle.lra_operations.specs.declared.tree.Node as node
+use Rattle.lra_operations.specs.declared.tree.Exit as exit
+use Rattle.lra_operations.specs.Tree.{Node, choose, catch}
+use Rattle.lra_operations.specs.TreeViews.{exit_view, node_view, row}
 use Rattle.lra_flow.specs.Room.{most_live}
 use Rattle.lra_flow.specs.Plan.{Plan}
 use Rattle.lra_flow.specs.Operations.{dropping}

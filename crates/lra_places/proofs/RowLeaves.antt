@@ -6,9 +6,9 @@ use Rattle.std.specs.Prelude as outcome_or
 use Rattle.lra_flow.specs.Plan.{Plan}
 use Rattle.lra_interference.specs.Interference.{Interference}
 use Rattle.lra_domain.specs.Abstraction.{Abstraction}
-use Rattle.lra_operations.specs.declared.graph.Node as node
-use Rattle.lra_operations.specs.Graph.{Node}
-use Rattle.lra_operations.specs.GraphViews.{node_view, row}
+use Rattle.lra_operations.specs.declared.tree.Node as node
+use Rattle.lra_operations.specs.Tree.{Node}
+use Rattle.lra_operations.specs.TreeViews.{node_view, row}
 use Rattle.lra_flow.specs.Pass.{Result}
 use Rattle.lra_outcomes.specs.declared.memory.Memory.{Memory}
 use Rattle.lra_outcomes.specs.declared.outcome.Outcome.{Outcome}

@@ -5,7 +5,7 @@ use Rattle.std.proofs.Common.{refl, sym, ap, subst, ◌∙◌, append-nil}
 use Rattle.std.specs.Prelude.{IfOk}
 use Rattle.std.specs.Prelude as outcome_or
 use Rattle.std.specs.List.{Contains, list_any}
-use Rattle.lra_base.specs.CaseLabels.{are_alike}
+use Rattle.lra_base.specs.CaseLabels.{is_same_case}
 use Rattle.lra_base.specs.declared.case_labels.CaseLabel.{CaseLabel}
 use Rattle.lra_base.specs.declared.case_labels.CaseLabel.TheVariants.{Case, Default}
 use Rattle.lra_interference.specs.Interference.{Interference}
@@ -14,11 +14,11 @@ use Rattle.lra_domain.specs.declared.Exactness.{Exactness}
 use Rattle.lra_domain.specs.declared.Exactness.TheVariants.{Exact}
 use Rattle.lra_program.specs.Program.{Expr}
 use Rattle.lra_program.specs.ProgramViews.{expr_view}
-use Rattle.lra_operations.specs.declared.graph.Arm.{Arm}
-use Rattle.lra_operations.specs.declared.graph.Arm.TheVariants.{Entry, Tree}
-use Rattle.lra_operations.specs.declared.graph.Node as node
-use Rattle.lra_operations.specs.Graph.{Exit, broken, continued, returned, Node, Arms, no_arms, entry, arm, select, entries_of}
-use Rattle.lra_operations.specs.GraphViews.{node_view, arm_view, arms_of}
+use Rattle.lra_operations.specs.declared.tree.Arm.{Arm}
+use Rattle.lra_operations.specs.declared.tree.Arm.TheVariants.{Entry, Tree}
+use Rattle.lra_operations.specs.declared.tree.Node as node
+use Rattle.lra_operations.specs.Tree.{Exit, broken, continued, returned, Node, Arms, no_arms, entry, arm, select, entries_of}
+use Rattle.lra_operations.specs.TreeViews.{node_view, arm_view, arms_of}
 use Rattle.lra_operations.proofs.ArmViews.{arms_first, arms_none, entry_first, entry_seen, tree_first, tree_seen}
 use Rattle.lra_flow.specs.Room.{most_live}
 use Rattle.lra_flow.specs.Plan.{Plan}
@@ -230,7 +230,7 @@ module _ {V H : Type 0} (o : Interference V) (m : Abstraction V H) (set : Plan) 
   PassOf arms so_far running t = ArmsPassAmong V H (dropping m) (admitted o m) set q base e d v other arms so_far running t
 
   pub select_begins : (arms : Arms) (x : Exactness) (begun : Running V) → g ≡ select q base e arms → m.dims v ≤ most_live → TreeFits g (m.dims v)
-      → MatchesNone (dropping m) base e (entries_of arms) v x other → m.dims other ≡ m.dims v → d ≡ list_any (are_alike Default) (entries_of arms)
+      → MatchesNone (dropping m) base e (entries_of arms) v x other → m.dims other ≡ m.dims v → d ≡ list_any (is_same_case Default) (entries_of arms)
       → ((u : V) (h : Option ℕ) → ended begun.found u h ≡ goes_on [] u h) → begun.normal ≡ None → begun.flag ≡ noted q x f
       → Loop arms begun.found begun.normal begun.flag old
   select_begins arms x begun is few fits none other_dims named nothing runs flagged = record {
@@ -351,7 +351,8 @@ module _ {V H : Type 0} (o : Interference V) (m : Abstraction V H) (set : Plan) 
       → whole.tree ≡ select s.selection.point s.selection.base (expr_view s.selection.value.now) arms → whole.value ≡ value → whole.flag ≡ flag
       → MayBePassed o m set whole
       → MatchesNone (dropping m) s.selection.base (expr_view s.selection.value.now) (entries_of arms) value x s.other → m.dims s.other ≡ m.dims value
-      → s.has_default ≡ list_any (are_alike Default) (entries_of arms) → ((u : V) (h : Option ℕ) → ended begun.found u h ≡ goes_on [] u h) → begun.normal ≡ None
+      → s.has_default ≡ list_any (is_same_case Default) (entries_of arms) → ((u : V) (h : Option ℕ) → ended begun.found u h ≡ goes_on [] u h) →
+      begun.normal ≡ None
       → begun.flag ≡ noted s.selection.point x flag → SelectsOn o m set s whole arms begun.found begun.normal begun.flag whole.memory
   selection_begins s whole arms value flag x begun is first flagged may none dims named nothing runs noted_is =
       let e = expr_view s.selection.value.now in

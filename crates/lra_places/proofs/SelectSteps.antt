@@ -5,9 +5,9 @@ use Rattle.std.specs.Prelude as outcome_or
 use Rattle.std.proofs.lemmas.List.Sums.{sum_by-cons}
 use Rattle.std.proofs.lemmas.Result.{IfOk-weaker}
 use Rattle.lra_domain.specs.Abstraction.{Abstraction}
-use Rattle.lra_operations.specs.declared.graph.Arm.{Arm}
-use Rattle.lra_operations.specs.declared.graph.Arm.TheVariants.{Tree}
-use Rattle.lra_operations.specs.declared.graph.Node.{Node}
+use Rattle.lra_operations.specs.declared.tree.Arm.{Arm}
+use Rattle.lra_operations.specs.declared.tree.Arm.TheVariants.{Tree}
+use Rattle.lra_operations.specs.declared.tree.Node.{Node}
 use Rattle.lra_flow.specs.Plan.{Plan}
 use Rattle.lra_places.specs.declared.places.Next as next
 use Rattle.lra_places.specs.declared.places.SelectPlace.{SelectPlace}

@@ -9,8 +9,8 @@ use Rattle.lra_domain.specs.Abstraction.{Abstraction, worse}
 use Rattle.lra_domain.specs.Rank.{RankFits}
 use Rattle.lra_program.specs.Program.{Expr, Cond}
 use Rattle.lra_program.specs.ProgramViews.{cond_view, expr_view}
-use Rattle.lra_operations.specs.Graph.{Exit, Node, seq, choose, iterate, catch, Arms, arm}
-use Rattle.lra_operations.specs.GraphViews.{exit_view, node_view, row, arm_view, arms_of}
+use Rattle.lra_operations.specs.Tree.{Exit, Node, seq, choose, iterate, catch, Arms, arm}
+use Rattle.lra_operations.specs.TreeViews.{exit_view, node_view, row, arm_view, arms_of}
 use Rattle.lra_flow.specs.Room.{most_live}
 use Rattle.lra_flow.specs.Plan.{Plan}
 use Rattle.lra_flow.specs.Among.{admitted, DerivedPass}

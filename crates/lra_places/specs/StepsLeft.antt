@@ -3,7 +3,7 @@ use Rattle.std.specs.Prelude.{ℕ, suc, ⊤, ◌<◌, ◌+◌, ◌*◌, List}
 use Rattle.std.specs.List.{sum_by}
 use Rattle.lra_domain.specs.declared.Rank.{Rank}
 use Rattle.lra_domain.specs.Abstraction.{Abstraction}
-use Rattle.lra_operations.specs.declared.graph.Node.{Node}
+use Rattle.lra_operations.specs.declared.tree.Node.{Node}
 use Rattle.lra_flow.specs.Plan.{Plan}
 use Rattle.lra_places.specs.declared.places.Next as next
 use Rattle.lra_places.specs.declared.places.Next.TheVariants.{Passed, Opens, Again}

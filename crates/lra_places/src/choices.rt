@@ -2,11 +2,11 @@
 
 ghost use Rattle.std.specs.Prelude.{◌≡◌, ◌≤◌, ◌<◌, ◌+◌, ℕ, true, false, IfOk};
 ghost use Rattle.lra_domain.specs.declared.Exactness.{Exactness};
-ghost use Rattle.lra_operations.specs.Graph.{choose};
+ghost use Rattle.lra_operations.specs.Tree.{choose};
 ghost use Rattle.lra_flow.specs.Room.{most_live};
 ghost use Rattle.lra_flow.specs.Plan.{Plan};
 ghost use Rattle.lra_program.specs.ProgramViews.{cond_view};
-ghost use Rattle.lra_operations.specs.GraphViews.{node_view};
+ghost use Rattle.lra_operations.specs.TreeViews.{node_view};
 ghost use Rattle.lra_change.specs.Sides.{SplitsBy};
 ghost use Rattle.lra_outcomes.specs.declared.memory.Memory.{Memory};
 ghost use Rattle.lra_places.specs.declared.places.Place.TheVariants.{Choice as choice_place};

@@ -3,8 +3,8 @@
 ghost use Rattle.std.specs.Prelude.{◌≡◌, ◌<◌, ◌≤◌, ◌∷◌, [], ℕ, List, map, IfOk};
 ghost use Rattle.lra_flow.specs.Room.{most_live};
 ghost use Rattle.lra_flow.specs.Plan.{Plan};
-ghost use Rattle.lra_operations.specs.declared.graph.Node.{Node};
-ghost use Rattle.lra_operations.specs.GraphViews.{node_view, row};
+ghost use Rattle.lra_operations.specs.declared.tree.Node.{Node};
+ghost use Rattle.lra_operations.specs.TreeViews.{node_view, row};
 ghost use Rattle.lra_outcomes.specs.declared.memory.Memory.{Memory};
 ghost use Rattle.lra_places.specs.declared.places.Place.TheVariants.{Row as row_place};
 ghost use Rattle.lra_outcomes.specs.Fits.{TreeFits};

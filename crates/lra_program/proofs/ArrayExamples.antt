@@ -6,12 +6,12 @@ use Rattle.lra_base.specs.Operators.{plus, minus, below, above, equal}
 use Rattle.lra_program.specs.declared.arrays.Array.{Array}
 use Rattle.lra_program.specs.Program.{global, local, Variable, Expr, literal, read, input, binary, negate, element, Element, compare, nonzero, opposite}
 use Rattle.lra_program.specs.Program.{both_of, either_of, value, result, absent, block, assign, write, loop, return, assert, switch, no_cases, no_more, declaration, array, statement, Program}
-use Rattle.lra_program.specs.Value.{Scene, value_of}
+use Rattle.lra_program.specs.Value.{Environment, value_of}
 use Rattle.lra_program.specs.Receivers.{nobody}
-use Rattle.lra_program.specs.Step.{State, scene_at, Op, fill, give, give_element, push, push_for, test, run_op, Here, declare, run}
+use Rattle.lra_program.specs.Step.{State, environment_at, Op, fill, store_value, store_element, push, push_for, test, run_op, CallContext, declare, run}
 use Rattle.lra_program.specs.Run.{Point}
 use Rattle.lra_program.specs.Overflow.{op_computes}
-use Rattle.lra_program.specs.Accesses.{expr_accesses, op_accesses, ExprStrays, CondStrays, OpStrays, IsStraying, Strays}
+use Rattle.lra_program.specs.Accesses.{expr_accesses, op_accesses, ExprOutOfBounds, CondOutOfBounds, OpOutOfBounds, IsOutOfBounds, AccessesOutOfBounds}
 use Rattle.lra_program.proofs.RunExamples.{visited, main_alone, long_variable}
 
 abbrev at : ℕ → Place
@@ -32,7 +32,7 @@ a_at e = element a (at 30) e
 
 -- values: a has 7, 8, 9, and a later array has 5 -----------------------------------------------------------------------
 
-abbrev scene : Scene
+abbrev scene : Environment
 scene = record { base = 0; store = []; arrays = (at 9, pos 5 ∷ []) ∷ (at 6, pos 7 ∷ pos 8 ∷ pos 9 ∷ []) ∷ [] }
 
 -- catches the elements of another array
@@ -71,22 +71,23 @@ long_draw : run_op (fill pair_of_ints) (drawing (pos 1 ∷ pos 2147483648 ∷ []
 long_draw = refl
 
 -- x[input()] = input(): the index's draw is the first, and no index waits behind it
-index_first : run_op (give_element 0 (at_index pair_of_ints input) input) (record (drawing (pos 1 ∷ pos 4 ∷ [])) { arrays = (at 6, pos 0 ∷ pos 0 ∷ []) ∷ [] }) ≡
+index_first : run_op (store_element 0 (at_index pair_of_ints input) input)
+    (record (drawing (pos 1 ∷ pos 4 ∷ [])) { arrays = (at 6, pos 0 ∷ pos 0 ∷ []) ∷ [] }) ≡
     Some (record (drawing []) { arrays = (at 6, pos 0 ∷ pos 4 ∷ []) ∷ (at 6, pos 0 ∷ pos 0 ∷ []) ∷ [] })
 index_first = refl
 
 -- a `long` that an `int` element doesn't have ends the run
-long_written : run_op (give_element 0 (at_index pair_of_ints (number 0)) (literal Long 2147483648)) (record (drawing []) { arrays = (at 6, pos 0 ∷ pos 0 ∷ []) ∷ [] }) ≡ None
+long_written : run_op (store_element 0 (at_index pair_of_ints (number 0)) (literal Long 2147483648)) (record (drawing []) { arrays = (at 6, pos 0 ∷ pos 0 ∷ []) ∷ [] }) ≡ None
 long_written = refl
 
 -- what computes: a read doesn't, but its index may; a `long` for an `int` element is converted
-read_alone : op_computes (give 0 nobody (a_at (number 1))) ≡ false
+read_alone : op_computes (store_value 0 nobody (a_at (number 1))) ≡ false
 read_alone = refl
 
-index_computes : op_computes (give 0 nobody (a_at (binary plus (number 1) (number 1)))) ≡ true
+index_computes : op_computes (store_value 0 nobody (a_at (binary plus (number 1) (number 1)))) ≡ true
 index_computes = refl
 
-conversion_alone : op_computes (give_element 0 (at_index pair_of_ints (number 0)) (literal Long 1)) ≡ true
+conversion_alone : op_computes (store_element 0 (at_index pair_of_ints (number 0)) (literal Long 1)) ≡ true
 conversion_alone = refl
 
 -- runs -----------------------------------------------------------------------------------------------------------------
@@ -157,7 +158,7 @@ abbrev second_point : Point
 second_point = record { path = []; label = 2 }
 
 -- the element that gets a value is the first access
-first_strays : Strays outside second_point 0
+first_strays : AccessesOutOfBounds outside second_point 0
 first_strays = (
   _,
   record { draws = pos 7 ∷ []; words = (refl, tt); length = 3; steps = (_, refl, (_, refl, (_, refl, refl))) },
@@ -166,7 +167,7 @@ first_strays = (
 )
 
 -- b[0]=b[1]: what it gets is the second; catches an order from right to left
-second_strays : OpStrays (give_element 0 (at_index single (number 0)) (element single (at 53) (number 1))) (record (drawing []) { arrays = (at 44, pos 7 ∷ []) ∷ [] }) 1
+second_strays : OpOutOfBounds (store_element 0 (at_index single (number 0)) (element single (at 53) (number 1))) (record (drawing []) { arrays = (at 44, pos 7 ∷ []) ∷ [] }) 1
 second_strays = inr (0, refl, _, refl, inr ((pos 1, []), refl, refl, refl))
 
 -- b[b[0]]: the inner access is the first
@@ -175,7 +176,7 @@ inner_first : expr_accesses (element single (at 30) (element single (at 32) (num
 inner_first = refl
 
 -- of `b[0]=b[1];` the element that gets the value is the first access; catches a target that is listed last
-target_first : op_accesses (give_element 0 (at_index single (number 0)) (element single (at 53) (number 1)))
+target_first : op_accesses (store_element 0 (at_index single (number 0)) (element single (at 53) (number 1)))
     ≡ at_index single (number 0) ∷ record { array = single; place = at 53; index = number 1 } ∷ []
 target_first = refl
 
@@ -190,29 +191,30 @@ argued = push_for 0 (at_index pair (number 0)) (record { number_type = Long; val
 abbrev holding : List ℤ → State
 holding xs = record (drawing []) { arrays = (at 44, xs) ∷ [] }
 
-argument_strays : OpStrays argued (holding (pos 5 ∷ pos 6 ∷ [])) 2
+argument_strays : OpOutOfBounds argued (holding (pos 5 ∷ pos 6 ∷ [])) 2
 argument_strays = inr (1, refl, _, refl, inr (0, refl, (pos 6, []), refl, pos 6, refl, inl (inr ((pos 2, []), refl, refl, refl))))
 
 -- of `b[0]>0 && b[1]>0` the right side is computed where the left one holds, of `||` where it doesn't; both ways of a
 -- condition ask it
-right_of_both : OpStrays (test 0 (both_of (compare above (element single (at 53) (number 0)) (number 0)) (compare above (element single (at 61) (number 1)) (number 0))) true) (holding (pos 7 ∷ [])) 1
+right_of_both : OpOutOfBounds (test 0 (both_of (compare above (element single (at 53) (number 0)) (number 0)) (compare above (element single (at 61) (number 1)) (number 0))) true)
+    (holding (pos 7 ∷ [])) 1
 right_of_both = inr (0, refl, [], refl, inl (inr ((pos 1, []), refl, refl, refl)))
 
-right_of_either : OpStrays (test 0 (either_of (compare above (element single (at 53) (number 0)) (number 0)) (compare above (element single (at 61) (number 1)) (number 0))) false) (holding (pos 0 ∷ [])) 1
+right_of_either : OpOutOfBounds (test 0 (either_of (compare above (element single (at 53) (number 0)) (number 0)) (compare above (element single (at 61) (number 1)) (number 0))) false) (holding (pos 0 ∷ [])) 1
 right_of_either = inr (0, refl, [], refl, inl (inr ((pos 1, []), refl, refl, refl)))
 
 -- `long s=b[1];` and `switch (b[1]) {}`; catches accesses of a declarator's value, or of a value that is looked for, that are not told
-abbrev here : Here
+abbrev here : CallContext
 here = record { path = []; base = 0 }
 
-declared_strays : IsStraying outside 0 (declare (record { label = 2; number_type = Long; rvalue = Some (value (element single (at 53) (number 1))) }) ∷ []) here (record (holding (pos 7 ∷ [])) { draws = pos 1 ∷ [] })
+declared_strays : IsOutOfBounds outside 0 (declare (record { label = 2; number_type = Long; rvalue = Some (value (element single (at 53) (number 1))) }) ∷ []) here (record (holding (pos 7 ∷ [])) { draws = pos 1 ∷ [] })
 declared_strays = (_, refl, inr ((pos 1, []), refl, refl, refl))
 
-selected_strays : IsStraying outside 0 (run (switch 2 (element single (at 53) (number 1)) no_cases) ∷ []) here (holding (pos 7 ∷ []))
+selected_strays : IsOutOfBounds outside 0 (run (switch 2 (element single (at 53) (number 1)) no_cases) ∷ []) here (holding (pos 7 ∷ []))
 selected_strays = inr ((pos 1, []), refl, refl, refl)
 
 -- `return b[1];` of `main`
-returned_strays : IsStraying outside 0 (run (return 2 (Some (value (element single (at 53) (number 1))))) ∷ []) here (holding (pos 7 ∷ []))
+returned_strays : IsOutOfBounds outside 0 (run (return 2 (Some (value (element single (at 53) (number 1))))) ∷ []) here (holding (pos 7 ∷ []))
 returned_strays = inr ((pos 1, []), refl, refl, refl)
 
 -- `b[1]` within a sign, on either side of an operator, in an index, on the right of a comparison, as a condition, within `!`, on the left of
@@ -220,22 +222,22 @@ returned_strays = inr ((pos 1, []), refl, refl, refl)
 abbrev outside_one : Expr
 outside_one = element single (at 53) (number 1)
 
-abbrev there : Scene
-there = scene_at 0 (holding (pos 7 ∷ []))
+abbrev there : Environment
+there = environment_at 0 (holding (pos 7 ∷ []))
 
-alone : ExprStrays outside_one there [] 0
+alone : ExprOutOfBounds outside_one there [] 0
 alone = inr ((pos 1, []), refl, refl, refl)
 
-within_others : ExprStrays (negate outside_one) there [] 0
-    × ExprStrays (binary plus outside_one (number 1)) there [] 0
-    × ExprStrays (binary plus (number 1) outside_one) there [] 0
-    × ExprStrays (element single (at 40) outside_one) there [] 0
-    × CondStrays (compare above (number 0) outside_one) there [] 0
-    × CondStrays (nonzero outside_one) there [] 0
-    × CondStrays (opposite (nonzero outside_one)) there [] 0
-    × CondStrays (both_of (nonzero outside_one) (nonzero (number 1))) there [] 0
-    × CondStrays (either_of (nonzero outside_one) (nonzero (number 1))) there [] 0
-    × OpStrays (push 0 (record { number_type = Long; value = outside_one } ∷ [])) (holding (pos 7 ∷ [])) 0
+within_others : ExprOutOfBounds (negate outside_one) there [] 0
+    × ExprOutOfBounds (binary plus outside_one (number 1)) there [] 0
+    × ExprOutOfBounds (binary plus (number 1) outside_one) there [] 0
+    × ExprOutOfBounds (element single (at 40) outside_one) there [] 0
+    × CondOutOfBounds (compare above (number 0) outside_one) there [] 0
+    × CondOutOfBounds (nonzero outside_one) there [] 0
+    × CondOutOfBounds (opposite (nonzero outside_one)) there [] 0
+    × CondOutOfBounds (both_of (nonzero outside_one) (nonzero (number 1))) there [] 0
+    × CondOutOfBounds (either_of (nonzero outside_one) (nonzero (number 1))) there [] 0
+    × OpOutOfBounds (push 0 (record { number_type = Long; value = outside_one } ∷ [])) (holding (pos 7 ∷ [])) 0
 within_others = (
   alone,
   inl alone,

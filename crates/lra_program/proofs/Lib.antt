@@ -1,10 +1,10 @@
 -- Worked examples: each definition of specs/ on programs and values whose answers are known.
 mod ValueExamples
 pub mod RunExamples
-pub mod TrailLaws
+pub mod TraceLaws
 pub mod SwitchExamples
 mod ArrayExamples
-mod TrailExamples
+mod TraceExamples
 mod WellFormedExamples
 mod ProgramViewExamples
 mod TypeExamples
@@ -12,4 +12,4 @@ pub mod GivenArguments
 pub mod TypeLaws
 pub mod StepLaws
 pub mod AccessLaws
-pub mod AskLaws
+pub mod NextOperationLaws

@@ -5,7 +5,7 @@ use Rattle.lra_base.specs.declared.number_types.NumberType.TheVariants.{Int, Lon
 use Rattle.lra_program.specs.Program.{Slot, global, local, Variable, Expr, literal, read, input, negate, binary, compare, nonzero, value, result, Declarator, Stmt, absent, nothing, block, assign, call, if, loop, for}
 use Rattle.lra_program.specs.Program.{break, continue, return, assert, assume, BlockItems, no_more, declaration, statement, Function, Program}
 use Rattle.lra_base.specs.Operators.{plus, minus, over, times, below, at_least, equal, differs}
-use Rattle.lra_program.specs.Step.{Config, Item, run, all, end_of, turn, Here, next}
+use Rattle.lra_program.specs.Step.{Config, Item, run, all, end_of, next_round, CallContext, next}
 use Rattle.lra_program.specs.Run.{start, label_on, Fails}
 
 -- call path, label and store of the points on the way
@@ -238,25 +238,25 @@ assumed_run : (visited assumed (pos 9 ∷ pos 0 ∷ []) ≡ ([], 1, []) ∷ ([],
     (visited assumed (pos 9 ∷ pos 4 ∷ []) ≡ ([], 1, []) ∷ ([], 2, pos 4 ∷ []) ∷ ([], 3, pos 4 ∷ []) ∷ ([], 4, pos 1 ∷ []) ∷ [])
 assumed_run = (refl, refl)
 
-abbrev with_items : List Item → Here → List ℤ → List ℤ → Config
+abbrev with_items : List Item → CallContext → List ℤ → List ℤ → Config
 with_items items here store draws = record { items = items; here = here; state = record { store = store; arrays = []; waiting = []; draws = draws } }
 
 -- `continue` in a block of a loop's body: the round's end is on top, whose next items are the step and the loop; the block's variable is gone
-behind_continue : (P : Program) (step again : Stmt) (rest : BlockItems) (k : List Item) (h : Here) (x y : ℤ) (draws : List ℤ)
-    → next P (with_items (run (continue 7) ∷ all rest ∷ end_of 9 1 ∷ turn step again 1 ∷ k) h (x ∷ y ∷ []) draws) ≡ Some (with_items (turn step again 1 ∷ k) h (x ∷ []) draws)
+behind_continue : (P : Program) (step again : Stmt) (rest : BlockItems) (k : List Item) (h : CallContext) (x y : ℤ) (draws : List ℤ)
+    → next P (with_items (run (continue 7) ∷ all rest ∷ end_of 9 1 ∷ next_round step again 1 ∷ k) h (x ∷ y ∷ []) draws) ≡ Some (with_items (next_round step again 1 ∷ k) h (x ∷ []) draws)
 behind_continue P step again rest k h x y draws = refl
 
-behind_turn : (P : Program) (step again : Stmt) (k : List Item) (h : Here) (store draws : List ℤ)
-    → next P (with_items (turn step again 1 ∷ k) h store draws) ≡ Some (with_items (run step ∷ run again ∷ k) h store draws)
+behind_turn : (P : Program) (step again : Stmt) (k : List Item) (h : CallContext) (store draws : List ℤ)
+    → next P (with_items (next_round step again 1 ∷ k) h store draws) ≡ Some (with_items (run step ∷ run again ∷ k) h store draws)
 behind_turn P step again k h store draws = refl
 
 -- `break` there: neither the step nor the loop is left
-behind_break : (P : Program) (step again : Stmt) (rest : BlockItems) (k : List Item) (h : Here) (x y : ℤ) (draws : List ℤ)
-    → next P (with_items (run (break 8) ∷ all rest ∷ end_of 9 1 ∷ turn step again 1 ∷ k) h (x ∷ y ∷ []) draws) ≡ Some (with_items k h (x ∷ []) draws)
+behind_break : (P : Program) (step again : Stmt) (rest : BlockItems) (k : List Item) (h : CallContext) (x y : ℤ) (draws : List ℤ)
+    → next P (with_items (run (break 8) ∷ all rest ∷ end_of 9 1 ∷ next_round step again 1 ∷ k) h (x ∷ y ∷ []) draws) ≡ Some (with_items k h (x ∷ []) draws)
 behind_break P step again rest k h x y draws = refl
 
 -- `continue` in a loop that stands in another loop's body: the inner round's end is on top, and the outer step waits
-inner_continue : (P : Program) (step again inner : Stmt) (k : List Item) (h : Here) (x : ℤ) (draws : List ℤ)
-    → next P (with_items (run (continue 7) ∷ turn absent inner 1 ∷ end_of 9 1 ∷ turn step again 1 ∷ k) h (x ∷ []) draws)
-    ≡ Some (with_items (turn absent inner 1 ∷ end_of 9 1 ∷ turn step again 1 ∷ k) h (x ∷ []) draws)
+inner_continue : (P : Program) (step again inner : Stmt) (k : List Item) (h : CallContext) (x : ℤ) (draws : List ℤ)
+    → next P (with_items (run (continue 7) ∷ next_round absent inner 1 ∷ end_of 9 1 ∷ next_round step again 1 ∷ k) h (x ∷ []) draws)
+    ≡ Some (with_items (next_round absent inner 1 ∷ end_of 9 1 ∷ next_round step again 1 ∷ k) h (x ∷ []) draws)
 inner_continue P step again inner k h x draws = refl

@@ -5,7 +5,7 @@ use Rattle.lra_base.specs.declared.refusals.Place.{Place}
 use Rattle.lra_program.specs.Arrays.{place_among}
 use Rattle.lra_program.specs.Program.{Element}
 use Rattle.lra_program.specs.Value.{◌>>=◌, value_of}
-use Rattle.lra_program.specs.Step.{State, scene_at, aim, kept_if, put_waiting}
+use Rattle.lra_program.specs.Step.{State, environment_at, aim, kept_if, put_waiting}
 use Rattle.lra_program.proofs.TypeLaws.{bind_some}
 
 pub is_kept : (b d : Bool) (s t : State) → kept_if b d s ≡ Some t → t ≡ s
@@ -21,6 +21,6 @@ store_waiting p z (k ∷ ks) s = refl
 pub aim_keeps : (base : ℕ) (x : Element) (s t : State) → aim base x s ≡ Some t → t.store ≡ s.store
 aim_keeps base x s t is =
     let waits : ℤ × List ℤ → ℕ → State = λ r k. record s { waiting = k ∷ s.waiting; draws = r.1 } in
-    let (r, got, on) = bind_some (value_of x.index (scene_at base s) s.draws) (λ r. place_among x.array.length r.0 >>= λ k. Some (waits r k)) t is in
+    let (r, got, on) = bind_some (value_of x.index (environment_at base s) s.draws) (λ r. place_among x.array.length r.0 >>= λ k. Some (waits r k)) t is in
     let (k, there, to) = bind_some (place_among x.array.length r.0) (λ k. Some (waits r k)) t on in
     sym (ap (λ (u : State). u.store) (same_Some (waits r k) t to))

@@ -7,7 +7,7 @@ use Rattle.lra_base.specs.Operators.{plus, over, modulo, below}
 use Rattle.lra_program.specs.Program.{local, Expr, literal, read, input, binary, compare, value, Declarator, Stmt, nothing, block, assign}
 use Rattle.lra_program.specs.Program.{for, break, continue, switch}
 use Rattle.lra_program.specs.Program.{Cases, no_cases, labelled, stated, no_more, declaration, statement, Program}
-use Rattle.lra_program.specs.Step.{chosen, Item, cases, end_switch, turn, to_outside, to_turn}
+use Rattle.lra_program.specs.Step.{chosen, Item, cases, end_switch, next_round, break_target, continue_target}
 use Rattle.lra_program.specs.WellFormed.{no_jumps, in_loop, IsGoodStmt, AreInTextOrder}
 use Rattle.lra_program.proofs.RunExamples.{visited, main_alone, long_variable, one_variable}
 
@@ -120,12 +120,12 @@ first_of_two = refl
 
 -- where jumps go: `break` in a `switch` in a `switch` leaves the inner one, `continue` neither
 break_goes : (inner outer : Cases) (step again : Stmt) (k : List Item)
-    → to_outside (cases inner ∷ end_switch 2 ∷ cases outer ∷ end_switch 1 ∷ turn step again 1 ∷ k) ≡
-    Some (record { length = 2; rest = cases outer ∷ end_switch 1 ∷ turn step again 1 ∷ k })
+    → break_target (cases inner ∷ end_switch 2 ∷ cases outer ∷ end_switch 1 ∷ next_round step again 1 ∷ k) ≡
+    Some (record { length = 2; rest = cases outer ∷ end_switch 1 ∷ next_round step again 1 ∷ k })
 break_goes inner outer step again k = refl
 
 continue_goes : (inner outer : Cases) (step again : Stmt) (k : List Item)
-    → to_turn (cases inner ∷ end_switch 2 ∷ cases outer ∷ end_switch 1 ∷ turn step again 1 ∷ k) ≡
+    → continue_target (cases inner ∷ end_switch 2 ∷ cases outer ∷ end_switch 1 ∷ next_round step again 1 ∷ k) ≡
     Some (record { step = step; again = again; length = 1; rest = k })
 continue_goes inner outer step again k = refl
 

@@ -2,19 +2,19 @@
 use Rattle.std.proofs.Common.{◌≡◌, pos, negsuc, [], ◌∷◌, Some, None, Bool, true, false, refl, inl, inr, ap}
 use Rattle.lra_base.specs.declared.number_types.NumberType.TheVariants.{Int, Long}
 use Rattle.lra_base.specs.Operators.{plus, times, over, modulo, above, below}
-use Rattle.lra_program.specs.declared.receivers.Way.TheVariants.{Short, Shortened}
+use Rattle.lra_program.specs.declared.receivers.ConversionChain.TheVariants.{Short, Shortened}
 use Rattle.lra_program.specs.Program.{local, Expr, literal, read, input, negate, binary}
 use Rattle.lra_program.specs.Program.{compare, both_of, either_of}
-use Rattle.lra_program.specs.Value.{Scene, Drawn, value_of, values_of}
-use Rattle.lra_program.specs.Receivers.{converts_to, variable_at, nobody, behind_result}
-use Rattle.lra_program.specs.Step.{append, give, give_any, run_op, arguments_for}
+use Rattle.lra_program.specs.Value.{Environment, Drawn, value_of, values_of}
+use Rattle.lra_program.specs.Receivers.{converts_to, variable_at, nobody, result_receiver}
+use Rattle.lra_program.specs.Step.{append, store_value, havoc, run_op, arguments_for}
 use Rattle.lra_program.specs.Overflow.{op_computes, CondOverflows}
 
-abbrev nowhere : Scene
+abbrev nowhere : Environment
 nowhere = record { base = 0; store = []; arrays = [] }
 
 -- an `int` x that is the greatest one, and a `long` y that is 7
-abbrev scene : Scene
+abbrev scene : Environment
 scene = record { base = 0; store = pos 2147483647 ∷ pos 7 ∷ []; arrays = [] }
 
 abbrev x : Expr
@@ -48,7 +48,7 @@ sign_of_a_long : value_of (negate (literal Long 2147483648)) nowhere [] ≡ Some
 sign_of_a_long = refl
 
 -- the least `int`, its sign, its quotient and its remainder by -1; catches the limits of 64 bits
-least_scene : Scene
+least_scene : Environment
 least_scene = record { base = 0; store = negsuc 2147483647 ∷ []; arrays = [] }
 
 sign_overflows : value_of (negate x) least_scene [] ≡ None
@@ -68,13 +68,13 @@ typed_read : value_of x (record { base = 0; store = pos 2147483648 ∷ []; array
 typed_read = refl
 
 -- ways: int half(long x), called for a `long`, for an `int`, for nobody; long f(int a), called for an `int`
-for_a_long : (behind_result (Some Int) (variable_at 0 Long)).way ≡ Short
+for_a_long : (result_receiver (Some Int) (variable_at 0 Long)).conversions ≡ Short
 for_a_long = refl
 
-for_an_int : (behind_result (Some Long) (variable_at 0 Int)).way ≡ Shortened
+for_an_int : (result_receiver (Some Long) (variable_at 0 Int)).conversions ≡ Shortened
 for_an_int = refl
 
-for_nobody : converts_to Long (behind_result (Some Int) nobody) ≡ true
+for_nobody : converts_to Long (result_receiver (Some Int) nobody) ≡ true
 for_nobody = refl
 
 -- a `void` function, `x = 1` of an `int` x: no conversion
@@ -85,11 +85,11 @@ no_conversion = refl
 short_draw : run_op (append Int) (record { store = []; arrays = []; waiting = []; draws = pos 2147483648 ∷ [] }) ≡ None
 short_draw = refl
 
-result_draw : run_op (give_any (behind_result (Some Int) (variable_at 0 Long)))
+result_draw : run_op (havoc (result_receiver (Some Int) (variable_at 0 Long)))
     (record { store = pos 0 ∷ []; arrays = []; waiting = []; draws = pos 2147483648 ∷ [] }) ≡ None
 result_draw = refl
 
-no_draw : run_op (give_any (behind_result (Some Int) nobody)) (record { store = []; arrays = []; waiting = []; draws = [] }) ≡
+no_draw : run_op (havoc (result_receiver (Some Int) nobody)) (record { store = []; arrays = []; waiting = []; draws = [] }) ≡
     Some (record { store = []; arrays = []; waiting = []; draws = [] })
 no_draw = refl
 
@@ -98,10 +98,10 @@ arguments_stop : values_of (arguments_for (Int ∷ Long ∷ []) (input ∷ input
 arguments_stop = refl
 
 -- what computes: a literal or a variable alone doesn't; a conversion does; a sign does
-variable_alone : op_computes (give 0 (variable_at 1 Long) x) ≡ false
+variable_alone : op_computes (store_value 0 (variable_at 1 Long) x) ≡ false
 variable_alone = refl
 
-conversion_alone : op_computes (give 0 (variable_at 0 Int) y) ≡ true
+conversion_alone : op_computes (store_value 0 (variable_at 0 Int) y) ≡ true
 conversion_alone = refl
 
 abbrev truth_or : Drawn Bool → Bool

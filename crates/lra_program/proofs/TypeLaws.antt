@@ -8,13 +8,13 @@ use Rattle.lra_base.proofs.TypeLimits.{int_is_long}
 use Rattle.lra_base.specs.Operators.{Operator, plus, minus, times, over, modulo}
 use Rattle.lra_program.specs.Program.{Expr, literal, read, input, negate, binary, element, type_of, Cond, compare, nonzero, opposite, both_of, either_of}
 use Rattle.lra_program.specs.Arrays.{elements_of, place_among}
-use Rattle.lra_program.specs.Value.{◌>>=◌, number, is_zero, apply, index_of, Scene, draw, value_of, ValuesHaveTypes, Argument}
-use Rattle.lra_program.specs.declared.receivers.Way.{Way}
-use Rattle.lra_program.specs.declared.receivers.Way.TheVariants.{Wide, Short, Shortened}
+use Rattle.lra_program.specs.Value.{◌>>=◌, number, is_zero, apply, index_of, Environment, first_draw, value_of, ValuesHaveTypes, Argument}
+use Rattle.lra_program.specs.declared.receivers.ConversionChain.{ConversionChain}
+use Rattle.lra_program.specs.declared.receivers.ConversionChain.TheVariants.{Wide, Short, Shortened}
 use Rattle.lra_program.specs.declared.receivers.Target.{Target}
 use Rattle.lra_program.specs.declared.receivers.Receiver.{Receiver}
 use Rattle.lra_program.specs.Receivers.{waiting_in, lets_through, converts, parameter_of, is_shorter, shortens, converts_to, target_accepts, accepts}
-use Rattle.lra_program.specs.Step.{scene_at, append, fill, give, give_element, give_any, push, push_for, keep, test}
+use Rattle.lra_program.specs.Step.{environment_at, append, fill, store_value, store_element, havoc, push, push_for, truncate_to, test}
 use Rattle.lra_program.specs.Overflow.{ExprOverflows, EitherOverflows, CondOverflows, GivenOverflows, ArgumentsOverflow}
 use Rattle.lra_program.specs.Overflow.{expr_computes, cond_computes, given_computes, arguments_compute, OverflowingCompute}
 
@@ -49,13 +49,13 @@ apply_fits t times x y z e = number_fits t _ z e
 apply_fits t over x y z e = quotient_fits t int_div x y z (is_zero y) e
 apply_fits t modulo x y z e = quotient_fits t int_rem x y z (is_zero y) e
 
-drawn_fits : (draws : List ℤ) (r : ℤ × List ℤ) → draw draws ≡ Some r → fits Long r.0 ≡ true
+drawn_fits : (draws : List ℤ) (r : ℤ × List ℤ) → first_draw draws ≡ Some r → fits Long r.0 ≡ true
 drawn_fits [] r e = cc
 drawn_fits (d ∷ ds) r e =
     let (z, got, to) = bind_some (number Long d) (λ z. Some (z, ds)) r e in
     subst (λ (x : ℤ). fits Long x ≡ true) (first_of_pair z ds r to) (number_fits Long d z got)
 
-pub value_has_its_type : (e : Expr) (s : Scene) (draws : List ℤ) (r : ℤ × List ℤ) → value_of e s draws ≡ Some r → fits (type_of e) r.0 ≡ true
+pub value_has_its_type : (e : Expr) (s : Environment) (draws : List ℤ) (r : ℤ × List ℤ) → value_of e s draws ≡ Some r → fits (type_of e) r.0 ≡ true
 value_has_its_type (literal t n) s draws r is =
     let (z, got, to) = bind_some (number t (pos n)) (λ z. Some (z, draws)) r is in
     subst (λ (x : ℤ). fits t x ≡ true) (first_of_pair z draws r to) (number_fits t (pos n) z got)
@@ -104,7 +104,7 @@ not_both : (b : Bool) → b ≡ true → b ≡ false → ⊥
 not_both true e f = cc
 not_both false e f = cc
 
-way_converts : (t : NumberType) (w : Way) (z : ℤ) → fits t z ≡ true → lets_through w z ≡ false → converts t w ≡ true
+way_converts : (t : NumberType) (w : ConversionChain) (z : ℤ) → fits t z ≡ true → lets_through w z ≡ false → converts t w ≡ true
 way_converts t Wide z f e = cc
 way_converts Int Short z f e = absurd (not_both (fits Int z) f e)
 way_converts Long Short z f e = refl
@@ -123,9 +123,9 @@ target_shortens t (Some g) z f e = type_is_shorter t g.number_type z f e
 
 -- a value that isn't accepted is converted from 64 bits to 32
 pub refused_converts : (t : NumberType) (x : Receiver) (z : ℤ) → fits t z ≡ true → accepts x z ≡ false → converts_to t x ≡ true
-refused_converts t x z f e = elim (and_is_false (lets_through x.way z) (target_accepts x.target z) e) as (λ _. converts_to t x ≡ true) [
-  | inl way ↦ or_left (converts t x.way) (shortens t x.target) (way_converts t x.way z f way)
-  | inr target ↦ or_right (converts t x.way) (shortens t x.target) (target_shortens t x.target z f target)
+refused_converts t x z f e = elim (and_is_false (lets_through x.conversions z) (target_accepts x.target z) e) as (λ _. converts_to t x ≡ true) [
+  | inl way ↦ or_left (converts t x.conversions) (shortens t x.target) (way_converts t x.conversions z f way)
+  | inr target ↦ or_right (converts t x.conversions) (shortens t x.target) (target_shortens t x.target z f target)
 ]
 
 number_is_none : (t : NumberType) (z : ℤ) → number t z ≡ None → fits t z ≡ false
@@ -141,7 +141,7 @@ parameter_converts Int Long z f e = refl
 parameter_converts Long Int z f e = absurd (not_both (fits Long z) (int_is_long z f) e)
 parameter_converts Long Long z f e = absurd (not_both (fits Long z) f e)
 
-expr_computing : (e : Expr) (s : Scene) (draws : List ℤ) → ExprOverflows e s draws → expr_computes e ≡ true
+expr_computing : (e : Expr) (s : Environment) (draws : List ℤ) → ExprOverflows e s draws → expr_computes e ≡ true
 expr_computing (literal t n) s draws h = absurd h
 expr_computing (read v) s draws h = absurd h
 expr_computing input s draws h = absurd h
@@ -149,11 +149,11 @@ expr_computing (negate e) s draws h = refl
 expr_computing (binary op a b) s draws h = refl
 expr_computing (element a at e) s draws h = expr_computing e s draws h
 
-either_computing : (a b : Expr) (s : Scene) (draws : List ℤ) → EitherOverflows a b s draws → (expr_computes a || expr_computes b) ≡ true
+either_computing : (a b : Expr) (s : Environment) (draws : List ℤ) → EitherOverflows a b s draws → (expr_computes a || expr_computes b) ≡ true
 either_computing a b s draws (inl h) = or_left (expr_computes a) (expr_computes b) (expr_computing a s draws h)
 either_computing a b s draws (inr (r, is, h)) = or_right (expr_computes a) (expr_computes b) (expr_computing b s r.1 h)
 
-cond_computing : (c : Cond) (s : Scene) (draws : List ℤ) → CondOverflows c s draws → cond_computes c ≡ true
+cond_computing : (c : Cond) (s : Environment) (draws : List ℤ) → CondOverflows c s draws → cond_computes c ≡ true
 cond_computing (compare op a b) s draws h = either_computing a b s draws h
 cond_computing (nonzero e) s draws h = expr_computing e s draws h
 cond_computing (opposite c) s draws h = cond_computing c s draws h
@@ -162,12 +162,12 @@ cond_computing (both_of c d) s draws (inr (left, is, h)) = or_right (cond_comput
 cond_computing (either_of c d) s draws (inl h) = or_left (cond_computes c) (cond_computes d) (cond_computing c s draws h)
 cond_computing (either_of c d) s draws (inr (left, is, h)) = or_right (cond_computes c) (cond_computes d) (cond_computing d s left h)
 
-given_computing : (x : Receiver) (e : Expr) (s : Scene) (draws : List ℤ) → GivenOverflows x e s draws → given_computes x e ≡ true
+given_computing : (x : Receiver) (e : Expr) (s : Environment) (draws : List ℤ) → GivenOverflows x e s draws → given_computes x e ≡ true
 given_computing x e s draws (inl h) = or_left (expr_computes e) (converts_to (type_of e) x) (expr_computing e s draws h)
 given_computing x e s draws (inr (r, is, refused)) =
     or_right (expr_computes e) (converts_to (type_of e) x) (refused_converts (type_of e) x r.0 (value_has_its_type e s draws r is) refused)
 
-arguments_computing : (given : List Argument) (s : Scene) (draws : List ℤ) → ArgumentsOverflow given s draws → arguments_compute given ≡ true
+arguments_computing : (given : List Argument) (s : Environment) (draws : List ℤ) → ArgumentsOverflow given s draws → arguments_compute given ≡ true
 arguments_computing [] s draws h = absurd h
 arguments_computing (a ∷ rest) s draws (inl h) =
     let here = or_left (expr_computes a.value) (converts_to (type_of a.value) (parameter_of a.number_type)) (expr_computing a.value s draws h) in
@@ -181,17 +181,17 @@ arguments_computing (a ∷ rest) s draws (inr (r, is, inr (z, got, h))) =
 
 pub overflowing_compute : OverflowingCompute
 overflowing_compute (append t) s h = absurd h
-overflowing_compute (give base x e) s h = given_computing x e (scene_at base s) s.draws h
+overflowing_compute (store_value base x e) s h = given_computing x e (environment_at base s) s.draws h
 overflowing_compute (fill a) s h = absurd h
-overflowing_compute (give_element base x e) s (inl h) =
-    or_left (expr_computes x.index) (given_computes (waiting_in x.array) e) (expr_computing x.index (scene_at base s) s.draws h)
-overflowing_compute (give_element base x e) s (inr (m, aimed, h)) =
-    or_right (expr_computes x.index) (given_computes (waiting_in x.array) e) (given_computing (waiting_in x.array) e (scene_at base m) m.draws h)
-overflowing_compute (give_any x) s h = absurd h
-overflowing_compute (push base given) s h = arguments_computing given (scene_at base s) s.draws h
+overflowing_compute (store_element base x e) s (inl h) =
+    or_left (expr_computes x.index) (given_computes (waiting_in x.array) e) (expr_computing x.index (environment_at base s) s.draws h)
+overflowing_compute (store_element base x e) s (inr (m, aimed, h)) =
+    or_right (expr_computes x.index) (given_computes (waiting_in x.array) e) (given_computing (waiting_in x.array) e (environment_at base m) m.draws h)
+overflowing_compute (havoc x) s h = absurd h
+overflowing_compute (push base given) s h = arguments_computing given (environment_at base s) s.draws h
 overflowing_compute (push_for base x given) s (inl h) =
-    or_left (expr_computes x.index) (arguments_compute given) (expr_computing x.index (scene_at base s) s.draws h)
+    or_left (expr_computes x.index) (arguments_compute given) (expr_computing x.index (environment_at base s) s.draws h)
 overflowing_compute (push_for base x given) s (inr (m, aimed, h)) =
-    or_right (expr_computes x.index) (arguments_compute given) (arguments_computing given (scene_at base m) m.draws h)
-overflowing_compute (keep n) s h = absurd h
-overflowing_compute (test base c wanted) s h = cond_computing c (scene_at base s) s.draws h
+    or_right (expr_computes x.index) (arguments_compute given) (arguments_computing given (environment_at base m) m.draws h)
+overflowing_compute (truncate_to n) s h = absurd h
+overflowing_compute (test base c wanted) s h = cond_computing c (environment_at base s) s.draws h

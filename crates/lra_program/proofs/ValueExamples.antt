@@ -4,10 +4,10 @@ use Rattle.std.proofs.Common.{◌≡◌, pos, negsuc, [], ◌∷◌, map, Some, 
 use Rattle.lra_base.specs.declared.number_types.NumberType.TheVariants.{Int, Long}
 use Rattle.lra_program.specs.Program.{Slot, global, local, Variable, Expr, literal, read, input, negate, binary, compare, nonzero, opposite, both_of, either_of}
 use Rattle.lra_base.specs.Operators.{plus, minus, times, over, modulo, below, at_most, above, at_least, equal, differs}
-use Rattle.lra_program.specs.Value.{Scene, Argument, value_of, values_of, truth_of, compares}
+use Rattle.lra_program.specs.Value.{Environment, Argument, value_of, values_of, truth_of, compares}
 
 -- where no variable lives
-abbrev nowhere : Scene
+abbrev nowhere : Environment
 nowhere = record { base = 0; store = []; arrays = [] }
 
 abbrev long_variable : Slot → Variable

@@ -5,10 +5,10 @@ pub mod Value
 pub mod ProgramViews
 pub mod Receivers
 pub mod Step
-pub mod Gifts
+pub mod WrittenVariables
 pub mod Run
-pub mod Trails
-pub mod Asks
+pub mod Traces
+pub mod NextOperation
 pub mod Overflow
 pub mod Accesses
 -- Points, and programs that sources mean.

@@ -6,17 +6,18 @@ use Rattle.std.specs.Prelude.{IsTrue}
 use Rattle.lra_base.specs.NumberTypes.{wider}
 use Rattle.lra_program.specs.Program.{Expr, literal, read, input, negate, binary, element, type_of, Element, Cond}
 use Rattle.lra_program.specs.Program.{compare, nonzero, opposite, both_of, either_of, Program}
-use Rattle.lra_program.specs.Value.{number, apply, Scene, value_of, Argument, truth_of}
+use Rattle.lra_program.specs.Value.{number, apply, Environment, value_of, Argument, truth_of}
 use Rattle.lra_program.specs.declared.receivers.Receiver.{Receiver}
 use Rattle.lra_program.specs.Receivers.{waiting_in, parameter_of, converts_to, accepts}
-use Rattle.lra_program.specs.Step.{State, scene_at, Op, append, fill, give, give_element, give_any, push, push_for}
-use Rattle.lra_program.specs.Step.{keep, test, aim, Here, Item, Config}
+use Rattle.lra_program.specs.Step.{State, environment_at, Op, append, fill, store_value, store_element, havoc, push}
+use Rattle.lra_program.specs.Step.{push_for}
+use Rattle.lra_program.specs.Step.{truncate_to, test, aim, CallContext, Item, Config}
 use Rattle.lra_program.specs.Run.{Point, IsOn, Reaches}
-use Rattle.lra_program.specs.Asks.{TopAsks}
+use Rattle.lra_program.specs.NextOperation.{NextOpIs}
 
 -- expressions and conditions, in the order in which they are computed -----------------------------------------------
 
-abbrev pub ExprOverflows : Expr → Scene → List ℤ → Type 0
+abbrev pub ExprOverflows : Expr → Environment → List ℤ → Type 0
 ExprOverflows (literal t n) s draws = ⊥
 ExprOverflows (read v) s draws = ⊥
 ExprOverflows input s draws = ⊥
@@ -28,12 +29,12 @@ ExprOverflows (binary op a b) s draws = ExprOverflows a s draws ⊎
 ExprOverflows (element a at e) s draws = ExprOverflows e s draws
 
 -- a second expression is computed with the draws that the first one leaves
-abbrev pub EitherOverflows : Expr → Expr → Scene → List ℤ → Type 0
+abbrev pub EitherOverflows : Expr → Expr → Environment → List ℤ → Type 0
 EitherOverflows a b s draws = ExprOverflows a s draws ⊎
     ((r : ℤ × List ℤ) × (value_of a s draws ≡ Some r) × ExprOverflows b s r.1)
 
 -- the right side of `&&` is computed where the left one is true, that of `||` where it is false
-abbrev pub CondOverflows : Cond → Scene → List ℤ → Type 0
+abbrev pub CondOverflows : Cond → Environment → List ℤ → Type 0
 CondOverflows (compare op a b) s draws = EitherOverflows a b s draws
 CondOverflows (nonzero e) s draws = ExprOverflows e s draws
 CondOverflows (opposite c) s draws = CondOverflows c s draws
@@ -43,11 +44,11 @@ CondOverflows (either_of c d) s draws = CondOverflows c s draws ⊎
     ((left : List ℤ) × (truth_of c s draws ≡ Some (false, left)) × CondOverflows d s left)
 
 -- or has a value that doesn't come to the receiver
-abbrev pub GivenOverflows : Receiver → Expr → Scene → List ℤ → Type 0
+abbrev pub GivenOverflows : Receiver → Expr → Environment → List ℤ → Type 0
 GivenOverflows x e s draws = ExprOverflows e s draws ⊎
     ((r : ℤ × List ℤ) × (value_of e s draws ≡ Some r) × (accepts x r.0 ≡ false))
 
-abbrev pub ArgumentsOverflow : List Argument → Scene → List ℤ → Type 0
+abbrev pub ArgumentsOverflow : List Argument → Environment → List ℤ → Type 0
 ArgumentsOverflow [] s draws = ⊥
 ArgumentsOverflow (a ∷ rest) s draws = ExprOverflows a.value s draws ⊎
     ((r : ℤ × List ℤ) × (value_of a.value s draws ≡ Some r) × ((number a.number_type r.0 ≡ None) ⊎
@@ -81,33 +82,33 @@ arguments_compute (a ∷ rest) = given_computes (parameter_of a.number_type) a.v
 abbrev pub op_computes : Op → Bool
 op_computes (append t) = false
 op_computes (fill a) = false
-op_computes (give base x e) = given_computes x e
-op_computes (give_element base x e) = expr_computes x.index || given_computes (waiting_in x.array) e
-op_computes (give_any x) = false
+op_computes (store_value base x e) = given_computes x e
+op_computes (store_element base x e) = expr_computes x.index || given_computes (waiting_in x.array) e
+op_computes (havoc x) = false
 op_computes (push base given) = arguments_compute given
 op_computes (push_for base x given) = expr_computes x.index || arguments_compute given
-op_computes (keep n) = false
+op_computes (truncate_to n) = false
 op_computes (test base c wanted) = cond_computes c
 
 -- least changes -----------------------------------------------------------------------------------------------------
 
 -- the element's index does, or what is done behind it
 abbrev pub AimedOverflows : ℕ → Element → (State → Type 0) → State → Type 0
-AimedOverflows base x Behind s = ExprOverflows x.index (scene_at base s) s.draws ⊎
+AimedOverflows base x Behind s = ExprOverflows x.index (environment_at base s) s.draws ⊎
     ((m : State) × (aim base x s ≡ Some m) × Behind m)
 
 abbrev pub OpOverflows : Op → State → Type 0
 OpOverflows (append t) s = ⊥
 OpOverflows (fill a) s = ⊥
-OpOverflows (give base x e) s = GivenOverflows x e (scene_at base s) s.draws
-OpOverflows (give_element base x e) s =
-    AimedOverflows base x (λ m. GivenOverflows (waiting_in x.array) e (scene_at base m) m.draws) s
-OpOverflows (give_any x) s = ⊥
-OpOverflows (push base given) s = ArgumentsOverflow given (scene_at base s) s.draws
+OpOverflows (store_value base x e) s = GivenOverflows x e (environment_at base s) s.draws
+OpOverflows (store_element base x e) s =
+    AimedOverflows base x (λ m. GivenOverflows (waiting_in x.array) e (environment_at base m) m.draws) s
+OpOverflows (havoc x) s = ⊥
+OpOverflows (push base given) s = ArgumentsOverflow given (environment_at base s) s.draws
 OpOverflows (push_for base x given) s =
-    AimedOverflows base x (λ m. ArgumentsOverflow given (scene_at base m) m.draws) s
-OpOverflows (keep n) s = ⊥
-OpOverflows (test base c wanted) s = CondOverflows c (scene_at base s) s.draws
+    AimedOverflows base x (λ m. ArgumentsOverflow given (environment_at base m) m.draws) s
+OpOverflows (truncate_to n) s = ⊥
+OpOverflows (test base c wanted) s = CondOverflows c (environment_at base s) s.draws
 
 -- what stops by a number computes something
 abbrev pub OverflowingCompute : Type 0
@@ -116,8 +117,8 @@ OverflowingCompute = (op : Op) (s : State) → OpOverflows op s → IsTrue (op_c
 -- runs --------------------------------------------------------------------------------------------------------------
 
 -- what is on top stops by a number
-abbrev pub IsOverflowing : Program → List Item → Here → State → Type 0
-IsOverflowing P k h s = TopAsks OpOverflows P k h s
+abbrev pub IsOverflowing : Program → List Item → CallContext → State → Type 0
+IsOverflowing P k h s = NextOpIs OpOverflows P k h s
 
 -- some run with the point on top stops there by a number
 abbrev pub Overflows : Program → Point → Type 0

@@ -5,35 +5,35 @@ use Rattle.std.specs.Prelude.{ℕ, ℤ, Bool, true, false, ◌&&◌, ◌||◌, O
 use Rattle.lra_base.specs.declared.number_types.NumberType.{NumberType}
 use Rattle.lra_base.specs.declared.number_types.NumberType.TheVariants.{Int, Long}
 use Rattle.lra_base.specs.NumberTypes.{fits}
-use Rattle.lra_program.specs.declared.receivers.Way.{Way}
-use Rattle.lra_program.specs.declared.receivers.Way.TheVariants.{Wide, Short, Shortened}
+use Rattle.lra_program.specs.declared.receivers.ConversionChain.{ConversionChain}
+use Rattle.lra_program.specs.declared.receivers.ConversionChain.TheVariants.{Wide, Short, Shortened}
 use Rattle.lra_program.specs.declared.receivers.Cell.TheVariants.{Variable, Waiting}
 use Rattle.lra_program.specs.declared.receivers.Target.{Target}
 use Rattle.lra_program.specs.declared.receivers.Receiver.{Receiver}
 use Rattle.lra_program.specs.declared.arrays.Array.{Array}
 
 -- a further type stands before those of the way, which are told as far as they matter
-abbrev pub through : NumberType → Way → Way
-through Int Wide = Short
-through Int Short = Short
-through Int Shortened = Shortened
-through Long Wide = Wide
-through Long Short = Shortened
-through Long Shortened = Shortened
+abbrev pub with_conversion : NumberType → ConversionChain → ConversionChain
+with_conversion Int Wide = Short
+with_conversion Int Short = Short
+with_conversion Int Shortened = Shortened
+with_conversion Long Wide = Wide
+with_conversion Long Short = Shortened
+with_conversion Long Shortened = Shortened
 
 -- a function's result goes on this way; `void` has no type
-abbrev pub passed_on : Option NumberType → Way → Way
+abbrev pub passed_on : Option NumberType → ConversionChain → ConversionChain
 passed_on None w = w
-passed_on (Some t) w = through t w
+passed_on (Some t) w = with_conversion t w
 
 -- a number may go this way
-abbrev pub lets_through : Way → ℤ → Bool
+abbrev pub lets_through : ConversionChain → ℤ → Bool
 lets_through Wide z = true
 lets_through Short z = fits Int z
 lets_through Shortened z = fits Int z
 
 -- a value of this type is converted on it from 64 bits to 32
-abbrev pub converts : NumberType → Way → Bool
+abbrev pub converts : NumberType → ConversionChain → Bool
 converts t Wide = false
 converts Int Short = false
 converts Long Short = true
@@ -43,27 +43,27 @@ converts t Shortened = true
 abbrev pub variable_at : ℕ → NumberType → Receiver
 variable_at place t = record {
   target = Some (record { cell = Variable place; number_type = t });
-  way = through t Wide;
+  conversions = with_conversion t Wide;
 }
 
 -- the array's element at the newest index that waits
 abbrev pub waiting_in : Array → Receiver
 waiting_in a = record {
   target = Some (record { cell = Waiting a.declared; number_type = a.number_type });
-  way = through a.number_type Wide;
+  conversions = with_conversion a.number_type Wide;
 }
 
 -- a call whose result nobody asks for
 abbrev pub nobody : Receiver
-nobody = record { target = None; way = Wide }
+nobody = record { target = None; conversions = Wide }
 
 -- what a function with this result gives it to, called for the receiver
-abbrev pub behind_result : Option NumberType → Receiver → Receiver
-behind_result t r = record r { way = passed_on t r.way }
+abbrev pub result_receiver : Option NumberType → Receiver → Receiver
+result_receiver t r = record r { conversions = passed_on t r.conversions }
 
 -- a parameter of this type, whose place is told elsewhere
 abbrev pub parameter_of : NumberType → Receiver
-parameter_of t = behind_result (Some t) nobody
+parameter_of t = result_receiver (Some t) nobody
 
 abbrev pub is_shorter : NumberType → NumberType → Bool
 is_shorter Long Int = true
@@ -77,7 +77,7 @@ shortens t None = false
 shortens t (Some x) = is_shorter t x.number_type
 
 abbrev pub converts_to : NumberType → Receiver → Bool
-converts_to t r = converts t r.way || shortens t r.target
+converts_to t r = converts t r.conversions || shortens t r.target
 
 abbrev pub target_accepts : Option Target → ℤ → Bool
 target_accepts None z = true
@@ -85,4 +85,4 @@ target_accepts (Some t) z = fits t.number_type z
 
 -- the number is one of all types on the way and of the target's
 abbrev pub accepts : Receiver → ℤ → Bool
-accepts r z = lets_through r.way z && target_accepts r.target z
+accepts r z = lets_through r.conversions z && target_accepts r.target z

@@ -8,8 +8,9 @@ use Rattle.lra_base.specs.declared.refusals.Place.{Place}
 use Rattle.lra_program.specs.declared.arrays.Array.{Array}
 use Rattle.lra_program.specs.declared.program.GlobalVariable.{GlobalVariable}
 use Rattle.lra_program.specs.Value.{is_word}
-use Rattle.lra_program.specs.Step.{State, test, run_op, Here, Item, run, declare, declare_array, all, end_of, turn}
-use Rattle.lra_program.specs.Step.{cases, end_switch, cut, mark, leave_call, Config, next}
+use Rattle.lra_program.specs.Step.{State, test, run_op, CallContext, Item, run, declare, declare_array, all, end_of}
+use Rattle.lra_program.specs.Step.{next_round}
+use Rattle.lra_program.specs.Step.{cases, end_switch, end_for, return_frame, leave_call, Config, next}
 
 -- so many steps lead from the one to the other
 abbrev pub Steps : Program → ℕ → Config → Config → Type 0
@@ -61,11 +62,11 @@ label_on (declare d ∷ k) = Some d.label
 label_on (declare_array at a ∷ k) = Some at
 label_on (all s ∷ k) = None
 label_on (end_of at n ∷ k) = Some at
-label_on (turn step again n ∷ k) = None
+label_on (next_round step again n ∷ k) = None
 label_on (cases cs ∷ k) = None
 label_on (end_switch n ∷ k) = None
-label_on (cut n ∷ k) = None
-label_on (mark b ∷ k) = None
+label_on (end_for n ∷ k) = None
+label_on (return_frame b ∷ k) = None
 label_on (leave_call ∷ k) = None
 
 -- a point: the calls that lead to it, the innermost first, and the label of its statement, declarator or block's end
@@ -89,7 +90,7 @@ abbrev pub At : Program → Point → List ℤ → Type 0
 At P p store = (c : Config) × Reaches P c × IsOn c p × (c.state.store ≡ store)
 
 -- the condition of the assertion on top is false
-abbrev pub IsFailing : List Item → Here → State → Type 0
+abbrev pub IsFailing : List Item → CallContext → State → Type 0
 IsFailing (run (assert at c) ∷ k) h s = (t : State) × (run_op (test h.base c false) s ≡ Some t)
 IsFailing k h s = ⊥
 

@@ -27,11 +27,11 @@ abbrev pub plain_site : List ℕ → ℕ → ℕ → Event
 plain_site path at live = comes (record { path = path; label = at; live = live; asserts = false })
 
 -- how many variables live behind some items; an array is none
-abbrev pub live_behind : ℕ → BlockItems → ℕ
-live_behind live no_more = live
-live_behind live (declaration d items) = live_behind (suc live) items
-live_behind live (array at a items) = live_behind live items
-live_behind live (statement s items) = live_behind live items
+abbrev pub live_after_items : ℕ → BlockItems → ℕ
+live_after_items live no_more = live
+live_after_items live (declaration d items) = live_after_items (suc live) items
+live_after_items live (array at a items) = live_after_items live items
+live_after_items live (statement s items) = live_after_items live items
 
 -- a call's points, on a path with so many live variables
 module _ (inside : List ℕ → ℕ → Call → List Event) (path : List ℕ) where
@@ -47,7 +47,8 @@ module _ (inside : List ℕ → ℕ → Call → List Event) (path : List ℕ) w
     pub stmt_events : ℕ → Stmt → List Event
     stmt_events live absent = []
     stmt_events live (nothing at) = plain_site path at live ∷ []
-    stmt_events live (block items end) = items_events live items ++ plain_site path end (live_behind live items) ∷ []
+    stmt_events live (block items end) =
+        items_events live items ++ plain_site path end (live_after_items live items) ∷ []
     stmt_events live (assign at x e) = plain_site path at live ∷ rvalue_events live e
     stmt_events live (write at x e) = plain_site path at live ∷ rvalue_events live e
     stmt_events live (call at c) = plain_site path at live ∷ inside path live c
@@ -55,7 +56,7 @@ module _ (inside : List ℕ → ℕ → Call → List Event) (path : List ℕ) w
     stmt_events live (loop at c a step) = for_order (plain_site path at live) [] (stmt_events live step)
         (stmt_events live a)
     stmt_events live (for at init c a step) =
-        let inside = live_behind live init in
+        let inside = live_after_items live init in
         for_order (plain_site path at inside) (items_events live init) (stmt_events inside step) (stmt_events inside a)
     stmt_events live (break at) = plain_site path at live ∷ []
     stmt_events live (continue at) = plain_site path at live ∷ []
@@ -82,7 +83,7 @@ abbrev pub function_events : (List ℕ → ℕ → Call → List Event) → List
 function_events inside path live None = []
 function_events inside path live (Some f) =
     items_events inside path (live + length f.parameters) f.body ++
-    plain_site path f.end (live_behind (live + length f.parameters) f.body) ∷ []
+    plain_site path f.end (live_after_items (live + length f.parameters) f.body) ∷ []
 
 -- a call's points, where the path may have so many calls more
 abbrev pub call_events : Program → ℕ → List ℕ → ℕ → Call → List Event
@@ -93,11 +94,11 @@ call_events P (suc more) path live c = function_events (call_events P more) (c.l
 abbrev pub events_of : Program → List Event
 events_of P = function_events (call_events P greatest_calls) [] (length P.globals) (Some P.main)
 
-abbrev pub sites_in : List Event → List Site
-sites_in [] = []
-sites_in (comes s ∷ es) = s ∷ sites_in es
-sites_in (one_call_more at ∷ es) = sites_in es
+abbrev pub event_sites : List Event → List Site
+event_sites [] = []
+event_sites (comes s ∷ es) = s ∷ event_sites es
+event_sites (one_call_more at ∷ es) = event_sites es
 
 -- all points; the n-th has the number n, from 1
 abbrev pub sites_of : Program → List Site
-sites_of P = sites_in (events_of P)
+sites_of P = event_sites (events_of P)

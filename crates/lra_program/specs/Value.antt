@@ -60,7 +60,7 @@ index_of base (global k) = k
 index_of base (local k) = base + k
 
 -- what an expression is read in: where the call's own variables begin, the store, and what the arrays hold
-pub record Scene : Type 0 where
+pub record Environment : Type 0 where
   pub base : ℕ
   pub store : List ℤ
   pub arrays : Contents
@@ -70,22 +70,22 @@ abbrev pub Drawn : Type 0 → Type 0
 Drawn A = Option (A × List ℤ)
 
 -- the first draw, a number of 64 bits
-abbrev pub draw : List ℤ → Drawn ℤ
-draw [] = None
-draw (d ∷ ds) = number Long d >>= λ z. Some (z, ds)
+abbrev pub first_draw : List ℤ → Drawn ℤ
+first_draw [] = None
+first_draw (d ∷ ds) = number Long d >>= λ z. Some (z, ds)
 
 -- so many draws, each a number of the type
 abbrev pub draws_of : NumberType → ℕ → List ℤ → Drawn (List ℤ)
 draws_of t zero draws = Some ([], draws)
-draws_of t (suc n) draws = draw draws >>= λ r. number t r.0 >>= λ z. draws_of t n r.1 >>= λ q. Some (z ∷ q.0, q.1)
+draws_of t (suc n) draws = first_draw draws >>= λ r. number t r.0 >>= λ z. draws_of t n r.1 >>= λ q. Some (z ∷ q.0, q.1)
 
 -- Operands from left to right. What a variable or an element holds is asked, too: where it is no number of the
 -- variable's or the array's type, there is no value.
-abbrev pub value_of : Expr → Scene → List ℤ → Drawn ℤ
+abbrev pub value_of : Expr → Environment → List ℤ → Drawn ℤ
 value_of (literal t n) s draws = number t (pos n) >>= λ z. Some (z, draws)
 value_of (read v) s draws =
     slice_get s.store (index_of s.base v.slot) >>= λ y. number v.number_type y >>= λ z. Some (z, draws)
-value_of input s draws = draw draws
+value_of input s draws = first_draw draws
 value_of (negate e) s draws = value_of e s draws >>= λ r. number (type_of e) (pos 0 -ℤ r.0) >>= λ z. Some (z, r.1)
 value_of (binary op a b) s draws = value_of a s draws >>= λ r. value_of b s r.1 >>= λ q.
     apply (wider (type_of a) (type_of b)) op r.0 q.0 >>= λ z. Some (z, q.1)
@@ -94,7 +94,7 @@ value_of (element a at e) s draws = value_of e s draws >>= λ r. place_among a.l
 
 -- a value, where there is one, is a number of its expression's type
 abbrev pub ValuesHaveTypes : Type 0
-ValuesHaveTypes = (e : Expr) (s : Scene) (draws left : List ℤ) (z : ℤ) → value_of e s draws ≡ Some (z, left) →
+ValuesHaveTypes = (e : Expr) (s : Environment) (draws left : List ℤ) (z : ℤ) → value_of e s draws ≡ Some (z, left) →
     IsTrue (fits (type_of e) z)
 
 -- what a call gives to a parameter of this type
@@ -103,13 +103,13 @@ pub record Argument : Type 0 where
   pub value : Expr
 
 -- from left to right; each is one of its parameter's type before the next is computed
-abbrev pub values_of : List Argument → Scene → List ℤ → Drawn (List ℤ)
+abbrev pub values_of : List Argument → Environment → List ℤ → Drawn (List ℤ)
 values_of [] s draws = Some ([], draws)
 values_of (a ∷ rest) s draws = value_of a.value s draws >>= λ r. number a.number_type r.0 >>= λ z.
     values_of rest s r.1 >>= λ q. Some (z ∷ q.0, q.1)
 
 -- `&&` and `||` stop early
-abbrev pub truth_of : Cond → Scene → List ℤ → Drawn Bool
+abbrev pub truth_of : Cond → Environment → List ℤ → Drawn Bool
 truth_of (compare op a b) s draws =
     value_of a s draws >>= λ r. value_of b s r.1 >>= λ q. Some (compares op r.0 q.0, q.1)
 truth_of (nonzero e) s draws = value_of e s draws >>= λ r. Some (not (is_zero r.0), r.1)

@@ -13,7 +13,7 @@ use Rattle.lra_program.specs.Program.{continue, return, assert, assume, switch, 
 use Rattle.lra_program.specs.Program.{BlockItems, no_more, declaration, array, statement, Function, Program}
 use Rattle.lra_program.specs.declared.program.GlobalVariable.{GlobalVariable}
 use Rattle.lra_base.specs.NumberTypes.{fits}
-use Rattle.lra_program.specs.Sites.{live_behind}
+use Rattle.lra_program.specs.Sites.{live_after_items}
 
 -- labels -----------------------------------------------------------------------------------------------------------
 
@@ -120,7 +120,7 @@ module _ (P : Program) where
     IsGoodStmt j live (if at c a b) = IsGoodCond live c × IsGoodStmt j live a × IsGoodStmt j live b
     IsGoodStmt j live (loop at c a step) = IsGoodCond live c × IsGoodStmt in_loop live a × IsGoodStmt no_jumps live step
     IsGoodStmt j live (for at init c a step) =
-        let inside = live_behind live init in
+        let inside = live_after_items live init in
         AreGoodItems no_jumps live init × IsGoodCond inside c × IsGoodStmt in_loop inside a ×
         IsGoodStmt no_jumps inside step
     IsGoodStmt j live (break at) = IsTrue j.breaks

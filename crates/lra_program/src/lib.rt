@@ -12,4 +12,4 @@ pub use program::{
     Argument, BlockItem, BlockItems, Call, CaseItem, Cond, Declarator, Element, Expr, Function,
     GlobalVariable, Operation, Program, Rvalue, Slot, Stmt, Variable, pair_arguments,
 };
-pub use receivers::{Cell, Receiver, Target, Way};
+pub use receivers::{Cell, ConversionChain, Receiver, Target};

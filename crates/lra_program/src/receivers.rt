@@ -1,15 +1,15 @@
 //! What a value meets on its way to a variable or an element.
 
 ghost use Rattle.std.specs.Prelude.{◌≡◌};
-ghost use Rattle.lra_program.specs.Receivers.{through, converts, is_shorter, shortens, converts_to};
-ghost use Rattle.lra_program.specs.Receivers.{variable_at, waiting_in, nobody, behind_result};
+ghost use Rattle.lra_program.specs.Receivers.{with_conversion, converts, is_shorter, shortens, converts_to};
+ghost use Rattle.lra_program.specs.Receivers.{variable_at, waiting_in, nobody, result_receiver};
 
 use crate::arrays::Array;
 use lra_base::{NumberType, Place};
 
 /// The types on a way, as far as they matter.
 #[derive(Clone, Copy, PartialEq, Eq, Debug)]
-pub enum Way {
+pub enum ConversionChain {
     /// All have 64 bits, or there is none.
     Wide,
     /// One has 32 bits, and none before it 64.
@@ -18,19 +18,19 @@ pub enum Way {
     Shortened,
 }
 
-impl Way {
+impl ConversionChain {
     /// The way with a further type before those of this one.
-    pub fn behind(self, number_type: NumberType) -> Self
-        ensures { result ≡ through number_type self }
+    pub fn with_conversion(self, number_type: NumberType) -> Self
+        ensures { result ≡ with_conversion number_type self }
     {
         match number_type {
             NumberType::Int => match self {
-                Way::Wide | Way::Short => Way::Short,
-                Way::Shortened => Way::Shortened,
+                ConversionChain::Wide | ConversionChain::Short => ConversionChain::Short,
+                ConversionChain::Shortened => ConversionChain::Shortened,
             },
             NumberType::Long => match self {
-                Way::Wide => Way::Wide,
-                Way::Short | Way::Shortened => Way::Shortened,
+                ConversionChain::Wide => ConversionChain::Wide,
+                ConversionChain::Short | ConversionChain::Shortened => ConversionChain::Shortened,
             },
         }
     }
@@ -40,12 +40,12 @@ impl Way {
         ensures { result ≡ converts number_type self }
     {
         match self {
-            Way::Wide => false,
-            Way::Short => match number_type {
+            ConversionChain::Wide => false,
+            ConversionChain::Short => match number_type {
                 NumberType::Int => false,
                 NumberType::Long => true,
             },
-            Way::Shortened => true,
+            ConversionChain::Shortened => true,
         }
     }
 }
@@ -70,7 +70,7 @@ pub struct Target {
 #[derive(Clone, Copy, PartialEq, Eq, Debug)]
 pub struct Receiver {
     pub target: Option<Target>,
-    pub way: Way,
+    pub conversions: ConversionChain,
 }
 
 impl Receiver {
@@ -83,7 +83,7 @@ impl Receiver {
                 cell: Cell::Variable(place),
                 number_type,
             }),
-            way: Way::Wide.behind(number_type),
+            conversions: ConversionChain::Wide.with_conversion(number_type),
         }
     }
 
@@ -96,7 +96,7 @@ impl Receiver {
                 cell: Cell::Waiting(array.declared),
                 number_type: array.number_type,
             }),
-            way: Way::Wide.behind(array.number_type),
+            conversions: ConversionChain::Wide.with_conversion(array.number_type),
         }
     }
 
@@ -106,7 +106,7 @@ impl Receiver {
     {
         Receiver {
             target: None,
-            way: Way::Wide,
+            conversions: ConversionChain::Wide,
         }
     }
 
@@ -114,17 +114,17 @@ impl Receiver {
     pub fn converts(self, number_type: NumberType) -> bool
         ensures { result ≡ converts_to number_type self }
     {
-        self.way.converts(number_type) || self.shortens(number_type)
+        self.conversions.converts(number_type) || self.shortens(number_type)
     }
 
     /// What a function with this result gives it to, called for this receiver.
-    pub fn behind_result(self, result_type: Option<NumberType>) -> Self
-        ensures { result ≡ behind_result result_type self }
+    pub fn result_receiver(self, result_type: Option<NumberType>) -> Self
+        ensures { result ≡ result_receiver result_type self }
     {
         match result_type {
             Some(number_type) => Receiver {
                 target: self.target,
-                way: self.way.behind(number_type),
+                conversions: self.conversions.with_conversion(number_type),
             },
             None => self,
         }

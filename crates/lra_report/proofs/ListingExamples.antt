@@ -6,9 +6,9 @@ use Rattle.lra_report.specs.Report.{PointReport}
 use Rattle.lra_tree.specs.Labels.{labels_of}
 use Rattle.lra_program.specs.Sites.{Site, sites_of}
 use Rattle.lra_meaning.specs.Resolve.{resolve}
-use Rattle.lra_operations.specs.Agree.{IsGraph}
-use Rattle.lra_operations.specs.Graph.{Node, seq, point}
-use Rattle.lra_operations.specs.Inlined.{InlAll, main_spot, as_declaration, as_fresh, as_statement, as_assign, as_value, as_assert, as_none}
+use Rattle.lra_operations.specs.Agree.{IsInlinedTree}
+use Rattle.lra_operations.specs.Tree.{Node, seq, point}
+use Rattle.lra_operations.specs.Inlined.{InlineItems, main_inline_state, as_declaration, as_fresh, as_statement, as_assign, as_value, as_assert, as_none}
 use Rattle.lra_base.specs.declared.number_types.NumberType.TheVariants.{Long}
 use Rattle.lra_program.specs.Program.{Element, input}
 use Rattle.lra_report.specs.declared.verdict_kinds.VerdictKind.TheVariants.{Access}
@@ -51,14 +51,14 @@ one_variable_points : AreListed (globals_named one_variable.parts) (labels_of on
 one_variable_points = (refl, ((tt, tt), tt), (refl, ((tt, tt), tt), (refl, (((refl, tt), tt), tt), (refl, (((refl, tt), tt), tt), tt))))
 
 -- its tree of operations, derived case by case
-unfoldable one_variable_body : (g : Node) × InlAll (resolve one_variable) (sites_of (resolve one_variable)) (main_spot (resolve one_variable))
+unfoldable one_variable_body : (g : Node) × InlineItems (resolve one_variable) (sites_of (resolve one_variable)) (main_inline_state (resolve one_variable))
     (resolve one_variable).main.body g 1 3
 one_variable_body = (_, as_declaration refl as_fresh (as_statement (as_assign refl as_value) (as_statement (as_assert refl) as_none)))
 
 abbrev one_variable_tree : Node
 one_variable_tree = seq one_variable_body.0 (point 3)
 
-one_variable_graph : IsGraph (resolve one_variable) one_variable_tree
+one_variable_graph : IsInlinedTree (resolve one_variable) one_variable_tree
 one_variable_graph = record {
   body = one_variable_body.0;
   last = 3;

@@ -4,8 +4,9 @@ use Rattle.std.specs.Prelude.{⊤}
 use Rattle.std.specs.List.{AllByRecursion}
 use Rattle.lra_program.specs.Program.{Call, Rvalue, value, result, Stmt, absent, nothing, block, assign, call, if, loop, for, break, continue, return, assert, assume, BlockItems, no_more, declaration}
 use Rattle.lra_program.specs.Program.{array, write, switch, Cases, no_cases, labelled, stated, statement, Function, Program}
-use Rattle.lra_program.specs.Sites.{Site, Event, comes, one_call_more, greatest_calls, plain_site, live_behind, rvalue_events, given_events, stmt_events, cases_events, items_events, function_events}
-use Rattle.lra_program.specs.Sites.{call_events, events_of, sites_in, sites_of}
+use Rattle.lra_program.specs.Sites.{Site, Event, comes, one_call_more, greatest_calls, plain_site, live_after_items, rvalue_events, given_events, stmt_events, cases_events, items_events}
+use Rattle.lra_program.specs.Sites.{function_events}
+use Rattle.lra_program.specs.Sites.{call_events, events_of, event_sites, sites_of}
 use Rattle.lra_report.proofs.Every.{every_append}
 
 abbrev IsShallow : Event → Type 0
@@ -27,14 +28,15 @@ module _ (inside : List ℕ → ℕ → Call → List Event) (path : List ℕ) (
     stmt_shallow live absent = tt
     stmt_shallow live (nothing at) = (here, tt)
     stmt_shallow live (block items end) =
-        every_append IsShallow (items_events inside path live items) (plain_site path end (live_behind live items) ∷ []) (items_shallow live items) (here, tt)
+        every_append IsShallow (items_events inside path live items) (plain_site path end (live_after_items live items) ∷ []) (items_shallow live items)
+        (here, tt)
     stmt_shallow live (assign at x e) = (here, rvalue_shallow live e)
     stmt_shallow live (write at x e) = (here, rvalue_shallow live e)
     stmt_shallow live (call at c) = (here, deeper live c)
     stmt_shallow live (if at c a b) = (here, every_append IsShallow (stmt_events inside path live a) (stmt_events inside path live b) (stmt_shallow live a) (stmt_shallow live b))
     stmt_shallow live (loop at c a step) = (here, every_append IsShallow (stmt_events inside path live step) (stmt_events inside path live a) (stmt_shallow live step) (stmt_shallow live a))
     stmt_shallow live (for at init c a step) =
-        let n = live_behind live init in
+        let n = live_after_items live init in
         let begin = items_events inside path live init in
         let turns = stmt_events inside path n step in (
           here,
@@ -65,7 +67,7 @@ module _ (inside : List ℕ → ℕ → Call → List Event) (path : List ℕ) (
   function_shallow live None = tt
   function_shallow live (Some f) =
       let n = live + length f.parameters in
-      every_append IsShallow (items_events inside path n f.body) (plain_site path f.end (live_behind n f.body) ∷ []) (items_shallow n f.body) (here, tt)
+      every_append IsShallow (items_events inside path n f.body) (plain_site path f.end (live_after_items n f.body) ∷ []) (items_shallow n f.body) (here, tt)
 
 call_shallow : (P : Program) (more : ℕ) (path : List ℕ) (live : ℕ) (c : Call) → length path + more ≤ greatest_calls → AllByRecursion IsShallow (call_events P more path live c)
 call_shallow P zero path live c h = (tt, tt)
@@ -75,7 +77,7 @@ call_shallow P (suc more) path live c h =
 events_shallow : (P : Program) → AllByRecursion IsShallow (events_of P)
 events_shallow P = function_shallow (call_events P greatest_calls) [] (omega arith) (λ n d. call_shallow P greatest_calls [] n d (omega arith)) (length P.globals) (Some P.main)
 
-shallow_sites : (es : List Event) → AllByRecursion IsShallow es → AllByRecursion (λ (s : Site). length s.path ≤ greatest_calls) (sites_in es)
+shallow_sites : (es : List Event) → AllByRecursion IsShallow es → AllByRecursion (λ (s : Site). length s.path ≤ greatest_calls) (event_sites es)
 shallow_sites [] h = tt
 shallow_sites (comes s ∷ es) h = (h.0, shallow_sites es h.1)
 shallow_sites (one_call_more at ∷ es) h = shallow_sites es h.1

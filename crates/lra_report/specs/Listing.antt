@@ -26,9 +26,9 @@ use Rattle.lra_meaning.specs.LiveNames.{globals_named, live_names}
 use Rattle.lra_program.specs.Accesses.{op_accesses}
 use Rattle.lra_program.specs.Assertions.{assertions_from}
 use Rattle.lra_program.specs.Program.{Element}
-use Rattle.lra_operations.specs.Graph.{Node}
-use Rattle.lra_operations.specs.Asked.{Asked, asked_in, accessed_in}
-use Rattle.lra_operations.specs.Agree.{IsGraph}
+use Rattle.lra_operations.specs.Tree.{Node}
+use Rattle.lra_operations.specs.CheckedOperations.{OpAtPoint, computing_ops, accessing_ops}
+use Rattle.lra_operations.specs.Agree.{IsInlinedTree}
 
 abbrev pub call_at : Option Identifier → List CallPlace
 call_at None = []
@@ -90,7 +90,7 @@ subjects_of ls kind points = map (λ (p : ℕ × Site). subject ls kind p.0 p.1)
 
 -- at the point of this number, from 0, the tree of operations computes something
 abbrev pub computes_at : Node → ℕ → Bool
-computes_at g q = list_any (λ (a : Asked). nat_eq a.point q) (asked_in None g)
+computes_at g q = list_any (λ (a : OpAtPoint). nat_eq a.point q) (computing_ops None g)
 
 -- the points of which that is so, with their numbers from 1; the first of the sites has this number from 0
 abbrev pub computing_from : (ℕ → Bool) → ℕ → List Site → List (ℕ × Site)
@@ -105,7 +105,7 @@ fits_asked ls false g sites = []
 
 -- the accesses of the operation at the point of this number, from 0
 abbrev pub accesses_at : Node → ℕ → List Element
-accesses_at g q = flat_map (λ (a : Asked). cond (nat_eq a.point q) (op_accesses a.op) []) (accessed_in None g)
+accesses_at g q = flat_map (λ (a : OpAtPoint). cond (nat_eq a.point q) (op_accesses a.op) []) (accessing_ops None g)
 
 abbrev pub accesses_any_at : Node → ℕ → Bool
 accesses_any_at g q = nat_lt 0 (length (accesses_at g q))
@@ -152,8 +152,8 @@ pub record Lists (t : FileTree) (r : Report) : Type 0 where
   pub points : AreListed (globals_named t.parts) (labels_of t) 1 (sites_of (resolve t)) r.points
   -- by each of the program's trees, of which there is one
   pub tree : Node
-  pub is_graph : IsGraph (resolve t) tree
-  pub verdicts : (g : Node) → IsGraph (resolve t) g → AreJudged (labels_of t) (subjects r.options g t) r.verdicts
+  pub is_graph : IsInlinedTree (resolve t) tree
+  pub verdicts : (g : Node) → IsInlinedTree (resolve t) g → AreJudged (labels_of t) (subjects r.options g t) r.verdicts
 
 -- the number of the first flagged point, where there is one, is that of a point
 abbrev pub IsFlag : ℕ → Option ℕ → Type 0

@@ -7,8 +7,8 @@ use Rattle.lra_options.specs.declared.options.Options.{Options}
 use Rattle.lra_options.specs.declared.options.NumberOption.{NumberOption}
 use Rattle.lra_options.specs.declared.options.FlagOption.{FlagOption}
 use Rattle.lra_options.specs.Domains.{domain_name}
-use Rattle.lra_options.specs.OptionRows.{number_row, number_value, number_options, is_number_told}
-use Rattle.lra_options.specs.OptionRows.{flag_row, flag_value, flag_options, is_told}
+use Rattle.lra_options.specs.OptionRows.{number_row, number_value, number_options, is_number_reported}
+use Rattle.lra_options.specs.OptionRows.{flag_row, flag_value, flag_options, is_reported}
 use Rattle.lra_show.specs.Part.{Part}
 use Rattle.lra_show.specs.Texts.{text_line, part_text}
 use Rattle.lra_report.specs.VerdictKinds.{row_of, outcome_text}
@@ -43,11 +43,11 @@ state_text names (part ∷ parts) = part_text names part ++ further_parts_text n
 
 -- nothing where it isn't told
 abbrev pub number_text : Options → NumberOption → List ℕ
-number_text o option = if is_number_told option o then codes " " ++ (number_row option).name ++ codes " " ++
+number_text o option = if is_number_reported option o then codes " " ++ (number_row option).name ++ codes " " ++
     decimal (number_value option o) else []
 
 abbrev pub flag_option_text : Options → FlagOption → List ℕ
-flag_option_text o option = if is_told option o then codes " " ++ (flag_row option).name ++
+flag_option_text o option = if is_reported option o then codes " " ++ (flag_row option).name ++
     (if flag_value option o then codes " yes" else codes " no") else []
 
 abbrev pub options_text : Options → List ℕ

@@ -6,7 +6,7 @@ use Rattle.std.specs.List.{list_any}
 use Rattle.std.specs.Str.{bytes_eq}
 use Rattle.lra_options.specs.declared.options.Options.{Options}
 use Rattle.lra_program.specs.Program.{Program}
-use Rattle.lra_program.specs.Accesses.{Strays}
+use Rattle.lra_program.specs.Accesses.{AccessesOutOfBounds}
 use Rattle.lra_program.specs.Overflow.{Overflows}
 use Rattle.lra_program.specs.Run.{Point, Fails}
 use Rattle.lra_report.specs.declared.verdict_kinds.VerdictKind.{VerdictKind}
@@ -95,4 +95,4 @@ outcome_text kind holds = if holds then (row_of kind).if_holds else (row_of kind
 abbrev pub Breaks : VerdictKind → Program → Point → ℕ → Type 0
 Breaks Assertion P p n = Fails P p
 Breaks Fit P p n = Overflows P p
-Breaks Access P p n = Strays P p n
+Breaks Access P p n = AccessesOutOfBounds P p n

@@ -149,7 +149,7 @@ fn push_number_option(
     ensures { OnOk result (string_bytes text.new ≡ string_bytes text.old ++
         written.number_text options option) }
 {
-    if !option.is_told(options) {
+    if !option.is_reported(options) {
         return Ok(());
     }
     let name = option.name();
@@ -177,7 +177,7 @@ fn push_flag_option(
     ensures { OnOk result (string_bytes text.new ≡ string_bytes text.old ++
         written.flag_option_text options option) }
 {
-    if !option.is_told(options) {
+    if !option.is_reported(options) {
         return Ok(());
     }
     let name = option.name();

@@ -8,9 +8,9 @@ use Rattle.lra_tree.specs.Trees.{FileTree}
 use Rattle.lra_meaning.specs.Resolve.{resolve}
 use Rattle.lra_program.specs.declared.program.GlobalVariable.{GlobalVariable}
 use Rattle.lra_program.specs.Sites.{Site}
-use Rattle.lra_operations.specs.Graph.{Node}
-use Rattle.lra_operations.specs.GraphViews.{site_view}
-use Rattle.lra_operations.specs.declared.graph.Site as declared
+use Rattle.lra_operations.specs.Tree.{Node}
+use Rattle.lra_operations.specs.TreeViews.{site_view}
+use Rattle.lra_operations.specs.declared.tree.Site as declared
 use Rattle.lra_report.specs.BackText.{BackReport}
 use Rattle.lra_front.specs.Stages.{HasTree, HasGraph, HasConstants}
 use Rattle.lra_paths.specs.Paths.{AreFewIn, HasTooManyIn}

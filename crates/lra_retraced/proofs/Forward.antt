@@ -7,8 +7,8 @@ use Rattle.lra_tree.specs.Trees.{FileTree}
 use Rattle.lra_meaning.specs.Resolve.{resolve}
 use Rattle.lra_program.specs.declared.program.GlobalVariable.{GlobalVariable}
 use Rattle.lra_program.specs.Sites.{Site, sites_of}
-use Rattle.lra_operations.specs.Asked.{accessed_in}
-use Rattle.lra_operations.specs.Graph.{Node}
+use Rattle.lra_operations.specs.CheckedOperations.{accessing_ops}
+use Rattle.lra_operations.specs.Tree.{Node}
 use Rattle.lra_flow.specs.Accesses.{OpInside, JudgesAccesses}
 use Rattle.lra_flow.specs.Operations.{defined, dropping, straining}
 use Rattle.lra_flow.specs.Room.{most_live}
@@ -61,7 +61,7 @@ module _ (t : FileTree) (g : Node) (sites : List Site) (has : HasGraph t g sites
     written_if none =
         let so = accesses_written polyhedron_abstraction polyhedron_laws g values behind inside flagged none judges in
         let first : behind ≡ None = none_before (dropping polyhedron_abstraction) (OpInside polyhedron_abstraction (dropping polyhedron_abstraction))
-        (accessed_in None g) values behind inside flagged judges none in
+        (accessing_ops None g) values behind inside flagged judges none in
         subst (λ (f : Option ℕ). JudgesAccesses polyhedron_abstraction (defined polyhedron_abstraction) g values None inside f) none
         (subst (λ (f : Option ℕ). JudgesAccesses polyhedron_abstraction (defined polyhedron_abstraction) g values f inside flagged) first so)
 

@@ -10,7 +10,7 @@ use Rattle.lra_tree.specs.Trees.{FileTree}
 use Rattle.lra_meaning.specs.LiveNames.{globals_named}
 use Rattle.lra_meaning.specs.Resolve.{resolve}
 use Rattle.lra_program.specs.Sites.{Site, sites_of}
-use Rattle.lra_operations.specs.Graph.{Node}
+use Rattle.lra_operations.specs.Tree.{Node}
 use Rattle.lra_options.specs.declared.options.Domain.TheVariants.{Poly}
 use Rattle.lra_front.specs.Stages.{HasGraph}
 use Rattle.lra_report.specs.Listing.{AreListed, HasWidth}

@@ -3,7 +3,7 @@ use Rattle.std.proofs.Common.{◌≡◌, ◌∙◌, ℕ, suc, List, [], ◌∷�
 use Rattle.std.specs.Prelude.{Option, None, Some, option_map}
 use Rattle.std.proofs.lemmas.Option.{none-some, same_Some}
 use Rattle.lra_program.specs.Sites.{sites_of}
-use Rattle.lra_operations.specs.Asked.{accessed_in}
+use Rattle.lra_operations.specs.CheckedOperations.{accessing_ops}
 use Rattle.lra_report.specs.BackText.{BackReport}
 use Rattle.lra_flow.specs.Accesses.{OpInside}
 use Rattle.lra_flow.specs.Analysis.{Solves}
@@ -45,7 +45,7 @@ module _ (source : List ℕ) (p : ℕ) (r : BackReport) (x : IsBackOf source p r
 
   none_behind : x.found.flagged ≡ None → x.found.ahead.behind ≡ None
   none_behind none = none_before (iteration.dropping polyhedron_abstraction) (OpInside polyhedron_abstraction (iteration.dropping polyhedron_abstraction))
-      (accessed_in None x.program.operations) x.found.forward x.found.ahead.behind x.found.ahead.inside x.found.flagged x.found.ahead.accessed none
+      (accessing_ops None x.program.operations) x.found.forward x.found.ahead.behind x.found.ahead.inside x.found.flagged x.found.ahead.accessed none
 
   none_forward : x.last ≡ None → x.found.flagged ≡ None
   none_forward = none_first (dropping polyhedron_abstraction polyhedron_backward) (program_of x.program).globals (sites_of (program_of x.program))

@@ -4,7 +4,7 @@ use Rattle.lra_base.specs.declared.error.SourceError.{SourceError}
 use Rattle.lra_base.specs.declared.error.SourceError.TheVariants as of_source
 use Rattle.lra_program.specs.Program.{Program}
 use Rattle.lra_program.specs.Sites.{sites_of}
-use Rattle.lra_operations.specs.Graph.{Node}
+use Rattle.lra_operations.specs.Tree.{Node}
 use Rattle.lra_paths.specs.Paths.{HasTooMany}
 use Rattle.lra_back.specs.Traced.{IsAssertion}
 use Rattle.lra_back.specs.declared.backs.BackFailure.{BackFailure}

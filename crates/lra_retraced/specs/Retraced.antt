@@ -16,7 +16,7 @@ use Rattle.lra_program.specs.Program.{Program}
 use Rattle.lra_program.specs.Run.{Point, Fails}
 use Rattle.lra_program.specs.Sites.{Site, sites_of}
 use Rattle.lra_operations.specs.Agree.{point_of}
-use Rattle.lra_operations.specs.Graph.{Node}
+use Rattle.lra_operations.specs.Tree.{Node}
 use Rattle.lra_options.specs.declared.options.Domain.TheVariants.{Poly}
 use Rattle.lra_report.specs.BackText.{BackReport}
 use Rattle.lra_report.specs.Listing.{AreListed}

@@ -10,7 +10,7 @@ use Rattle.lra_tree.specs.declared.tokens.Kind.TheVariants.{Name}
 use Rattle.lra_tree.specs.declared.tokens.Mark.TheVariants as mark
 use Rattle.lra_tree.specs.declared.tokens.Token.{Token}
 use Rattle.lra_tree.specs.Lexeme.{word, name}
-use Rattle.lra_base.specs.Places.{place_behind}
+use Rattle.lra_base.specs.Places.{place_after}
 use Rattle.lra_tree.specs.Tokens.{tokens_of, end_token, Lex}
 use Rattle.lra_tree.specs.Trees.{compare, expression, scalar, ItemsTree, no_items, declaration, statement, assert, FunctionTree}
 use Rattle.lra_tree.specs.Trees.{function, FileTree}
@@ -158,11 +158,11 @@ main_tree ls = record {
   name = record { word = codes "main"; place = item_place [] head_items 2 };
   parameters = [];
   body = body_tree (behind [] head_items) ls;
-  end = place_behind (behind (behind [] head_items) (body_items ls));
+  end = place_after (behind (behind [] head_items) (body_items ls));
 }
 
 abbrev pub file_tree : List ℕ → List Line → FileTree
-file_tree source ls = record { parts = function (main_tree ls) ∷ []; end = place_behind source }
+file_tree source ls = record { parts = function (main_tree ls) ∷ []; end = place_after source }
 
 -- the tokens have the tree -------------------------------------------------------------------------------------------
 

@@ -8,7 +8,7 @@ use Rattle.lra_tree.specs.Trees.{FunctionTree, ItemsTree}
 use Rattle.lra_tree.specs.Functions.{functions_of}
 use Rattle.lra_tree.specs.Labels.{Labelled, labels_of}
 use Rattle.lra_program.specs.Program.{Call}
-use Rattle.lra_program.specs.Sites.{Event, comes, one_call_more, plain_site, live_behind, items_events, greatest_calls}
+use Rattle.lra_program.specs.Sites.{Event, comes, one_call_more, plain_site, live_after_items, items_events, greatest_calls}
 use Rattle.lra_program.specs.Sites.{call_events, events_of}
 use Rattle.lra_meaning.specs.Scope.{Scope}
 use Rattle.lra_meaning.specs.Resolve.{resolve_items, resolve}
@@ -79,15 +79,15 @@ module _ (inside : List ℕ → ℕ → Call → List Event) (F : List FunctionT
 
   -- no line declares a variable
   line_lives : (k : Kind) (l : Line) (at : ℕ → Place) (rest : ItemsTree) →
-      ((n : ℕ) → live_behind 4 (resolve_items F s n rest) ≡ 4) →
-      (n : ℕ) → live_behind 4 (resolve_items F s n (tree_as k l at rest)) ≡ 4
+      ((n : ℕ) → live_after_items 4 (resolve_items F s n rest) ≡ 4) →
+      (n : ℕ) → live_after_items 4 (resolve_items F s n (tree_as k l at rest)) ≡ 4
   line_lives Sum l at rest r n = r (n + 1)
   line_lives Choice l at rest r n = r (n + 3)
   line_lives Count l at rest r n = r (n + 1 + 2)
   line_lives Input l at rest r n = r (n + 1 + 1)
 
   lines_live : (ls : List Line) (before : List ℕ) (n : ℕ) →
-      live_behind 4 (resolve_items F s n (lines_tree before ls last_tree)) ≡ 4
+      live_after_items 4 (resolve_items F s n (lines_tree before ls last_tree)) ≡ 4
   lines_live [] before n = refl
   lines_live (l ∷ ls) before n = line_lives l.kind l (item_place before (items_of l))
       (lines_tree (behind before (items_of l)) ls last_tree) (lines_live ls (behind before (items_of l))) n
@@ -99,7 +99,7 @@ whole_few source ls =
     let inside = call_events (resolve t) greatest_calls in
     let before = behind (behind [] head_items) (four_declared []) in
     let body = points inside (functions_of t) four 5 (lines_tree before ls last_tree) in
-    let end = plain_site [] (resolve t).main.end (live_behind 4
+    let end = plain_site [] (resolve t).main.end (live_after_items 4
     (resolve_items (functions_of t) four 5 (lines_tree before ls last_tree))) in
     let l = lines_few inside (functions_of t) four ls before 5 in
     record {

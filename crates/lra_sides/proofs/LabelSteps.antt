@@ -6,9 +6,9 @@ use Rattle.lra_base.specs.declared.case_labels.CaseLabel.{CaseLabel}
 use Rattle.lra_base.specs.declared.case_labels.CaseLabel.TheVariants.{Case, Default}
 use Rattle.lra_base.specs.Operators.{Comparison, equal}
 use Rattle.lra_program.specs.ProgramViews.{expr_view}
-use Rattle.lra_operations.specs.declared.graph.Arm.{Arm}
-use Rattle.lra_operations.specs.declared.graph.Arm.TheVariants.{Entry, Tree}
-use Rattle.lra_operations.specs.declared.graph.Node.{Node}
+use Rattle.lra_operations.specs.declared.tree.Arm.{Arm}
+use Rattle.lra_operations.specs.declared.tree.Arm.TheVariants.{Entry, Tree}
+use Rattle.lra_operations.specs.declared.tree.Node.{Node}
 use Rattle.lra_domain.specs.Moves.{stay, first_then}
 use Rattle.lra_flow.specs.Linear.{constant_form}
 use Rattle.lra_flow.specs.MovesOf.{comparison_as, comparison_moves, number_moves}

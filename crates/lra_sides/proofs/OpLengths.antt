@@ -4,7 +4,7 @@ use Rattle.std.specs.Prelude.{min}
 use Rattle.std.proofs.lemmas.Option.{same_Some}
 use Rattle.std.proofs.lemmas.List.{length-take}
 use Rattle.lra_program.specs.Value.{value_of}
-use Rattle.lra_program.specs.Step.{State, scene_at, Op, append, fill, give, give_element, give_any, push, push_for, keep, run_op}
+use Rattle.lra_program.specs.Step.{State, environment_at, Op, append, fill, store_value, store_element, havoc, push, push_for, truncate_to, run_op}
 use Rattle.lra_program.specs.Step as step
 use Rattle.lra_agreement.proofs.Lengths.{length_append, length_fill, length_given, length_give_element, length_any, length_push, length_push_for, length_test}
 use Rattle.lra_flow.specs.Live.{dims_behind}
@@ -16,10 +16,10 @@ least_of_both n k = omega arith
 pub op_length : (op : Op) (s t : State) → run_op op s ≡ Some t → length t.store ≡ dims_behind op (length s.store)
 op_length (append x) s t e = length_append x s t e
 op_length (fill a) s t e = length_fill a s t e
-op_length (give base x y) s t e = length_given x s (value_of y (scene_at base s) s.draws) t e
-op_length (give_element base x y) s t e = length_give_element base x y s t e
-op_length (give_any x) s t e = length_any x s t e
+op_length (store_value base x y) s t e = length_given x s (value_of y (environment_at base s) s.draws) t e
+op_length (store_element base x y) s t e = length_give_element base x y s t e
+op_length (havoc x) s t e = length_any x s t e
 op_length (push base given) s t e = length_push base given s t e
 op_length (push_for base x given) s t e = length_push_for base x given s t e
-op_length (keep n) s t e = rw (← same_Some _ t e) (length-take n s.store ∙ least_of_both n (length s.store))
+op_length (truncate_to n) s t e = rw (← same_Some _ t e) (length-take n s.store ∙ least_of_both n (length s.store))
 op_length (step.test base c wanted) s t e = length_test base c wanted s t e

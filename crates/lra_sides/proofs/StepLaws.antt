@@ -9,11 +9,11 @@ use Rattle.std.proofs.lemmas.Int.{ints}
 use Rattle.lra_base.specs.Operators.{equal}
 use Rattle.lra_base.specs.declared.case_labels.CaseLabel.{CaseLabel}
 use Rattle.lra_base.specs.declared.case_labels.CaseLabel.TheVariants.{Case, Default}
-use Rattle.lra_base.specs.CaseLabels.{are_alike}
+use Rattle.lra_base.specs.CaseLabels.{is_same_case}
 use Rattle.lra_domain.specs.Moves.{MayLead}
 use Rattle.lra_program.specs.Program.{Expr}
 use Rattle.lra_program.specs.Value.{value_of, compares}
-use Rattle.lra_program.specs.Step.{State, scene_at}
+use Rattle.lra_program.specs.Step.{State, environment_at}
 use Rattle.lra_flow.specs.Seen.{seen_of}
 use Rattle.lra_flow.proofs.CondKeeping.{value_leads}
 use Rattle.lra_flow.proofs.Keeping.{op_leads}
@@ -36,24 +36,24 @@ pub step_length : (step : Step) (s t : State) → RunsStep step s t → length t
 step_length (does op) s t o = op_length op s t o
 step_length (goes base e labels l) s t (z, got, same, is) = ap (λ (u : State). length u.store) same
 
-module _ (base : ℕ) (e : Expr) (s : State) (z : ℤ) (left : List ℤ) (got : value_of e (scene_at base s) s.draws ≡ Some (z, left)) where
+module _ (base : ℕ) (e : Expr) (s : State) (z : ℤ) (left : List ℤ) (got : value_of e (environment_at base s) s.draws ≡ Some (z, left)) where
   -- where no label names the value
-  unmatched_lead : (labels : List CaseLabel) → list_any (are_alike (Case z)) labels ≡ false
+  unmatched_lead : (labels : List CaseLabel) → list_any (is_same_case (Case z)) labels ≡ false
       → MayLead (unmatched_moves (length s.store) (seen_of (length s.store) base e) labels) s.store s.store
   unmatched_lead [] none = refl
   unmatched_lead (Case y ∷ labels) none =
-      let (here, later) = neither (int_eq z y) (list_any (are_alike (Case z)) labels) none in
-      (s.store, value_leads (scene_at base s) e y false s.draws left z got (unequal z y here), unmatched_lead labels later)
+      let (here, later) = neither (int_eq z y) (list_any (is_same_case (Case z)) labels) none in
+      (s.store, value_leads (environment_at base s) e y false s.draws left z got (unequal z y here), unmatched_lead labels later)
   unmatched_lead (Default ∷ labels) none = unmatched_lead labels none
 
-  label_leads : (labels : List CaseLabel) (b : Bool) → list_any (are_alike (Case z)) labels ≡ b
+  label_leads : (labels : List CaseLabel) (b : Bool) → list_any (is_same_case (Case z)) labels ≡ b
       → MayLead (label_moves (length s.store) (seen_of (length s.store) base e) labels (if b then Case z else Default)) s.store s.store
-  label_leads labels true is = value_leads (scene_at base s) e z true s.draws left z got (itself z)
+  label_leads labels true is = value_leads (environment_at base s) e z true s.draws left z got (itself z)
   label_leads labels false is = unmatched_lead labels is
 
 pub step_leads : (step : Step) (s t : State) → RunsStep step s t → MayLead (step_moves (length s.store) step) s.store t.store
 step_leads (does op) s t o = op_leads op s t o
 step_leads (goes base e labels l) s t (z, got, same, is) =
-    let led = label_leads base e s z t.draws got labels (list_any (are_alike (Case z)) labels) refl in
+    let led = label_leads base e s z t.draws got labels (list_any (is_same_case (Case z)) labels) refl in
     subst (λ store. MayLead (label_moves (length s.store) (seen_of (length s.store) base e) labels l) s.store store) (sym (ap (λ (u : State). u.store) same))
     (subst (λ k. MayLead (label_moves (length s.store) (seen_of (length s.store) base e) labels k) s.store s.store) (sym is) led)

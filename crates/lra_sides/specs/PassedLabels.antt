@@ -1,7 +1,7 @@
 -- Where the moves of a value that goes to none of a `switch`'s labels stand in a table.
 use Rattle.std.specs.Prelude.{◌≡◌, ℕ, List, ◌++◌}
 use Rattle.lra_base.specs.declared.case_labels.CaseLabel.{CaseLabel}
-use Rattle.lra_operations.specs.declared.graph.Arm.{Arm}
+use Rattle.lra_operations.specs.declared.tree.Arm.{Arm}
 use Rattle.lra_flow.specs.declared.seen.Seen.{Seen}
 use Rattle.lra_sides.specs.StepMoves.{unmatched_moves}
 use Rattle.lra_sides.specs.Tables.{Has}

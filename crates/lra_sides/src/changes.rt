@@ -12,7 +12,7 @@ ghost use Rattle.lra_flow.specs.Seen.{SeenFits, seen_of};
 ghost use Rattle.lra_flow.specs.declared.seen.Seen.TheVariants.{Linear, Unseen};
 ghost use Rattle.lra_domain.specs.Actions.{embed, test};
 ghost use Rattle.lra_linear_spec.specs.declared.ConKind.TheVariants.{Ge};
-ghost use Rattle.lra_operations.specs.GraphViews.{op_view};
+ghost use Rattle.lra_operations.specs.TreeViews.{op_view};
 ghost use Rattle.lra_sides.specs.StepMoves.{dims_behind_step, step_moves};
 ghost use Rattle.lra_ways.specs.StretchViews.{move_view};
 ghost use Rattle.lra_sides.specs.Tables.{Grows, Has, IsTable, moves_at};
@@ -452,14 +452,14 @@ fn push_op(
     match op {
         Op::Append(number_type) => push_any(frame(0), *number_type, entries),
         Op::Fill(_) => push_stay(entries),
-        Op::Give(base, receiver, e) => push_give(frame(*base), receiver.target, e, entries),
-        Op::GiveElement(_, _, _) => push_stay(entries),
-        Op::GiveAny(receiver) => push_give_any(frame(0), receiver.target, entries),
+        Op::StoreValue(base, receiver, e) => push_give(frame(*base), receiver.target, e, entries),
+        Op::StoreElement(_, _, _) => push_stay(entries),
+        Op::Havoc(receiver) => push_give_any(frame(0), receiver.target, entries),
         Op::Push(base, arguments) => push_arguments(frame(*base), arguments.as_slice(), entries),
         Op::PushFor(base, _, arguments) => {
             push_arguments(frame(*base), arguments.as_slice(), entries)
         }
-        Op::Keep(n) => push_keep(live, *n, entries),
+        Op::TruncateTo(n) => push_keep(live, *n, entries),
         Op::Test(base, condition, wanted) => push_guard(frame(*base), condition, *wanted, entries),
     }
 }
@@ -508,9 +508,9 @@ fn live_behind_op(live: usize, op: &Op) -> Result<usize, AllocError>
         Op::Append(_) => sum_of(live, 1),
         Op::Push(_, arguments) => sum_of(live, arguments.len()),
         Op::PushFor(_, _, arguments) => sum_of(live, arguments.len()),
-        Op::Keep(n) => Ok(live - live.saturating_sub(*n)),
-        Op::Fill(_) | Op::Give(_, _, _) | Op::GiveElement(_, _, _) => Ok(live),
-        Op::GiveAny(_) | Op::Test(_, _, _) => Ok(live),
+        Op::TruncateTo(n) => Ok(live - live.saturating_sub(*n)),
+        Op::Fill(_) | Op::StoreValue(_, _, _) | Op::StoreElement(_, _, _) => Ok(live),
+        Op::Havoc(_) | Op::Test(_, _, _) => Ok(live),
     }
 }
 

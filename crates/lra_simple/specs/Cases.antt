@@ -5,7 +5,7 @@ use Rattle.std.specs.Ordering.{int_cmp}
 use Rattle.std.specs.BTreeSet.{contains}
 use Rattle.lra_base.specs.declared.case_labels.CaseLabel.{CaseLabel}
 use Rattle.lra_base.specs.declared.case_labels.CaseLabel.TheVariants.{Case, Default}
-use Rattle.lra_base.specs.CaseLabels.{are_alike}
+use Rattle.lra_base.specs.CaseLabels.{is_same_case}
 use Rattle.lra_program.specs.Program as program
 use Rattle.lra_program.specs.ProgramViews.{CasePart}
 use Rattle.lra_simple.specs.declared.cases.CaseList.{CaseList}
@@ -17,7 +17,7 @@ has_seen c Default = c.has_default
 
 -- those so far are these
 abbrev pub HasSeen : CaseList → List CaseLabel → Type 0
-HasSeen c labels = (l : CaseLabel) → has_seen c l ≡ list_any (are_alike l) labels
+HasSeen c labels = (l : CaseLabel) → has_seen c l ≡ list_any (is_same_case l) labels
 
 -- some parts, each of which is what it puts before those behind it, before others
 abbrev pub before_cases : List CasePart → program.Cases → program.Cases

@@ -3,7 +3,7 @@
 ghost use Rattle.std.specs.Prelude.{◌≡◌, ◌++◌, ◌∷◌, [], ◌||◌, false, not, IfOk, OnOk};
 ghost use Rattle.lra_base.specs.declared.case_labels.CaseLabel.{CaseLabel};
 ghost use Rattle.lra_base.specs.declared.refusals.Cause.TheVariants.{DuplicateCase};
-ghost use Rattle.lra_base.specs.CaseLabels.{are_alike};
+ghost use Rattle.lra_base.specs.CaseLabels.{is_same_case};
 ghost use Rattle.lra_program.specs.declared.program.CaseItem as program_case;
 ghost use Rattle.lra_meaning.specs.NameFaults.{fault_if};
 ghost use Rattle.lra_scopes.specs.Outcome.{TellsOf};
@@ -49,7 +49,7 @@ impl CaseList {
     fn see(&mut self, label: CaseLabel) -> Result<bool, AllocError>
         ensures told { IfOk result (λ new. new ≡ not (has_seen self.old label)) }
         ensures seen { OnOk result ((l : CaseLabel) → has_seen self.new l
-            ≡ (are_alike l label || has_seen self.old l)) }
+            ≡ (is_same_case l label || has_seen self.old l)) }
         ensures items { OnOk result (self.new.items.items ≡ self.old.items.items) }
     {
         match label {
@@ -68,7 +68,7 @@ impl CaseList {
     pub fn add_label(&mut self, label: &PlacedLabel) -> Result<(), SourceError>
         ensures told { TellsOf (fault_if (has_seen self.old label.now.label) DuplicateCase label.now.place) result }
         ensures seen { OnOk result ((l : CaseLabel) → has_seen self.new l
-            ≡ (are_alike l label.now.label || has_seen self.old l)) }
+            ≡ (is_same_case l label.now.label || has_seen self.old l)) }
         ensures items { OnOk result (self.new.items.items ≡ self.old.items.items
             ++ program_case.Label label.now.label ∷ []) }
     {

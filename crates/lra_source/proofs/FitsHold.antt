@@ -8,9 +8,9 @@ use Rattle.lra_program.specs.Program.{Program}
 use Rattle.lra_program.specs.WellFormed.{AreGoodGlobals}
 use Rattle.lra_program.specs.Overflow.{op_computes, OpOverflows, Overflows}
 use Rattle.lra_program.specs.Sites.{Site, sites_of}
-use Rattle.lra_operations.specs.Graph.{Node}
+use Rattle.lra_operations.specs.Tree.{Node}
 use Rattle.lra_operations.specs.Agree.{point_of, Agrees}
-use Rattle.lra_operations.specs.Asked.{Asked, AsksWell}
+use Rattle.lra_operations.specs.CheckedOperations.{OpAtPoint, AgreesOnOverflows}
 use Rattle.lra_flow.specs.Plan.{Plan}
 use Rattle.lra_flow.specs.Pass.{Result}
 use Rattle.lra_flow.specs.Operations.{dropping}
@@ -24,7 +24,7 @@ use Rattle.lra_source.proofs.Sound.{held_there}
 module _ (V H : Type 0) (m : Abstraction V H) (laws : Laws m) (set : Plan) (P : Program) (good : AreGoodGlobals P.globals) (g : Node) (r : Result V)
     (derived : Derivation m set P g r) (agrees : Agrees P g) (values : List V) (verdicts : List (ℕ × Bool)) (flagged : Option ℕ)
     (solves : Solves m r values verdicts flagged)
-    (well : AsksWell P g) where
+    (well : AgreesOnOverflows P g) where
   pub fitting_holds : (fitting : List (ℕ × Bool)) (behind : Option ℕ) → Judges m (dropping m) g values flagged fitting behind → (q : ℕ) (s : Site) (so : Bool)
       → slice_get (sites_of P) q ≡ Some s
       → Contains fitting (q, so) → so ≡ true → Overflows P (point_of s) → ⊥
@@ -37,7 +37,7 @@ module _ (V H : Type 0) (m : Abstraction V H) (laws : Laws m) (set : Plan) (P : 
       (c, reaches, on, refl) in
       let here : slice_get values b.point ≡ Some v = ap (λ (n : ℕ). slice_get values n) there ∙ found in
       let is_so : AskedJudged m (dropping m) values b true j.exactness =
-      subst (λ (x : Asked). AskedJudged m (dropping m) values x true j.exactness) (sym same)
+      subst (λ (x : OpAtPoint). AskedJudged m (dropping m) values x true j.exactness) (sym same)
       (subst (λ (x : Bool). AskedJudged m (dropping m) values a x j.exactness) (fits ∙ yes_so) judged) in
       fitting_never_overflows m laws values b j.exactness v c.state here held.0 held.1 is_so stops
 

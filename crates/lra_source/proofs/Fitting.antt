@@ -13,18 +13,18 @@ use Rattle.lra_program.specs.declared.receivers.Cell.{Cell}
 use Rattle.lra_program.specs.declared.receivers.Cell.TheVariants.{Variable, Waiting}
 use Rattle.lra_program.specs.declared.receivers.Target.{Target}
 use Rattle.lra_program.specs.declared.receivers.Receiver.{Receiver}
-use Rattle.lra_program.specs.Receivers.{variable_at, behind_result}
+use Rattle.lra_program.specs.Receivers.{variable_at, result_receiver}
 use Rattle.lra_program.specs.Value.{index_of, Argument}
-use Rattle.lra_program.specs.Step.{Op, append, give, fill, give_element, give_any, keep, test, Back, arguments_for}
-use Rattle.lra_operations.specs.Graph.{Exit, broken, continued, returned, Node, empty, point, act, check, seq, choose, catch, leave}
-use Rattle.lra_operations.specs.Graph.{Arms, no_arms, entry, arm}
+use Rattle.lra_program.specs.Step.{Op, append, store_value, fill, store_element, havoc, truncate_to, test, ReturnFrame, arguments_for}
+use Rattle.lra_operations.specs.Tree.{Exit, broken, continued, returned, Node, empty, point, act, check, seq, choose, catch, leave}
+use Rattle.lra_operations.specs.Tree.{Arms, no_arms, entry, arm}
 use Rattle.lra_program.specs.Sites.{Site, sites_of}
 use Rattle.lra_program.specs.Sites as sites
-use Rattle.lra_operations.specs.Inlined.{Frame, Spot, callee, Inl, InlAll, Declares, Loops, Gives, Calls, as_nothing, as_block, as_absent, as_assign, as_call, as_if, as_loop, as_for, as_break, as_continue}
+use Rattle.lra_operations.specs.Inlined.{Frame, InlineState, callee, InlineStmt, InlineItems, InlineDeclarator, InlineLoop, InlineRvalue, InlineCall, as_nothing, as_block, as_absent, as_assign, as_call, as_if, as_loop, as_for, as_break, as_continue}
 use Rattle.lra_operations.specs.Inlined.{as_array, as_write, as_write_call, as_return, as_return_value, as_return_call, as_end, as_end_value, as_end_call, as_assert, as_assume, as_none, as_declaration, as_statement, as_fresh, as_given}
 use Rattle.lra_operations.specs.Inlined.{is_loop, as_value, as_result, is_call, callee_node, loop_node, return_node, main_frame}
-use Rattle.lra_operations.specs.Inlined.{InlCases, as_switch, as_no_cases, as_labelled, as_stated, switch_node}
-use Rattle.lra_operations.specs.Agree.{IsGraph}
+use Rattle.lra_operations.specs.Inlined.{InlineCases, as_switch, as_no_cases, as_labelled, as_stated, switch_node}
+use Rattle.lra_operations.specs.Agree.{IsInlinedTree}
 use Rattle.lra_program.specs.WellFormed.{IsLive, IsGoodRvalue, IsGoodGiven, IsGoodStmt, AreGoodCases, AreGoodItems, IsGoodFunction, IsWellFormed}
 use Rattle.lra_program.specs.WellFormed.{Jumps, no_jumps, in_loop as in_loop_jumps, in_switch}
 use Rattle.lra_agreement.proofs.Lengths.{grows_all}
@@ -38,7 +38,7 @@ use Rattle.lra_flow.specs.Room.{most_live}
 abbrev JumpFits : Frame → Exit → ℕ → Type 0
 JumpFits f broken m = f.breaks ≡ Some m
 JumpFits f continued m = f.continues ≡ Some m
-JumpFits f returned m = (b : Back) → f.back ≡ Some b → m ≡ b.length
+JumpFits f returned m = (b : ReturnFrame) → f.back ≡ Some b → m ≡ b.length
 
 -- begun with n variables the tree fits, and ends with n' of them
 pub record Fit (f : Frame) (n n' : ℕ) (g : Node) : Type 0 where
@@ -86,17 +86,17 @@ seq_fit {f = f} {n = n} {n1 = n1} {n2 = n2} a b few x y =
 keep_is : (n m : ℕ) → m ≤ n → n - (n - m) ≡ m
 keep_is n m h = omega arith
 
-keep_fit : {f : Frame} {n : ℕ} (q m : ℕ) → m ≤ n → Fit f n m (act q (keep m))
-keep_fit {n = n} q m h = act_fit q (keep m) tt (keep_is n m h)
+keep_fit : {f : Frame} {n : ℕ} (q m : ℕ) → m ≤ n → Fit f n m (act q (truncate_to m))
+keep_fit {n = n} q m h = act_fit q (truncate_to m) tt (keep_is n m h)
 
 append_fit : {f : Frame} {n : ℕ} (q : ℕ) (t : NumberType) → Few (suc n) → Fit f n (suc n) (act q (append t))
 append_fit {n = n} q t few = act_fit q (append t) (few_more n few) refl
 
-give_fit : {f : Frame} {n : ℕ} (q base : ℕ) (x : Receiver) (e : Expr) → PlaceFits x.target n → Fit f n n (act q (give base x e))
-give_fit q base x e h = act_fit q (give base x e) h refl
+give_fit : {f : Frame} {n : ℕ} (q base : ℕ) (x : Receiver) (e : Expr) → PlaceFits x.target n → Fit f n n (act q (store_value base x e))
+give_fit q base x e h = act_fit q (store_value base x e) h refl
 
-any_fit : {f : Frame} {n : ℕ} (q : ℕ) (x : Receiver) → PlaceFits x.target n → Fit f n n (act q (give_any x))
-any_fit q x h = act_fit q (give_any x) h refl
+any_fit : {f : Frame} {n : ℕ} (q : ℕ) (x : Receiver) → PlaceFits x.target n → Fit f n n (act q (havoc x))
+any_fit q x h = act_fit q (havoc x) h refl
 
 test_fit : {f : Frame} {n : ℕ} (q base : ℕ) (c : Cond) (b : Bool) → Fit f n n (act q (test base c b))
 test_fit q base c b = act_fit q (test base c b) tt refl
@@ -137,7 +137,7 @@ broken_returned e = cc
 continued_returned : continued ≡ returned → ⊥
 continued_returned e = cc
 
-back_jump : (f : Frame) (m : ℕ) → ((b : Back) → f.back ≡ Some b → m ≡ b.length) → (k : Exit) (m' : ℕ) → (k ≡ returned) × (m' ≡ m) → JumpFits f k m'
+back_jump : (f : Frame) (m : ℕ) → ((b : ReturnFrame) → f.back ≡ Some b → m ≡ b.length) → (k : Exit) (m' : ℕ) → (k ≡ returned) × (m' ≡ m) → JumpFits f k m'
 back_jump f m i broken m' j = absurd (broken_returned j.0)
 back_jump f m i continued m' j = absurd (continued_returned j.0)
 back_jump f m i returned m' j = λ b e. j.1 ∙ i b e
@@ -148,11 +148,11 @@ break_fit {f = f} {m = m} {n = n} few i = record { fits = few_is_small n few; be
 continue_fit : {f : Frame} {m n : ℕ} → Few n → f.continues ≡ Some m → Fit f m n (leave n continued)
 continue_fit {f = f} {m = m} {n = n} few i = record { fits = few_is_small n few; behind = refl; jumps = continue_jump f m i }
 
-return_fit : {f : Frame} {n : ℕ} (b : Back) → Few n → f.back ≡ Some b → Fit f b.length n (leave n returned)
+return_fit : {f : Frame} {n : ℕ} (b : ReturnFrame) → Few n → f.back ≡ Some b → Fit f b.length n (leave n returned)
 return_fit {f = f} {n = n} b few i = record {
   fits = few_is_small n few;
   behind = refl;
-  jumps = back_jump f b.length (λ c e. ap (λ (x : Back). x.length) (same_Some b c (sym i ∙ e)));
+  jumps = back_jump f b.length (λ c e. ap (λ (x : ReturnFrame). x.length) (same_Some b c (sym i ∙ e)));
 }
 
 end_fit : {f : Frame} {m n : ℕ} → Few n → f.back ≡ None → Fit f m n (leave n returned)
@@ -162,7 +162,7 @@ end_fit {f = f} {m = m} {n = n} few i = record {
   jumps = back_jump f m (λ c e. absurd (none-some c (sym i ∙ e)));
 }
 
-return_node_fit : {f : Frame} {n : ℕ} (q : ℕ) (op : Op) (b : Back) → f.back ≡ Some b → b.length ≤ n → Few n → Fit f n n (act q op) → Fit f n n (return_node q op b.length n)
+return_node_fit : {f : Frame} {n : ℕ} (q : ℕ) (op : Op) (b : ReturnFrame) → f.back ≡ Some b → b.length ≤ n → Few n → Fit f n n (act q op) → Fit f n n (return_node q op b.length n)
 return_node_fit {n = n} q op b i low few a = seq_fit _ _ few a (seq_fit _ _ (omega arith) (keep_fit q b.length low) (return_fit b few i))
 
 choose_fit : {f : Frame} {n : ℕ} (q base : ℕ) (c : Cond) (a b : Node) → Fit f n n a → Fit f n n b → Fit f n n (choose q base c a b)
@@ -239,7 +239,7 @@ module _ (f : Frame) (n r : ℕ) (x : Receiver) (gives : List Argument → Op) (
     (j : f'.back ≡ Some (record { receiver = x; here = f.here; length = n })) (low : n + params ≤ n') (few : Few n') (place : PlaceFits x.target n)
     (y : Fit f' (n + params) n' g) where
   abbrev inner : Node
-  inner = seq g (seq (point r) (seq (act r (keep (n + params))) (seq (act r (give_any x)) (act r (keep n)))))
+  inner = seq g (seq (point r) (seq (act r (truncate_to (n + params))) (seq (act r (havoc x)) (act r (truncate_to n)))))
 
   inner_fit : Fit f' (n + params) n inner
   inner_fit =
@@ -279,7 +279,7 @@ all_at P (y ∷ xs) (suc k) x h e = all_at P xs k x h.1 e
 pub record Standing (P : Program) (f : Frame) (n own : ℕ) : Type 0 where
   pub globals : length P.globals ≤ n
   pub within : f.here.base + own ≤ n
-  pub target : (b : Back) → f.back ≡ Some b → PlaceFits b.receiver.target b.length
+  pub target : (b : ReturnFrame) → f.back ≡ Some b → PlaceFits b.receiver.target b.length
 
 standing_place : (P : Program) (f : Frame) (n own : ℕ) (x : Slot) (t : NumberType) → Standing P f n own → IsLive P own x → PlaceFits
     (variable_at (index_of f.here.base x) t).target n
@@ -295,17 +295,18 @@ in_switch_too P f n own m st = record { globals = st.globals; within = st.within
 other_loop : (P : Program) (f : Frame) (n own : ℕ) (l : Option ℕ) → Standing P f n own → Standing P (in_loop f l) n own
 other_loop P f n own l st = record { globals = st.globals; within = st.within; target = st.target }
 
-own_low : {P : Program} {T : List Site} {spot : Spot} {s : BlockItems} {g : Node} {n q : ℕ} (base own : ℕ) → InlAll P T spot s g n q → base + own ≤ spot.live → base + sites.live_behind own s ≤ n
+own_low : {P : Program} {T : List Site} {spot : InlineState} {s : BlockItems} {g : Node} {n q : ℕ} (base own : ℕ) → InlineItems P T spot s g n q → base + own ≤ spot.live →
+    base + sites.live_after_items own s ≤ n
 own_low base own as_none w = w
 own_low base own (as_declaration i j e) w = own_low base (suc own) e (omega arith)
 own_low base own (as_array i e) w = own_low base own e w
 own_low base own (as_statement d e) w = own_low base own e w
 
 module _ (P : Program) (T : List Site) (few : AllFew T) (well : IsWellFormed P) where
-  loop_few : {spot : Spot} {r : ℕ} {s : Stmt} {g : Node} {q : ℕ} → Loops P T spot r s g q → Few spot.live
+  loop_few : {spot : InlineState} {r : ℕ} {s : Stmt} {g : Node} {q : ℕ} → InlineLoop P T spot r s g q → Few spot.live
   loop_few (is_loop {s = spot} i d e) = few spot.next _ i
 
-  behind_init : (f : Frame) (n n' own : ℕ) (items : BlockItems) → Standing P f n own → n ≤ n' → f.here.base + sites.live_behind own items ≤ n' → Standing P f n' (sites.live_behind own items)
+  behind_init : (f : Frame) (n n' own : ℕ) (items : BlockItems) → Standing P f n own → n ≤ n' → f.here.base + sites.live_after_items own items ≤ n' → Standing P f n' (sites.live_after_items own items)
   behind_init f n n' own items st low w = record { globals = (let g = st.globals in omega arith); within = w; target = st.target }
 
   in_callee : (f : Frame) (n own params : ℕ) (x : Receiver) (f' : Frame) → Standing P f n own → PlaceFits x.target n → f'.here.base ≡ n → f'.back ≡ Some
@@ -314,11 +315,12 @@ module _ (P : Program) (T : List Site) (few : AllFew T) (well : IsWellFormed P) 
   in_callee f n own params x f' st place base back = record {
     globals = (let g = st.globals in omega arith);
     within = omega (arith, base);
-    target = λ b e. subst (λ (c : Back). PlaceFits c.receiver.target c.length) (same_Some _ b (sym back ∙ e)) place;
+    target = λ b e. subst (λ (c : ReturnFrame). PlaceFits c.receiver.target c.length) (same_Some _ b (sym back ∙ e)) place;
   }
 
   mutual
-    fit_one : {spot : Spot} {s : Stmt} {g : Node} {q : ℕ} → Inl P T spot s g q → (l : Jumps) (own : ℕ) → Standing P spot.frame spot.live own → Few spot.live
+    fit_one : {spot : InlineState} {s : Stmt} {g : Node} {q : ℕ} → InlineStmt P T spot s g q → (l : Jumps) (own : ℕ) → Standing P spot.frame spot.live own →
+        Few spot.live
         → IsGoodStmt P l own s →
         Fit spot.frame spot.live spot.live g
     fit_one (as_nothing {s = spot} i) l own st fw good = point_fit spot.next
@@ -328,7 +330,7 @@ module _ (P : Program) (T : List Site) (few : AllFew T) (well : IsWellFormed P) 
     fit_one (as_assign {s = spot} {at = at} {x = x} i d) l own st fw good =
         seq_fit _ _ fw (point_fit spot.next) (fit_gives d at own st fw (standing_place P spot.frame spot.live own x.slot x.number_type st good.0) good.1)
     fit_one (as_write {s = spot} {x = x} {e = e} i) l own st fw good =
-        seq_fit _ _ fw (point_fit spot.next) (act_fit spot.next (give_element spot.frame.here.base x e) tt refl)
+        seq_fit _ _ fw (point_fit spot.next) (act_fit spot.next (store_element spot.frame.here.base x e) tt refl)
     fit_one (as_write_call {s = spot} {at = at} i d) l own st fw good =
         seq_fit _ _ fw (point_fit spot.next) (fit_calls d (λ es n room. (room, refl)) own st fw tt)
     fit_one (as_call {s = spot} {at = at} i d) l own st fw good = seq_fit _ _ fw (point_fit spot.next) (fit_gives d at own st fw tt good)
@@ -339,7 +341,7 @@ module _ (P : Program) (T : List Site) (few : AllFew T) (well : IsWellFormed P) 
         let fw' : Few n' = loop_few e in
         let low : spot.live ≤ n' = grows_all d in
         seq_fit _ _ fw' (fit_all d no_jumps own st fw' good.0)
-        (seq_fit _ _ fw' (fit_loop e no_jumps (sites.live_behind own init)
+        (seq_fit _ _ fw' (fit_loop e no_jumps (sites.live_after_items own init)
         (behind_init spot.frame spot.live n' own init st low (own_low spot.frame.here.base own d st.within)) (good.1, good.2, good.3))
         (keep_fit spot.next spot.live low))
     fit_one (as_break {s = spot} {m = m} i k j) l own st fw good = seq_fit _ _ fw (point_fit spot.next) (seq_fit _ _ (omega arith) (keep_fit spot.next m k) (break_fit fw i))
@@ -364,7 +366,8 @@ module _ (P : Program) (T : List Site) (few : AllFew T) (well : IsWellFormed P) 
         (switch_fit spot.frame spot.live spot.next spot.frame.here.base e arms
         (fit_cases d (in_switch l) own (in_switch_too P spot.frame spot.live own spot.live st) fw good.1))
 
-    fit_cases : {spot : Spot} {cs : Cases} {arms : Arms} {q : ℕ} → InlCases P T spot cs arms q → (l : Jumps) (own : ℕ) → Standing P spot.frame spot.live own
+    fit_cases : {spot : InlineState} {cs : Cases} {arms : Arms} {q : ℕ} → InlineCases P T spot cs arms q → (l : Jumps) (own : ℕ) →
+        Standing P spot.frame spot.live own
         → Few spot.live →
         AreGoodCases P l own cs → FitArms spot.frame spot.live arms
     fit_cases (as_no_cases {s = spot}) l own st fw good = no_arms_fit spot.frame spot.live
@@ -372,7 +375,8 @@ module _ (P : Program) (T : List Site) (few : AllFew T) (well : IsWellFormed P) 
     fit_cases (as_stated {s = spot} {g = g} {arms = arms} d e) l own st fw good =
         arm_fit spot.frame spot.live g arms (fit_one d l own st fw good.0) (fit_cases e l own st fw good.1)
 
-    fit_all : {spot : Spot} {s : BlockItems} {g : Node} {n q : ℕ} → InlAll P T spot s g n q → (l : Jumps) (own : ℕ) → Standing P spot.frame spot.live own
+    fit_all : {spot : InlineState} {s : BlockItems} {g : Node} {n q : ℕ} → InlineItems P T spot s g n q → (l : Jumps) (own : ℕ) →
+        Standing P spot.frame spot.live own
         → Few n → AreGoodItems P l own s →
         Fit spot.frame spot.live n g
     fit_all as_none l own st fw good = empty_fit
@@ -390,7 +394,8 @@ module _ (P : Program) (T : List Site) (few : AllFew T) (well : IsWellFormed P) 
         let now : Few spot.live = omega arith in
         seq_fit _ _ now (fit_one d l own st now good.0) (fit_all e l own st fw good.1)
 
-    fit_declares : {spot : Spot} {r : ℕ} {t : NumberType} {e : Option Rvalue} {g : Node} {q : ℕ} → Declares P T spot r t e g q → (at own : ℕ) → Standing P
+    fit_declares : {spot : InlineState} {r : ℕ} {t : NumberType} {e : Option Rvalue} {g : Node} {q : ℕ} → InlineDeclarator P T spot r t e g q → (at own : ℕ) →
+        Standing P
         spot.frame spot.live own → Few (suc spot.live) →
         IsGoodGiven P at (suc own) e →
         Fit spot.frame spot.live (suc spot.live) g
@@ -399,7 +404,8 @@ module _ (P : Program) (T : List Site) (few : AllFew T) (well : IsWellFormed P) 
         seq_fit _ _ fw (append_fit spot.next t fw) (fit_gives d at (suc own) (one_more P spot.frame spot.live own st) fw
         (let last : spot.live < suc spot.live = omega arith in last) good)
 
-    fit_loop : {spot : Spot} {r : ℕ} {s : Stmt} {g : Node} {q : ℕ} → Loops P T spot r s g q → (l : Jumps) (own : ℕ) → Standing P spot.frame spot.live own
+    fit_loop : {spot : InlineState} {r : ℕ} {s : Stmt} {g : Node} {q : ℕ} → InlineLoop P T spot r s g q → (l : Jumps) (own : ℕ) →
+        Standing P spot.frame spot.live own
         → IsGoodStmt P l own s →
         Fit spot.frame spot.live spot.live g
     fit_loop (is_loop {s = spot} {c = c} {g = g} {h = h} i d e) l own st good =
@@ -407,19 +413,20 @@ module _ (P : Program) (T : List Site) (few : AllFew T) (well : IsWellFormed P) 
         loop_fit spot.frame spot.live g h fw (fit_one e in_loop_jumps own (other_loop P spot.frame spot.live own (Some spot.live) st) fw good.1)
         (fit_one d no_jumps own (other_loop P spot.frame spot.live own None st) fw good.2) spot.next spot.frame.here.base c
 
-    fit_gives : {spot : Spot} {r : ℕ} {x : Receiver} {e : Rvalue} {g : Node} {q : ℕ} → Gives P T spot r x e g q → (at own : ℕ) → Standing P spot.frame
+    fit_gives : {spot : InlineState} {r : ℕ} {x : Receiver} {e : Rvalue} {g : Node} {q : ℕ} → InlineRvalue P T spot r x e g q → (at own : ℕ) →
+        Standing P spot.frame
         spot.live own → Few spot.live →
         PlaceFits x.target spot.live →
         IsGoodRvalue P at own e → Fit spot.frame spot.live spot.live g
     fit_gives (as_value {s = spot} {x = x} {e = e}) at own st fw place good = give_fit spot.next spot.frame.here.base x e place
     fit_gives (as_result d) at own st fw place good = fit_calls d (λ es n room. (room, refl)) own st fw place
 
-    fit_calls : {spot : Spot} {r : ℕ} {x : Receiver} {gives : List Argument → Op} {c : Call} {g : Node} {q : ℕ} → Calls P T spot r x gives c g q →
+    fit_calls : {spot : InlineState} {r : ℕ} {x : Receiver} {gives : List Argument → Op} {c : Call} {g : Node} {q : ℕ} → InlineCall P T spot r x gives c g q →
         AddsFitting gives → (own : ℕ) → Standing P spot.frame spot.live own → Few spot.live → PlaceFits x.target spot.live →
         Fit spot.frame spot.live spot.live g
     fit_calls (is_call {s = spot} {x = x} {gives = gives} {c = c} {fn = fn} {g = g} {n = n'} {q = r'} i j d k) adds own st fw place =
         let fw' : Few n' = few r' _ k in
-        let y = behind_result fn.result_type x in
+        let y = result_receiver fn.result_type x in
         let params = length fn.parameters in
         call_fit spot.frame spot.live r' y gives (arguments_for fn.parameters c.arguments) adds params g (callee spot.frame spot.live y c) n'
         (given_width fn.parameters c.arguments j) refl refl refl (grows_all d) fw' place
@@ -431,7 +438,7 @@ contains_at P [] x h there = absurd (contains_none x there)
 contains_at P (y ∷ xs) x h there = elim (contains_cases y x xs there) [ inl same ↦ subst P same h.0 | inr later ↦ contains_at P xs x h.1 later ]
 
 -- the tree of a well-formed program whose points each have few live variables fits the iteration
-pub tree_fits : (P : Program) (g : Node) → IsWellFormed P → AllFew (sites_of P) → IsGraph P g → TreeFits g (length P.globals)
+pub tree_fits : (P : Program) (g : Node) → IsWellFormed P → AllFew (sites_of P) → IsInlinedTree P g → TreeFits g (length P.globals)
 tree_fits P g well few graph =
     let n = length P.globals in
     let fw : Few graph.live = few graph.last _ graph.ends in
@@ -443,7 +450,7 @@ tree_fits P g well few graph =
     subst (λ (h : Node). TreeFits h n) (sym graph.parts) (seq_fit {f = main_frame P} graph.body (point graph.last) fw body (point_fit graph.last)).fits
 
 -- no more globals than variables may live
-pub few_globals : (P : Program) (g : Node) → AllFew (sites_of P) → IsGraph P g → length P.globals ≤ greatest_live
+pub few_globals : (P : Program) (g : Node) → AllFew (sites_of P) → IsInlinedTree P g → length P.globals ≤ greatest_live
 few_globals P g few graph =
     let fw : Few graph.live = few graph.last _ graph.ends in
     let low : length P.globals ≤ graph.live = grows_all graph.inlined in

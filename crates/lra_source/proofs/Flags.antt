@@ -9,14 +9,15 @@ use Rattle.lra_base.specs.declared.number_types.NumberType.{NumberType}
 use Rattle.lra_program.specs.declared.receivers.Receiver.{Receiver}
 use Rattle.lra_program.specs.Step.{Op}
 use Rattle.lra_program.specs.Value.{Argument}
-use Rattle.lra_operations.specs.declared.asides.Aside.TheVariants.{Entering, Noting}
-use Rattle.lra_operations.specs.Graph.{Exit, broken, continued, returned, Node, empty, aside, point, act, check, seq, choose, iterate, catch, leave}
-use Rattle.lra_operations.specs.Graph.{select, Arms, no_arms, entry, arm}
+use Rattle.lra_operations.specs.declared.probes.Probe.TheVariants.{InterferencePoint, RecordWrite}
+use Rattle.lra_operations.specs.Tree.{Exit, broken, continued, returned, Node, empty, probe, point, act, check, seq, choose, iterate, catch, leave}
+use Rattle.lra_operations.specs.Tree.{select, Arms, no_arms, entry, arm}
 use Rattle.lra_program.specs.Sites.{Site, sites_of}
-use Rattle.lra_operations.specs.Inlined.{Spot, move, HasSite, Inl, InlAll, Declares, Loops, Gives, as_nothing, as_block, as_absent, as_assign, as_call, as_if, as_loop, as_for, as_break, as_continue}
+use Rattle.lra_operations.specs.Inlined.{InlineState, move, IsSiteWith, InlineStmt, InlineItems, InlineDeclarator, InlineLoop, InlineRvalue, as_nothing, as_block, as_absent, as_assign, as_call, as_if}
+use Rattle.lra_operations.specs.Inlined.{as_loop, as_for, as_break, as_continue}
 use Rattle.lra_operations.specs.Inlined.{as_return, as_return_value, as_return_call, as_end, as_end_value, as_end_call, as_assert, as_assume, as_none, as_declaration, as_statement, as_fresh, as_given}
-use Rattle.lra_operations.specs.Inlined.{is_loop, as_value, as_result, is_call, Calls, as_array, as_write, as_write_call, InlCases, as_switch, as_no_cases, as_labelled, as_stated}
-use Rattle.lra_operations.specs.Agree.{IsGraph}
+use Rattle.lra_operations.specs.Inlined.{is_loop, as_value, as_result, is_call, InlineCall, as_array, as_write, as_write_call, InlineCases, as_switch, as_no_cases, as_labelled, as_stated}
+use Rattle.lra_operations.specs.Agree.{IsInlinedTree}
 use Rattle.lra_flow.specs.Plan.{Plan, Widening}
 use Rattle.lra_flow.specs.Operations.{Operations}
 use Rattle.lra_flow.specs.Pass.{Admission, nothing_admitted, Result, noted, jumps, behind, Through, GoesRound, Grows, Narrows, PassAmong, ArmsPassAmong}
@@ -32,7 +33,7 @@ IsBelow n (Some q) = q < n
 -- trees --------------------------------------------------------------------------------------------------------------
 
 module _ (P : Program) (T : List Site) where
-  site_below : (s : Spot) (at : ℕ) (b : Bool) → HasSite T s at b → s.next < length T
+  site_below : (s : InlineState) (at : ℕ) (b : Bool) → IsSiteWith T s at b → s.next < length T
   site_below s at b has = slice_get_within T s.next _ has
 
   abbrev Below : Node → Type 0
@@ -43,7 +44,7 @@ module _ (P : Program) (T : List Site) where
   LoopBelow g q = (q < length T) × Below g
 
   mutual
-    below_one : {spot : Spot} {s : Stmt} {g : Node} {q : ℕ} → Inl P T spot s g q → Below g
+    below_one : {spot : InlineState} {s : Stmt} {g : Node} {q : ℕ} → InlineStmt P T spot s g q → Below g
     below_one (as_nothing i) = tt
     below_one (as_block {s = spot} {end = end} {n = n'} {q = q'} d i) = (below_all d, (tt, site_below (move spot n' q') end _ i))
     below_one as_absent = tt
@@ -66,34 +67,35 @@ module _ (P : Program) (T : List Site) where
     below_one (as_assume {s = spot} {at = at} i) = (tt, site_below spot at _ i)
     below_one (as_switch {s = spot} {at = at} i d) = let l = site_below spot at _ i in (tt, (l, (l, below_cases d)))
 
-    below_cases : {spot : Spot} {cs : Cases} {arms : Arms} {q : ℕ} → InlCases P T spot cs arms q → ArmsAreBelow (length T) arms
+    below_cases : {spot : InlineState} {cs : Cases} {arms : Arms} {q : ℕ} → InlineCases P T spot cs arms q → ArmsAreBelow (length T) arms
     below_cases as_no_cases = tt
     below_cases (as_labelled d) = below_cases d
     below_cases (as_stated d e) = (below_one d, below_cases e)
 
-    below_all : {spot : Spot} {s : BlockItems} {g : Node} {n q : ℕ} → InlAll P T spot s g n q → Below g
+    below_all : {spot : InlineState} {s : BlockItems} {g : Node} {n q : ℕ} → InlineItems P T spot s g n q → Below g
     below_all as_none = tt
     below_all (as_declaration {s = spot} i j e) = ((tt, below_declares j (site_below spot _ _ i)), below_all e)
     below_all (as_array {s = spot} {at = at} i e) = ((tt, site_below spot at _ i), below_all e)
     below_all (as_statement d e) = (below_one d, below_all e)
 
-    below_declares : {spot : Spot} {r : ℕ} {t : NumberType} {e : Option Rvalue} {g : Node} {q : ℕ} → Declares P T spot r t e g q → spot.next < length T → Below
+    below_declares : {spot : InlineState} {r : ℕ} {t : NumberType} {e : Option Rvalue} {g : Node} {q : ℕ} → InlineDeclarator P T spot r t e g q →
+        spot.next < length T → Below
         g
     below_declares as_fresh l = l
     below_declares (as_given d) l = (l, below_gives d l)
 
-    below_loop : {spot : Spot} {r : ℕ} {s : Stmt} {g : Node} {q : ℕ} → Loops P T spot r s g q → LoopBelow g spot.next
+    below_loop : {spot : InlineState} {r : ℕ} {s : Stmt} {g : Node} {q : ℕ} → InlineLoop P T spot r s g q → LoopBelow g spot.next
     below_loop (is_loop {s = spot} {at = at} i d e) = let l = site_below spot at _ i in (l, (l, (l, ((l, below_one e), below_one d))))
 
-    below_gives : {spot : Spot} {r : ℕ} {x : Receiver} {e : Rvalue} {g : Node} {q : ℕ} → Gives P T spot r x e g q → spot.next < length T → Below g
+    below_gives : {spot : InlineState} {r : ℕ} {x : Receiver} {e : Rvalue} {g : Node} {q : ℕ} → InlineRvalue P T spot r x e g q → spot.next < length T → Below g
     below_gives as_value l = l
     below_gives (as_result d) l = below_calls d l
 
-    below_calls : {spot : Spot} {r : ℕ} {x : Receiver} {gives : List Argument → Op} {c : Call} {g : Node} {q : ℕ} → Calls P T spot r x gives c g q →
+    below_calls : {spot : InlineState} {r : ℕ} {x : Receiver} {gives : List Argument → Op} {c : Call} {g : Node} {q : ℕ} → InlineCall P T spot r x gives c g q →
         spot.next < length T → Below g
     below_calls (is_call {q = r'} i j d h) l = let m = slice_get_within T r' _ h in (l, (l, (below_all d, (tt, (m, (m, m))))))
 
-pub graph_below : (P : Program) (g : Node) → IsGraph P g → AreBelow (length (sites_of P)) g
+pub graph_below : (P : Program) (g : Node) → IsInlinedTree P g → AreBelow (length (sites_of P)) g
 graph_below P g graph = subst (λ (h : Node). AreBelow (length (sites_of P)) h) (sym graph.parts) (below_all P (sites_of P) graph.inlined, tt)
 
 -- passes -------------------------------------------------------------------------------------------------------------
@@ -138,8 +140,8 @@ module _ (V H : Type 0) (ops : Operations V H) (admission : Admission V) (n : �
   mutual
     pub pass_below : (set : Plan) (g : Node) (f : Option ℕ) (v : V) (r : Result V) → PassAmong V H ops admission set g f v r → AreBelow n g → IsBelow n f → IsBelow n r.flag
     pass_below set empty f v r is a b = result_is r _ is b
-    pass_below set (aside q Entering) f v r (w, e, done, is) a b = result_is r _ is (noted_below n q e f a b)
-    pass_below set (aside q (Noting place)) f v r is a b = result_is r _ is b
+    pass_below set (probe q InterferencePoint) f v r (w, e, done, is) a b = result_is r _ is (noted_below n q e f a b)
+    pass_below set (probe q (RecordWrite place)) f v r is a b = result_is r _ is b
     pass_below set (point q) f v r is a b = result_is r _ is b
     pass_below set (act q op) f v r (w, e, done, is) a b = result_is r _ is (noted_below n q e f a b)
     pass_below set (check q base c) f v r (u, w, d, e, off, on, is) a b = result_is r _ is (noted_below n q e (noted q d f) a (noted_below n q d f a b))

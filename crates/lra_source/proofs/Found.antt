@@ -13,10 +13,10 @@ use Rattle.lra_base.specs.declared.number_types.NumberType.{NumberType}
 use Rattle.lra_program.specs.Program.{Program}
 use Rattle.lra_program.specs.Receivers.{nobody}
 use Rattle.lra_program.specs.Sites.{Site}
-use Rattle.lra_program.specs.Step.{State, Op, give, test}
-use Rattle.lra_operations.specs.Graph.{Node, empty, aside, point, act, check, seq, choose, iterate, catch, leave}
-use Rattle.lra_operations.specs.Graph.{select, Arms, no_arms, entry, arm}
-use Rattle.lra_operations.specs.Asked.{Asked, AsksFor, asking_of, asking_in, asking_in_arms, fresh_behind}
+use Rattle.lra_program.specs.Step.{State, Op, store_value, test}
+use Rattle.lra_operations.specs.Tree.{Node, empty, probe, point, act, check, seq, choose, iterate, catch, leave}
+use Rattle.lra_operations.specs.Tree.{select, Arms, no_arms, entry, arm}
+use Rattle.lra_operations.specs.CheckedOperations.{OpAtPoint, AgreesOnOps, op_where, ops_where, ops_where_in_arms, fresh_after}
 use Rattle.lra_flow.specs.Operations.{Operations}
 use Rattle.lra_flow.specs.Pass.{noted}
 use Rattle.lra_flow.specs.Judging.{Finding, answer_of, first_flagged, Finds}
@@ -46,20 +46,20 @@ found_of {A} found q x h =
 
 module _ (asks : Op → Bool) where
   -- a tree asks of one operation at a point
-  pub one_asked_there : (Q : Op → State → Type 0) (P : Program) (g : Node) → AsksFor asks Q P g → (a b : Asked)
-      → Contains (asking_in asks None g) a → Contains (asking_in asks None g) b → a.point ≡ b.point → a ≡ b
+  pub one_asked_there : (Q : Op → State → Type 0) (P : Program) (g : Node) → AgreesOnOps asks Q P g → (a b : OpAtPoint)
+      → Contains (ops_where asks None g) a → Contains (ops_where asks None g) b → a.point ≡ b.point → a ≡ b
   one_asked_there Q P g well a b x y same =
-      let (i, at) = place_of (asking_in asks None g) a x in
-      let (j, there) = place_of (asking_in asks None g) b y in
+      let (i, at) = place_of (ops_where asks None g) a x in
+      let (j, there) = place_of (ops_where asks None g) b y in
       let e : i ≡ j = well.once i j a b at there same in
-      same_Some a b (sym at ∙ ap (λ (n : ℕ). slice_get (asking_in asks None g) n) e ∙ there)
+      same_Some a b (sym at ∙ ap (λ (n : ℕ). slice_get (ops_where asks None g) n) e ∙ there)
 
   module _ (n : ℕ) where
     -- it belongs to one of so many points, and it is asked
-    abbrev pub IsOneOf : Asked → Type 0
+    abbrev pub IsOneOf : OpAtPoint → Type 0
     IsOneOf a = (a.point < n) × IsTrue (asks a.op)
 
-    one_of : (q : ℕ) (fresh : Option NumberType) (op : Op) → q < n → (a : Asked) → Contains (asking_of asks q fresh op) a → IsOneOf a
+    one_of : (q : ℕ) (fresh : Option NumberType) (op : Op) → q < n → (a : OpAtPoint) → Contains (op_where asks q fresh op) a → IsOneOf a
     one_of q fresh op low a h = by (asks op) refl h
       where
         by : (b : Bool) → asks op ≡ b → Contains (if b then record { point = q; fresh = fresh; op = op } ∷ [] else []) a → IsOneOf a
@@ -68,37 +68,37 @@ module _ (asks : Op → Bool) where
         by false is there = absurd (contains_none a there)
 
     mutual
-      pub asked_one : (g : Node) (fresh : Option NumberType) → AreBelow n g → (a : Asked) → Contains (asking_in asks fresh g) a → IsOneOf a
+      pub asked_one : (g : Node) (fresh : Option NumberType) → AreBelow n g → (a : OpAtPoint) → Contains (ops_where asks fresh g) a → IsOneOf a
       asked_one empty fresh low a h = absurd (contains_none a h)
-      asked_one (aside here what) fresh low a h = absurd (contains_none a h)
+      asked_one (probe here what) fresh low a h = absurd (contains_none a h)
       asked_one (point q) fresh low a h = absurd (contains_none a h)
       asked_one (act q op) fresh low a h = one_of q fresh op low a h
       asked_one (check q base c) fresh low a h = one_of q None (test base c true) low a h
-      asked_one (seq x y) fresh low a h = elim (Contains-append_cases (asking_in asks fresh x) (asking_in asks (fresh_behind fresh x) y) a h) [
+      asked_one (seq x y) fresh low a h = elim (Contains-append_cases (ops_where asks fresh x) (ops_where asks (fresh_after fresh x) y) a h) [
         | inl one ↦ asked_one x fresh low.0 a one
-        | inr two ↦ asked_one y (fresh_behind fresh x) low.1 a two
+        | inr two ↦ asked_one y (fresh_after fresh x) low.1 a two
       ]
       asked_one (choose q base c x y) fresh low a h =
-          elim (Contains-append_cases (asking_of asks q None (test base c true) ++ asking_in asks None x) (asking_in asks None y) a h) [
-            | inl two ↦ elim (Contains-append_cases (asking_of asks q None (test base c true)) (asking_in asks None x) a two)
+          elim (Contains-append_cases (op_where asks q None (test base c true) ++ ops_where asks None x) (ops_where asks None y) a h) [
+            | inl two ↦ elim (Contains-append_cases (op_where asks q None (test base c true)) (ops_where asks None x) a two)
                 [ inl one ↦ one_of q None (test base c true) low.0 a one | inr on ↦ asked_one x None low.1 a on ]
             | inr off ↦ asked_one y None low.2 a off
           ]
       asked_one (iterate q base c x) fresh low a h =
-          elim (Contains-append_cases (asking_of asks q None (test base c true)) (asking_in asks None x) a h)
+          elim (Contains-append_cases (op_where asks q None (test base c true)) (ops_where asks None x) a h)
           [ inl one ↦ one_of q None (test base c true) low.0 a one | inr on ↦ asked_one x None low.1 a on ]
       asked_one (catch q k x) fresh low a h = asked_one x None low.1 a h
       asked_one (leave k j) fresh low a h = absurd (contains_none a h)
       asked_one (select q base e arms) fresh low a h =
-          elim (Contains-append_cases (asking_of asks q None (give base nobody e)) (asking_in_arms asks None arms) a h)
-          [ inl one ↦ one_of q None (give base nobody e) low.0 a one | inr on ↦ arms_one arms None low.1 a on ]
+          elim (Contains-append_cases (op_where asks q None (store_value base nobody e)) (ops_where_in_arms asks None arms) a h)
+          [ inl one ↦ one_of q None (store_value base nobody e) low.0 a one | inr on ↦ arms_one arms None low.1 a on ]
 
-      arms_one : (arms : Arms) (fresh : Option NumberType) → ArmsAreBelow n arms → (a : Asked) → Contains (asking_in_arms asks fresh arms) a → IsOneOf a
+      arms_one : (arms : Arms) (fresh : Option NumberType) → ArmsAreBelow n arms → (a : OpAtPoint) → Contains (ops_where_in_arms asks fresh arms) a → IsOneOf a
       arms_one no_arms fresh low a h = absurd (contains_none a h)
       arms_one (entry l arms) fresh low a h = arms_one arms fresh low a h
       arms_one (arm x arms) fresh low a h =
-          elim (Contains-append_cases (asking_in asks fresh x) (asking_in_arms asks (fresh_behind fresh x) arms) a h)
-          [ inl one ↦ asked_one x fresh low.0 a one | inr two ↦ arms_one arms (fresh_behind fresh x) low.1 a two ]
+          elim (Contains-append_cases (ops_where asks fresh x) (ops_where_in_arms asks (fresh_after fresh x) arms) a h)
+          [ inl one ↦ asked_one x fresh low.0 a one | inr two ↦ arms_one arms (fresh_after fresh x) low.1 a two ]
 
 -- what is found --------------------------------------------------------------------------------------------------------
 
@@ -111,7 +111,7 @@ first_none f (j ∷ js) e = noted_none j.point j.exactness f (first_none (noted 
     noted_none q e (Some p) h = h
     noted_none q e None h = refl
 
-module _ {V H A : Type 0} (ops : Operations V H) (Told : Op → V → A → Exactness → Type 0) (asked : List Asked) (values : List V) (flagged : Option ℕ)
+module _ {V H A : Type 0} (ops : Operations V H) (Told : Op → V → A → Exactness → Type 0) (asked : List OpAtPoint) (values : List V) (flagged : Option ℕ)
     (answers : List (ℕ × A)) (behind : Option ℕ) (j : Finds ops Told asked values flagged answers behind) where
   pub none_before : behind ≡ None → flagged ≡ None
   none_before none = first_none flagged j.found (sym j.flags ∙ none)
@@ -123,8 +123,8 @@ module _ {V H A : Type 0} (ops : Operations V H) (Told : Op → V → A → Exac
       omega (arith, inside, there)
 
   -- one for each point at which it is asked, in order
-  pub found_on : (is_so : ℕ → Type 0) → ((a : Asked) → Contains asked a → a.point < length values → is_so a.point)
-      → ((q : ℕ) → is_so q → (a : Asked) × Contains asked a × (a.point ≡ q)) → AreVerdictsOn is_so answers
+  pub found_on : (is_so : ℕ → Type 0) → ((a : OpAtPoint) → Contains asked a → a.point < length values → is_so a.point)
+      → ((q : ℕ) → is_so q → (a : OpAtPoint) × Contains asked a × (a.point ≡ q)) → AreVerdictsOn is_so answers
   found_on is_so so asks = record {
     of_these = λ q x h.
         let (k, among, at, same) = found_of j.found q x (subst (λ (l : List (ℕ × A)). Contains l (q, x)) j.told h) in

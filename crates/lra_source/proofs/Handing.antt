@@ -12,9 +12,9 @@ use Rattle.lra_base.specs.declared.refusals.Place.{Place}
 use Rattle.lra_domain.specs.Abstraction.{Abstraction}
 use Rattle.lra_domain.specs.Laws.{Laws}
 use Rattle.lra_program.specs.Program.{Program}
-use Rattle.lra_operations.specs.Graph.{Node}
+use Rattle.lra_operations.specs.Tree.{Node}
 use Rattle.lra_program.specs.Sites.{Site, sites_of}
-use Rattle.lra_operations.specs.Agree.{IsGraph}
+use Rattle.lra_operations.specs.Agree.{IsInlinedTree}
 use Rattle.lra_options.specs.declared.options.Domain.{Domain}
 use Rattle.lra_report.specs.Report.{Invariant}
 use Rattle.lra_report.specs.Listing.{HasWidth}
@@ -124,7 +124,7 @@ at_place Q (y ∷ ys) zero x all at = subst Q (same_Some _ _ at) all.0
 at_place Q (y ∷ ys) (suc i) x all at = at_place Q ys i x all.1 at
 
 module _ {V H : Type 0} (m : Abstraction V H) (plan : Plan) (P : Program) (g : Node) (r : Result V) (values : List V) (verdicts : List (ℕ × Bool)) (flagged : Option ℕ)
-    (graph : IsGraph P g) (derived : Derivation m plan P g r) (solves : Solves m r values verdicts flagged) where
+    (graph : IsInlinedTree P g) (derived : Derivation m plan P g r) (solves : Solves m r values verdicts flagged) where
   counts : (q : ℕ) → Found q r.entries (values_in g q) (checks_in g q)
   counts q = iteration_found V H (dropping m) q plan P g r derived
 

@@ -6,16 +6,18 @@ use Rattle.std.proofs.lemmas.Option.{none-some, slice_get_within}
 use Rattle.lra_program.specs.Program.{Call, Rvalue, Stmt, Cases, BlockItems, Program}
 use Rattle.lra_base.specs.declared.number_types.NumberType.{NumberType}
 use Rattle.lra_program.specs.declared.receivers.Receiver.{Receiver}
-use Rattle.lra_program.specs.Receivers.{behind_result}
+use Rattle.lra_program.specs.Receivers.{result_receiver}
 use Rattle.lra_program.specs.Step.{Op}
 use Rattle.lra_program.specs.Value.{Argument}
-use Rattle.lra_operations.specs.Graph.{Node, Arms, seq, point}
+use Rattle.lra_operations.specs.Tree.{Node, Arms, seq, point}
 use Rattle.lra_program.specs.Sites.{Site, sites_of}
-use Rattle.lra_operations.specs.Inlined.{Spot, spot_of, move, callee, Has, HasSite, Inl, InlAll, Declares, Loops, Gives, as_nothing, as_block, as_absent, as_assign, as_call, as_if, as_loop, as_for}
-use Rattle.lra_operations.specs.Inlined.{as_break, InlCases, as_switch, as_no_cases, as_labelled, as_stated}
+use Rattle.lra_operations.specs.Inlined.{InlineState, spot_of, move, callee, IsSiteAt, IsSiteWith, InlineStmt, InlineItems, InlineDeclarator, InlineLoop, InlineRvalue, as_nothing, as_block, as_absent}
+use Rattle.lra_operations.specs.Inlined.{as_assign, as_call, as_if, as_loop, as_for}
+use Rattle.lra_operations.specs.Inlined.{as_break, InlineCases, as_switch, as_no_cases, as_labelled, as_stated}
 use Rattle.lra_operations.specs.Inlined.{as_continue, as_return, as_return_value, as_return_call, as_end, as_end_value, as_end_call, as_assert, as_assume, as_none, as_declaration, as_statement}
-use Rattle.lra_operations.specs.Inlined.{as_fresh, as_given, is_loop, as_value, as_result, is_call, Calls, as_array, as_write, as_write_call, main_spot}
-use Rattle.lra_operations.specs.Agree.{IsGraph}
+use Rattle.lra_operations.specs.Inlined.{as_fresh, as_given, is_loop, as_value, as_result, is_call, InlineCall, as_array, as_write, as_write_call}
+use Rattle.lra_operations.specs.Inlined.{main_inline_state}
+use Rattle.lra_operations.specs.Agree.{IsInlinedTree}
 use Rattle.lra_iter.specs.Numbers.{one_if, values_in, values_in_arms, checks_in, checks_in_arms, asserts_of, IsNumbered}
 use Rattle.lra_iter.proofs.Counting.{one_same, one_other}
 
@@ -63,11 +65,11 @@ module _ (T : List Site) (k : ℕ) where
   same : (c d x y a b : ℕ) → Numbers c d a b → x ≡ c → y ≡ d → Numbers x y a b
   same c d x y a b p e f = subst (λ (z : ℕ). Numbers x z a b) (sym f) (subst (λ (z : ℕ). Numbers z d a b) (sym e) p)
 
-  asserts_there : (s : Spot) (at : ℕ) (b : Bool) → HasSite T s at b → s.next ≡ k → asserts_of (slice_get T k) ≡ cond b 1 0
+  asserts_there : (s : InlineState) (at : ℕ) (b : Bool) → IsSiteWith T s at b → s.next ≡ k → asserts_of (slice_get T k) ≡ cond b 1 0
   asserts_there s at b has e = subst (λ (j : ℕ). asserts_of (slice_get T j) ≡ cond b 1 0) e (ap asserts_of has)
 
   -- a point that is no assertion
-  plain : (s : Spot) (at : ℕ) → Has T s at → Numbers (one_if s.next k) 0 s.next (suc s.next)
+  plain : (s : InlineState) (at : ℕ) → IsSiteAt T s at → Numbers (one_if s.next k) 0 s.next (suc s.next)
   plain s at has = record {
     low = omega arith;
     values = one_counts s.next k;
@@ -75,7 +77,7 @@ module _ (T : List Site) (k : ℕ) where
   }
 
   -- and one that is
-  asserted : (s : Spot) (at : ℕ) → HasSite T s at true → Numbers (one_if s.next k) (one_if s.next k) s.next (suc s.next)
+  asserted : (s : InlineState) (at : ℕ) → IsSiteWith T s at true → Numbers (one_if s.next k) (one_if s.next k) s.next (suc s.next)
   asserted s at has = record {
     low = omega arith;
     values = one_counts s.next k;
@@ -101,7 +103,7 @@ module _ (T : List Site) (k : ℕ) where
 
   module _ (P : Program) where
     mutual
-      in_one : {spot : Spot} {s : Stmt} {g : Node} {q : ℕ} → Inl P T spot s g q → In g spot.next q
+      in_one : {spot : InlineState} {s : Stmt} {g : Node} {q : ℕ} → InlineStmt P T spot s g q → In g spot.next q
       in_one (as_nothing {s = spot} {at = at} i) = plain spot at i
       in_one (as_block {s = spot} {end = end} {g = g} {n = n'} {q = q'} d i) = then (values_in g k) (checks_in g k) (one_if q' k) 0 _ _ spot.next q' (suc q') (in_all d) (plain (move spot n' q') end i)
           (omega arith) (omega arith)
@@ -131,14 +133,14 @@ module _ (T : List Site) (k : ℕ) where
       in_one (as_switch {s = spot} {at = at} {arms = arms} {q = q'} i d) =
           point_then spot.next q' (values_in_arms arms k) (checks_in_arms arms k) _ _ (plain spot at i) (in_cases d) refl (omega arith)
 
-      in_cases : {spot : Spot} {cs : Cases} {arms : Arms} {q : ℕ} → InlCases P T spot cs arms q
+      in_cases : {spot : InlineState} {cs : Cases} {arms : Arms} {q : ℕ} → InlineCases P T spot cs arms q
           → Numbers (values_in_arms arms k) (checks_in_arms arms k) spot.next q
       in_cases (as_no_cases {s = spot}) = none spot.next
       in_cases (as_labelled d) = in_cases d
       in_cases (as_stated {s = spot} {g = g} {arms = arms} {r = r} {q = q'} d e) =
           then (values_in g k) (checks_in g k) (values_in_arms arms k) (checks_in_arms arms k) _ _ spot.next r q' (in_one d) (in_cases e) refl refl
 
-      in_all : {spot : Spot} {s : BlockItems} {g : Node} {n q : ℕ} → InlAll P T spot s g n q → In g spot.next q
+      in_all : {spot : InlineState} {s : BlockItems} {g : Node} {n q : ℕ} → InlineItems P T spot s g n q → In g spot.next q
       in_all (as_none {s = spot}) = none spot.next
       in_all (as_declaration {s = spot} {d = d} {g = g} {h = h} {r = r} {q = q'} i j e) =
           point_then spot.next q' (values_in g k + values_in h k) (checks_in g k + checks_in h k) _ _ (plain spot d.label i)
@@ -147,11 +149,11 @@ module _ (T : List Site) (k : ℕ) where
           point_then spot.next q' (values_in h k) (checks_in h k) _ _ (plain spot at i) (in_all e) (omega arith) (omega arith)
       in_all (as_statement {s = spot} {g = g} {h = h} {r = r} {q = q'} d e) = then (values_in g k) (checks_in g k) (values_in h k) (checks_in h k) _ _ spot.next r q' (in_one d) (in_all e) refl refl
 
-      in_declares : {spot : Spot} {r : ℕ} {t : NumberType} {e : Option Rvalue} {g : Node} {q : ℕ} → Declares P T spot r t e g q → In g r q
+      in_declares : {spot : InlineState} {r : ℕ} {t : NumberType} {e : Option Rvalue} {g : Node} {q : ℕ} → InlineDeclarator P T spot r t e g q → In g r q
       in_declares (as_fresh {r = r}) = none r
       in_declares (as_given {r = r} {g = g} {q = q'} d) = same (values_in g k) (checks_in g k) _ _ r q' (in_gives d) (omega arith) (omega arith)
 
-      in_loop : {spot : Spot} {r : ℕ} {s : Stmt} {g : Node} {q : ℕ} → Loops P T spot r s g q → Loop g spot.next r q
+      in_loop : {spot : InlineState} {r : ℕ} {s : Stmt} {g : Node} {q : ℕ} → InlineLoop P T spot r s g q → Loop g spot.next r q
       in_loop (is_loop {s = spot} {r = r} {at = at} {g = g} {h = h} {m = r'} {q = q'} i d e) = record {
         others = values_in g k + values_in h k;
         own = plain spot at i;
@@ -159,20 +161,21 @@ module _ (T : List Site) (k : ℕ) where
         is = refl;
       }
 
-      in_gives : {spot : Spot} {r : ℕ} {x : Receiver} {e : Rvalue} {g : Node} {q : ℕ} → Gives P T spot r x e g q → In g r q
+      in_gives : {spot : InlineState} {r : ℕ} {x : Receiver} {e : Rvalue} {g : Node} {q : ℕ} → InlineRvalue P T spot r x e g q → In g r q
       in_gives (as_value {r = r}) = none r
       in_gives (as_result d) = in_calls d
 
-      in_calls : {spot : Spot} {r : ℕ} {x : Receiver} {gives : List Argument → Op} {c : Call} {g : Node} {q : ℕ} → Calls P T spot r x gives c g q → In g r q
+      in_calls : {spot : InlineState} {r : ℕ} {x : Receiver} {gives : List Argument → Op} {c : Call} {g : Node} {q : ℕ} → InlineCall P T spot r x gives c g q →
+          In g r q
       in_calls (is_call {s = spot} {r = r} {x = x} {c = c} {fn = fn} {g = g} {n = n'} {q = r'} i j d l) =
-          then (values_in g k) (checks_in g k) (one_if r' k) 0 _ _ r r' (suc r') (in_all d) (plain (spot_of (callee spot.frame spot.live (behind_result fn.result_type x) c) n' r') fn.end l) (omega arith) (omega arith)
+          then (values_in g k) (checks_in g k) (one_if r' k) 0 _ _ r r' (suc r') (in_all d) (plain (spot_of (callee spot.frame spot.live (result_receiver fn.result_type x) c) n' r') fn.end l) (omega arith) (omega arith)
 
 past_none : {A : Type 0} (xs : List A) (k : ℕ) → slice_get xs k ≡ None → length xs ≤ k
 past_none [] k e = omega arith
 past_none (x ∷ xs) zero e = absurd (none-some x (sym e))
 past_none (x ∷ xs) (suc k) e = let h = past_none xs k e in omega (arith, h)
 
-pub numbered : (P : Program) (g : Node) → IsGraph P g → IsNumbered (sites_of P) g
+pub numbered : (P : Program) (g : Node) → IsInlinedTree P g → IsNumbered (sites_of P) g
 numbered P g graph = subst (λ (h : Node). IsNumbered (sites_of P) h) (sym graph.parts) (record {
   values = λ k s there. let n = all k in let inside = slice_get_within (sites_of P) k s there in n.values.inside (omega arith) (omega (arith, inside, graph.all));
   no_values = λ k there. let n = all k in let past = past_none (sites_of P) k there in n.values.behind (omega (arith, past, graph.all));
@@ -181,7 +184,7 @@ numbered P g graph = subst (λ (h : Node). IsNumbered (sites_of P) h) (sym graph
   where
     all : (k : ℕ) → Numbers (sites_of P) k (values_in (seq graph.body (point graph.last)) k) (checks_in (seq graph.body (point graph.last)) k) 0 (suc graph.last)
     all k = then (sites_of P) k (values_in graph.body k) (checks_in graph.body k) (one_if graph.last k) 0 _ _ 0 graph.last (suc graph.last)
-        (in_all (sites_of P) k P graph.inlined) (plain (sites_of P) k (move (main_spot P) graph.live graph.last) P.main.end graph.ends) refl refl
+        (in_all (sites_of P) k P graph.inlined) (plain (sites_of P) k (move (main_inline_state P) graph.live graph.last) P.main.end graph.ends) refl refl
 
     checked : (k : ℕ) (o : Option Site) → slice_get (sites_of P) k ≡ o → checks_in (seq graph.body (point graph.last)) k ≡ asserts_of (slice_get (sites_of P) k)
     checked k (Some s) there = let n = all k in let inside = slice_get_within (sites_of P) k s there in n.checks.inside (omega arith) (omega (arith, inside, graph.all))

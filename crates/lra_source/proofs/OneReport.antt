@@ -24,7 +24,7 @@ use Rattle.lra_tree.specs.Labels.{Labelled, labels_of}
 use Rattle.lra_tree.specs.Grammar.{Spells}
 use Rattle.lra_meaning.specs.Refuse.{OneAnswer}
 use Rattle.lra_meaning.specs.Resolve.{resolve}
-use Rattle.lra_program.specs.Accesses.{op_accesses_any, OpStrays}
+use Rattle.lra_program.specs.Accesses.{op_accesses_any, OpOutOfBounds}
 use Rattle.lra_program.specs.Overflow.{op_computes, OpOverflows}
 use Rattle.lra_program.specs.Program.{Program}
 use Rattle.lra_program.specs.Step.{Op, State}
@@ -35,8 +35,8 @@ use Rattle.lra_report.specs.declared.verdict_kinds.VerdictKind.{VerdictKind}
 use Rattle.lra_report.specs.declared.verdict_kinds.VerdictKind.TheVariants.{Assertion, Fit, Access}
 use Rattle.lra_report.specs.Listing.{AreListed, Subject, subjects, AreJudged, Lists, listed_point, listed_verdict}
 use Rattle.lra_listing.specs.Given.{Told, told, told_accesses, told_all, told_of, state_of}
-use Rattle.lra_operations.specs.Graph.{Node}
-use Rattle.lra_operations.specs.Asked.{Asked, AsksFor, AsksWell, AccessesWell, accessed_in, asking_in}
+use Rattle.lra_operations.specs.Tree.{Node}
+use Rattle.lra_operations.specs.CheckedOperations.{OpAtPoint, AgreesOnOps, AgreesOnOverflows, AgreesOnAccesses, accessing_ops, ops_where}
 use Rattle.lra_flow.specs.Operations.{defined, dropping}
 use Rattle.lra_flow.specs.Judging.{AskedTold, Finds}
 use Rattle.lra_flow.specs.Fits.{OpFits, JudgesIf}
@@ -175,11 +175,11 @@ module _ (vs us fs gs : List (ℕ × Bool)) (ones others : List (ℕ × List (Pl
 
 -- what is judged twice of the same values is one thing
 module _ {V H A : Type 0} (m : Abstraction V H) (asks : Op → Bool) (Q : Op → State → Type 0) (Told : Op → V → A → Exactness → Type 0)
-    (one_answer : (values : List V) (a : Asked) (x y : A) (e f : Exactness) → AskedTold (defined m) Told values a x e
+    (one_answer : (values : List V) (a : OpAtPoint) (x y : A) (e f : Exactness) → AskedTold (defined m) Told values a x e
     → AskedTold (defined m) Told values a y f → x ≡ y)
-    (P : Program) (g : Node) (well : AsksFor asks Q P g) (values : List V) where
-  found_once : (xs ys : List (ℕ × A)) (c d : Option ℕ) → Finds (defined m) Told (asking_in asks None g) values None xs c
-      → Finds (defined m) Told (asking_in asks None g) values None ys d → AgreeBy xs ys
+    (P : Program) (g : Node) (well : AgreesOnOps asks Q P g) (values : List V) where
+  found_once : (xs ys : List (ℕ × A)) (c d : Option ℕ) → Finds (defined m) Told (ops_where asks None g) values None xs c
+      → Finds (defined m) Told (ops_where asks None g) values None ys d → AgreeBy xs ys
   found_once xs ys c d x y q a b i j =
       let (k, among, at, is) = found_of x.found q a (subst (λ (l : List (ℕ × A)). Contains l (q, a)) x.told i) in
       let (l, also, there, same) = found_of y.found q b (subst (λ (l : List (ℕ × A)). Contains l (q, b)) y.told j) in
@@ -187,19 +187,19 @@ module _ {V H A : Type 0} (m : Abstraction V H) (asks : Op → Bool) (Q : Op →
       let (w, two, place, other) = y.is_asked l also in
       let equal : w ≡ u = one_asked_there asks Q P g well w u two one (place ∙ there ∙ sym (point ∙ at)) in
       let here : AskedTold (defined m) Told values u l.answer l.exactness =
-      subst (λ (z : Asked). AskedTold (defined m) Told values z l.answer l.exactness) equal other in
+      subst (λ (z : OpAtPoint). AskedTold (defined m) Told values z l.answer l.exactness) equal other in
       sym is ∙ one_answer values u k.answer l.answer k.exactness l.exactness judged here ∙ same
 
 module _ {V H : Type 0} (m : Abstraction V H) (laws : SingleLaws m) (P : Program) (g : Node) (values : List V) where
-  judged_same : AsksWell P g → (b : Bool) (fs gs : List (ℕ × Bool)) → JudgesIf m (defined m) b g values None fs None
+  judged_same : AgreesOnOverflows P g → (b : Bool) (fs gs : List (ℕ × Bool)) → JudgesIf m (defined m) b g values None fs None
       → JudgesIf m (defined m) b g values None gs None → AgreeBy fs gs
   judged_same well true fs gs x y = found_once m op_computes OpOverflows (OpFits m (defined m)) (one_asked m (defined m) (defined_single m laws)) P g well
       values fs gs None None x y
   judged_same well false fs gs x y = λ q a c i j. absurd (contains_none (q, a) (subst (λ (l : List (ℕ × Bool)). Contains l (q, a)) x.0 i))
 
-  accessed_same : AccessesWell P g → (ones others : List (ℕ × List (Place × Bool))) → JudgesAccesses m (defined m) g values None ones None
+  accessed_same : AgreesOnAccesses P g → (ones others : List (ℕ × List (Place × Bool))) → JudgesAccesses m (defined m) g values None ones None
       → JudgesAccesses m (defined m) g values None others None → AgreeBy ones others
-  accessed_same well ones others x y = found_once m op_accesses_any (λ op t. OpStrays op t 0) (OpInside m (defined m))
+  accessed_same well ones others x y = found_once m op_accesses_any (λ op t. OpOutOfBounds op t 0) (OpInside m (defined m))
       (one_asked_inside m (defined m) (defined_single m laws)) P g (well 0) values ones others None None x y
 
 one_flag : (f : Option ℕ) (told : Option ℕ) → told ≡ option_map suc f → told ≡ None → f ≡ None
@@ -210,7 +210,7 @@ one_flag (Some q) told is none = absurd (none-some _ (sym none ∙ is))
 module _ {V H : Type 0} (m : Abstraction V H) {shown : V → Invariant} {o : Options} {constants : List ℤ} {P : Program} {r : Report}
     (x : IsAnalysed m shown o constants P r) (none : x.last ≡ None) where
   pub unflagged_behind : x.behind ≡ None
-  unflagged_behind = none_before (dropping m) (OpInside m (dropping m)) (accessed_in None x.tree) x.values x.behind x.inside x.last x.accessed none
+  unflagged_behind = none_before (dropping m) (OpInside m (dropping m)) (accessing_ops None x.tree) x.values x.behind x.inside x.last x.accessed none
 
   pub unflagged_first : x.flagged ≡ None
   unflagged_first = unflagged_before m (dropping m) o.fits x.tree x.values x.flagged x.fitting x.behind unflagged_behind x.judged

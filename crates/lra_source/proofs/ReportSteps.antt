@@ -15,9 +15,9 @@ use Rattle.lra_program.specs.Step.{Op}
 use Rattle.lra_program.specs.declared.program.Program as declared
 use Rattle.lra_program.specs.ProgramViews.{program_view}
 use Rattle.lra_tree.specs.Trees.{FileTree}
-use Rattle.lra_operations.specs.Graph.{Node}
+use Rattle.lra_operations.specs.Tree.{Node}
 use Rattle.lra_tree.specs.Labels.{Labelled, labels_of}
-use Rattle.lra_program.specs.Sites.{Site, Event, comes, one_call_more, events_of, sites_in, sites_of}
+use Rattle.lra_program.specs.Sites.{Site, Event, comes, one_call_more, events_of, event_sites, sites_of}
 use Rattle.lra_meaning.specs.Resolve.{resolve}
 use Rattle.lra_options.specs.declared.options.Domain.{Domain}
 use Rattle.lra_options.specs.declared.options.Options.{Options}
@@ -42,8 +42,8 @@ use Rattle.lra_source.proofs.Fitting.{tree_fits, few_globals}
 use Rattle.lra_source.proofs.Numbering.{numbered}
 use Rattle.std.specs.Prelude.{All, get_or}
 use Rattle.std.proofs.lemmas.Option.{slice_get-get_or}
-use Rattle.lra_operations.specs.Agree.{IsGraph}
-use Rattle.lra_operations.specs.Asked.{AccessesWell, accessed_in, asked_in, asking_in}
+use Rattle.lra_operations.specs.Agree.{IsInlinedTree}
+use Rattle.lra_operations.specs.CheckedOperations.{AgreesOnAccesses, accessing_ops, computing_ops, ops_where}
 use Rattle.lra_flow.specs.Operations.{defined, dropping, straining}
 use Rattle.lra_flow.specs.Fits.{OpFits, JudgesIf}
 use Rattle.lra_flow.specs.Accesses.{OpInside, JudgesAccesses}
@@ -92,7 +92,8 @@ step_by true full a b rest e = let wrong : ⊥ = cc in absurd wrong
 step_by false true a b rest e = let wrong : ⊥ = cc in absurd wrong
 step_by false false a b rest e = (refl, e)
 
-pub few_behind : (ls : List Labelled) (n : ℕ) (es : List Event) → limit_fault ls n es ≡ None → n ≤ greatest_points → n + length (sites_in es) ≤ greatest_points
+pub few_behind : (ls : List Labelled) (n : ℕ) (es : List Event) → limit_fault ls n es ≡ None → n ≤ greatest_points →
+    n + length (event_sites es) ≤ greatest_points
 few_behind ls n [] e l = omega (arith, l)
 few_behind ls n (comes s ∷ es) e l =
     let (free, rest) = step_by (nat_lt greatest_live s.live) (nat_lt greatest_points (suc n)) _ _ (limit_fault ls (suc n) es) e in
@@ -126,7 +127,7 @@ canonical_there {V} dims shown domain named values listed is same are =
 
 -- what the listing asks ----------------------------------------------------------------------------------------------
 
-accesses_well : (t : FileTree) (g : Node) (sites : List Site) → HasGraph t g sites → AccessesWell (resolve t) g
+accesses_well : (t : FileTree) (g : Node) (sites : List Site) → HasGraph t g sites → AgreesOnAccesses (resolve t) g
 accesses_well t g sites has = graphs_access_well (resolve t) g (distinct_sites (resolve t) has.well) has.is_graph
 
 module _ {V H : Type 0} (m : Abstraction V H) (t : FileTree) (g : Node) (sites : List Site) (has : HasGraph t g sites) (plan : Plan)
@@ -162,19 +163,19 @@ module _ {V H : Type 0} (m : Abstraction V H) (t : FileTree) (g : Node) (sites :
       let few = has.few k s site in
       omega (arith, dims, few)
 
-  below_handed : (asks : Op → Bool) → AreBelow (length values) (asking_in asks None g)
+  below_handed : (asks : Op → Bool) → AreBelow (length values) (ops_where asks None g)
   below_handed asks a h = subst (λ (n : ℕ). a.point < n) (sym values_as_many)
       (asked_one asks (length (sites_of (resolve t))) g None (graph_below (resolve t) g has.is_graph) a h).0
 
-  pub asked_handed : AreBelow (length values) (asked_in None g)
+  pub asked_handed : AreBelow (length values) (computing_ops None g)
   asked_handed = below_handed op_computes
 
-  pub accessed_handed : AreBelow (length values) (accessed_in None g)
+  pub accessed_handed : AreBelow (length values) (accessing_ops None g)
   accessed_handed = below_handed op_accesses_any
 
   -- what the listing asks of what is judged, by whichever tree: there is one
   pub fitting_handed : (b : Bool) (fitting : List (ℕ × Bool)) (behind : Option ℕ) → JudgesIf m (dropping m) b g values flagged fitting behind
-      → (h : Node) → IsGraph (resolve t) h → AreFitting b h sites fitting
+      → (h : Node) → IsInlinedTree (resolve t) h → AreFitting b h sites fitting
   fitting_handed b fitting behind judged h also =
       subst (λ (k : Node). AreFitting b k sites fitting) (one_tree (resolve t) g h has.is_graph also) (go b judged)
     where
@@ -184,12 +185,12 @@ module _ {V H : Type 0} (m : Abstraction V H) (t : FileTree) (g : Node) (sites :
 
   pub behind_handed : (b : Bool) (fitting : List (ℕ × Bool)) (behind : Option ℕ) → JudgesIf m (dropping m) b g values flagged fitting behind
       → (q : ℕ) → behind ≡ Some q → q < length (sites_of (resolve t))
-  behind_handed true fitting behind j q is = flagged_below (dropping m) (OpFits m (dropping m)) (asked_in None g) values flagged fitting behind j
+  behind_handed true fitting behind j q is = flagged_below (dropping m) (OpFits m (dropping m)) (computing_ops None g) values flagged fitting behind j
       (length (sites_of (resolve t))) values_as_many flag_handed q is
   behind_handed false fitting behind none q is = flag_handed q (sym none.1 ∙ is)
 
   pub inside_handed : (inside : List (ℕ × List (Place × Bool))) (behind last : Option ℕ) → JudgesAccesses m (dropping m) g values behind inside last
-      → (h : Node) → IsGraph (resolve t) h → AreInside h sites inside
+      → (h : Node) → IsInlinedTree (resolve t) h → AreInside h sites inside
   inside_handed inside behind last j h also =
       subst (λ (k : Node). AreInside k sites inside) (one_tree (resolve t) g h has.is_graph also)
       (inside_on m (dropping m) g values behind inside last (accesses_well t g sites has 0).once sites (values_as_many ∙ sym (ap length has.points))
@@ -199,7 +200,7 @@ module _ {V H : Type 0} (m : Abstraction V H) (t : FileTree) (g : Node) (sites :
       → JudgesIf m (dropping m) b g values flagged fitting behind → JudgesAccesses m (dropping m) g values behind inside last
       → (q : ℕ) → last ≡ Some q → q < length (sites_of (resolve t))
   last_handed b fitting inside behind last judged j q is =
-      flagged_below (dropping m) (OpInside m (dropping m)) (accessed_in None g) values behind inside last j (length (sites_of (resolve t))) values_as_many
+      flagged_below (dropping m) (OpInside m (dropping m)) (accessing_ops None g) values behind inside last j (length (sites_of (resolve t))) values_as_many
       (behind_handed b fitting behind judged) q is
 
 -- the report ---------------------------------------------------------------------------------------------------------
@@ -270,7 +271,7 @@ is_told m shown o constants t g sites values verdicts flagged fitting behind ins
     accessed_if : last ≡ None → JudgesAccesses m (defined m) g values None inside None
     accessed_if none =
         let accessed_so = accesses_written m laws g values behind inside last none accessing in
-        let first : behind ≡ None = none_before (dropping m) (OpInside m (dropping m)) (accessed_in None g) values behind inside last accessing none in
+        let first : behind ≡ None = none_before (dropping m) (OpInside m (dropping m)) (accessing_ops None g) values behind inside last accessing none in
         subst (λ (f : Option ℕ). JudgesAccesses m (defined m) g values None inside f) none
         (subst (λ (f : Option ℕ). JudgesAccesses m (defined m) g values f inside last) first accessed_so)
 

@@ -9,13 +9,13 @@ use Rattle.lra_linear_spec.proofs.Membership.{contains_none}
 use Rattle.lra_tree.specs.Trees.{FileTree}
 use Rattle.lra_tree.specs.Grammar.{Spells}
 use Rattle.lra_base.specs.declared.refusals.Place.{Place}
-use Rattle.lra_program.specs.Accesses.{Strays}
+use Rattle.lra_program.specs.Accesses.{AccessesOutOfBounds}
 use Rattle.lra_program.specs.Overflow.{Overflows}
 use Rattle.lra_program.specs.Run.{At, Fails}
 use Rattle.lra_meaning.specs.Resolve.{resolve}
 use Rattle.lra_program.specs.Sites.{Site, sites_of}
 use Rattle.lra_operations.specs.Agree.{point_of, Agrees}
-use Rattle.lra_operations.specs.Asked.{asked_in, accessed_in}
+use Rattle.lra_operations.specs.CheckedOperations.{computing_ops, accessing_ops}
 use Rattle.lra_tree.specs.Labels.{Labelled, labels_of}
 use Rattle.lra_options.specs.declared.options.Domain.{Domain}
 use Rattle.lra_options.specs.declared.options.Options.{Options}
@@ -117,7 +117,7 @@ module _ {V H : Type 0} (m : Abstraction V H) (laws : Laws m) (shown : V → Inv
 
   -- on an access
   accessed : (q : ℕ) (s : Site) (js : List (Place × Bool)) (n : ℕ) (place : Place) → slice_get (sites_of (resolve t)) q ≡ Some s → Contains x.inside (q, js)
-      → slice_get js n ≡ Some (place, true) → Strays (resolve t) (point_of s) n → ⊥
+      → slice_get js n ≡ Some (place, true) → AccessesOutOfBounds (resolve t) (point_of s) n → ⊥
   accessed q s js n place site found inner strays =
       inside_holds V H m laws (plan_of settings constants) (resolve t) x.globals x.tree x.result x.derived agrees x.values x.verdicts x.flagged x.solves
       x.accesses x.inside x.behind x.last x.accessed q s js n place site found inner strays
@@ -222,12 +222,13 @@ module _ {V H : Type 0} (m : Abstraction V H) (laws : Laws m) (shown : V → Inv
   behind_there n is below = by settings.fits x.judged
     where
       by : (b : Bool) → JudgesIf m (dropping m) b x.tree x.values x.flagged x.fitting x.behind → IsBelow n x.behind
-      by true judges = option_below n x.behind (flagged_below (dropping m) (OpFits m (dropping m)) (asked_in None x.tree) x.values x.flagged x.fitting x.behind
+      by true judges = option_below n x.behind
+          (flagged_below (dropping m) (OpFits m (dropping m)) (computing_ops None x.tree) x.values x.flagged x.fitting x.behind
           judges n (many_there n is) (below_option n x.flagged below))
       by false none = subst (IsBelow n) (sym none.1) below
 
   last_there : (n : ℕ) → n ≡ length (sites_of (resolve t)) → IsBelow n x.behind → IsBelow n x.last
-  last_there n is below = option_below n x.last (flagged_below (dropping m) (OpInside m (dropping m)) (accessed_in None x.tree) x.values x.behind x.inside
+  last_there n is below = option_below n x.last (flagged_below (dropping m) (OpInside m (dropping m)) (accessing_ops None x.tree) x.values x.behind x.inside
       x.last x.accessed n (many_there n is) (below_option n x.behind below))
 
   flag_there : IsFlag (length r.points) r.flagged

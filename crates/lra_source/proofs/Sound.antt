@@ -8,7 +8,7 @@ use Rattle.lra_domain.specs.Laws.{Laws}
 use Rattle.lra_program.specs.Program.{Element, Program}
 use Rattle.lra_program.specs.WellFormed.{AreGoodGlobals}
 use Rattle.lra_program.specs.Run.{begun, At, Fails}
-use Rattle.lra_operations.specs.Graph.{Node}
+use Rattle.lra_operations.specs.Tree.{Node}
 use Rattle.lra_report.specs.Report.{PointReport, Verdict}
 use Rattle.lra_tree.specs.Labels.{Labelled}
 use Rattle.lra_program.specs.Sites.{Site, sites_of}

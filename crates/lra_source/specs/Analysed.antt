@@ -5,9 +5,9 @@ use Rattle.lra_base.specs.declared.refusals.Place.{Place}
 use Rattle.lra_domain.specs.Abstraction.{Abstraction}
 use Rattle.lra_program.specs.Program.{Program}
 use Rattle.lra_program.specs.WellFormed.{AreGoodGlobals}
-use Rattle.lra_operations.specs.Graph.{Node}
-use Rattle.lra_operations.specs.Agree.{IsGraph}
-use Rattle.lra_operations.specs.Asked.{AsksWell, AccessesWell}
+use Rattle.lra_operations.specs.Tree.{Node}
+use Rattle.lra_operations.specs.Agree.{IsInlinedTree}
+use Rattle.lra_operations.specs.CheckedOperations.{AgreesOnOverflows, AgreesOnAccesses}
 use Rattle.lra_report.specs.Report.{Invariant, PointReport, Report}
 use Rattle.lra_options.specs.declared.options.Options.{Options}
 use Rattle.lra_flow.specs.Plan.{plan_of}
@@ -25,11 +25,11 @@ pub record IsAnalysed {V H : Type 0} (m : Abstraction V H) (shown : V → Invari
   -- the globals begin with numbers of their types
   pub globals : AreGoodGlobals P.globals
   pub tree : Node
-  pub is_graph : IsGraph P tree
+  pub is_graph : IsInlinedTree P tree
   -- which asks at each point of the operation that can stop a run there by a number
-  pub asks : AsksWell P tree
+  pub asks : AgreesOnOverflows P tree
   -- and where an access can be outside its array
-  pub accesses : AccessesWell P tree
+  pub accesses : AgreesOnAccesses P tree
   pub result : Result V
   pub values : List V
   -- a verdict is unknown exactly where something is left of the value at which the assertion's condition is false

@@ -2,13 +2,13 @@
 use Rattle.std.specs.Prelude.{◌≡◌, ◌≤◌, ℕ, ℤ, List, length, None}
 use Rattle.lra_tree.specs.Trees.{FileTree}
 use Rattle.lra_program.specs.Program.{Program}
-use Rattle.lra_operations.specs.Graph.{Node}
+use Rattle.lra_operations.specs.Tree.{Node}
 use Rattle.lra_options.specs.declared.options.Options.{Options}
 use Rattle.lra_report.specs.Report.{Invariant, Report, IsSound}
 use Rattle.lra_report.specs.ReportText.{report_text}
 use Rattle.lra_meaning.specs.Resolve.{resolve}
 use Rattle.lra_program.specs.Sites.{sites_of}
-use Rattle.lra_operations.specs.Agree.{IsGraph, Agrees}
+use Rattle.lra_operations.specs.Agree.{IsInlinedTree, Agrees}
 use Rattle.lra_program.specs.WellFormed.{IsWellFormed}
 use Rattle.lra_tree.specs.Grammar.{Spells}
 use Rattle.lra_meaning.specs.Refuse.{Accepts}
@@ -22,11 +22,13 @@ use Rattle.lra_source.specs.Answers.{IsAnswered}
 
 -- an iteration can be made over the tree of a well-formed program
 abbrev pub TreesFit : Type 0
-TreesFit = (P : Program) (g : Node) → IsWellFormed P → AreFew (sites_of P) → IsGraph P g → TreeFits g (length P.globals)
+TreesFit = (P : Program) (g : Node) → IsWellFormed P → AreFew (sites_of P) → IsInlinedTree P g →
+    TreeFits g (length P.globals)
 
 -- the tree has each point once, each assertion once, and operations of the program's points alone
 abbrev pub TreesAreNumbered : Type 0
-TreesAreNumbered = (P : Program) (g : Node) → IsGraph P g → IsNumbered (sites_of P) g × AreBelow (length (sites_of P)) g
+TreesAreNumbered = (P : Program) (g : Node) → IsInlinedTree P g →
+    IsNumbered (sites_of P) g × AreBelow (length (sites_of P)) g
 
 -- where tree and runs agree the states hold in all runs, and no assertion that is marked proved fails
 abbrev pub AnalysedAreSound : {V H : Type 0} → Abstraction V H → Type 0

@@ -5,17 +5,17 @@ use Rattle.lra_base.specs.declared.refusals.Place.{Place}
 use Rattle.lra_domain.specs.Abstraction.{Abstraction}
 use Rattle.lra_program.specs.Program.{Program}
 use Rattle.lra_program.specs.WellFormed.{AreGoodGlobals}
-use Rattle.lra_operations.specs.Graph.{Node}
+use Rattle.lra_operations.specs.Tree.{Node}
 use Rattle.lra_program.specs.Run.{At, Fails}
 use Rattle.lra_program.specs.Sites.{Site, sites_of}
-use Rattle.lra_operations.specs.Agree.{IsGraph, point_of, Agrees}
+use Rattle.lra_operations.specs.Agree.{IsInlinedTree, point_of, Agrees}
 use Rattle.lra_flow.specs.Plan.{Plan}
 use Rattle.lra_flow.specs.Analysis.{IsUnreachable}
 use Rattle.lra_flow.specs.Operations.{dropping}
 use Rattle.lra_flow.specs.Fits.{Judges}
 use Rattle.lra_flow.specs.Accesses.{JudgesAccesses}
-use Rattle.lra_operations.specs.Asked.{AsksWell, AccessesWell}
-use Rattle.lra_program.specs.Accesses.{Strays}
+use Rattle.lra_operations.specs.CheckedOperations.{AgreesOnOverflows, AgreesOnAccesses}
+use Rattle.lra_program.specs.Accesses.{AccessesOutOfBounds}
 use Rattle.lra_program.specs.Overflow.{Overflows}
 use Rattle.lra_iter.specs.Solved.{IsSolved}
 
@@ -36,14 +36,14 @@ abbrev pub SolvedAreSound : {V H : Type 0} → Abstraction V H → Type 0
 SolvedAreSound {V} m =
     (plan : Plan) (P : Program) (tree : Node) (values : List V) (verdicts : List (ℕ × Bool))
     (flagged : Option ℕ) → IsSolved m plan P tree values verdicts flagged → AreGoodGlobals P.globals
-    → IsGraph P tree → Agrees P tree → HoldsInRuns m P values verdicts
+    → IsInlinedTree P tree → Agrees P tree → HoldsInRuns m P values verdicts
 
 -- where all that is computed at a point is judged to fit by what is found, no run stops there by a number
 abbrev pub FittingIsSound : {V H : Type 0} → Abstraction V H → Type 0
 FittingIsSound {V} m =
     (plan : Plan) (P : Program) (tree : Node) (values : List V) (verdicts fitting : List (ℕ × Bool))
     (flagged behind : Option ℕ) → IsSolved m plan P tree values verdicts flagged → AreGoodGlobals P.globals
-    → IsGraph P tree → Agrees P tree → AsksWell P tree
+    → IsInlinedTree P tree → Agrees P tree → AgreesOnOverflows P tree
     → Judges m (dropping m) tree values flagged fitting behind
     → (q : ℕ) (s : Site) → slice_get (sites_of P) q ≡ Some s → Contains fitting (q, true) → Overflows P (point_of s)
     → ⊥
@@ -54,7 +54,7 @@ AccessesAreSound {V} m =
     (plan : Plan) (P : Program) (tree : Node) (values : List V) (verdicts : List (ℕ × Bool))
     (inside : List (ℕ × List (Place × Bool))) (flagged behind last : Option ℕ)
     → IsSolved m plan P tree values verdicts flagged → AreGoodGlobals P.globals
-    → IsGraph P tree → Agrees P tree → AccessesWell P tree
+    → IsInlinedTree P tree → Agrees P tree → AgreesOnAccesses P tree
     → JudgesAccesses m (dropping m) tree values behind inside last
     → (q : ℕ) (s : Site) (js : List (Place × Bool)) (n : ℕ) (place : Place) → slice_get (sites_of P) q ≡ Some s
-    → Contains inside (q, js) → slice_get js n ≡ Some (place, true) → Strays P (point_of s) n → ⊥
+    → Contains inside (q, js) → slice_get js n ≡ Some (place, true) → AccessesOutOfBounds P (point_of s) n → ⊥

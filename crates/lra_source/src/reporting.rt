@@ -5,8 +5,8 @@ ghost use Rattle.lra_tree.specs.Views.{tree_view};
 ghost use Rattle.lra_tree.specs.Labels.{labels_of};
 ghost use Rattle.lra_meaning.specs.Resolve.{resolve};
 ghost use Rattle.lra_program.specs.ProgramViews.{program_view};
-ghost use Rattle.lra_operations.specs.GraphViews.{node_view, site_view};
-ghost use Rattle.lra_operations.specs.Asked.{accessed_in, asked_in};
+ghost use Rattle.lra_operations.specs.TreeViews.{node_view, site_view};
+ghost use Rattle.lra_operations.specs.CheckedOperations.{accessing_ops, computing_ops};
 ghost use Rattle.lra_flow.specs.Room.{most_live};
 ghost use Rattle.lra_flow.specs.Plan.{plan_of};
 ghost use Rattle.lra_flow.specs.Operations.{dropping};
@@ -40,7 +40,7 @@ fn judge_if<D: AbstractDomain>(
     flagged: Option<usize>,
 ) -> Result<Fitting, AllocError>
     requires few { All (λ v. D.abstraction.dims v < most_live) values.now }
-    requires below { AreBelow (length values.now) (asked_in None (node_view tree.now)) }
+    requires below { AreBelow (length values.now) (computing_ops None (node_view tree.now)) }
     ensures { IfOk result
         (λ f. JudgesIf D.abstraction (dropping D.abstraction) asked (node_view tree.now)
         values.now flagged f.verdicts.items f.flagged) }
@@ -72,9 +72,9 @@ fn judge_solution<D: AbstractDomain>(
 ) -> Result<Judged, AllocError>
     requires few { All (λ v. D.abstraction.dims v < most_live) solution.now.values.items }
     requires computing { AreBelow (length solution.now.values.items)
-        (asked_in None (node_view tree.now)) }
+        (computing_ops None (node_view tree.now)) }
     requires accessing { AreBelow (length solution.now.values.items)
-        (accessed_in None (node_view tree.now)) }
+        (accessing_ops None (node_view tree.now)) }
     ensures fits { IfOk result (λ j. JudgesIf D.abstraction (dropping D.abstraction) asked
         (node_view tree.now) solution.now.values.items solution.now.flagged
         j.fitting.verdicts.items j.fitting.flagged) }

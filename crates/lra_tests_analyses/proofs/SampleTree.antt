@@ -6,18 +6,18 @@ use Rattle.std.proofs.lemmas.Option.{none-some, slice_get-map, slice_get_cases, 
 use Rattle.lra_base.specs.declared.number_types.NumberType.{NumberType}
 use Rattle.lra_program.specs.Receivers.{variable_at}
 use Rattle.lra_program.specs.Program.{Expr, Cond}
-use Rattle.lra_program.specs.Step.{append, give}
-use Rattle.lra_operations.specs.Graph.{Node, point, act, check, seq, choose}
+use Rattle.lra_program.specs.Step.{append, store_value}
+use Rattle.lra_operations.specs.Tree.{Node, point, act, check, seq, choose}
 use Rattle.lra_program.specs.Sites.{Site}
-use Rattle.lra_operations.specs.declared.graph.Site as coded
-use Rattle.lra_operations.specs.GraphViews.{site_view}
+use Rattle.lra_operations.specs.declared.tree.Site as coded
+use Rattle.lra_operations.specs.TreeViews.{site_view}
 use Rattle.lra_iter.specs.Numbers.{one_if, values_in, checks_in, asserts_of, IsNumbered}
 use Rattle.lra_tests_analyses.specs.Sample.{sample_asserts}
 use Rattle.lra_iter.proofs.Counting.{one_other}
 
 abbrev pub sample_tree : NumberType → Expr → Cond → Cond → Cond → Node
 sample_tree t e c d f =
-    seq (point 0) (seq (act 0 (append t)) (seq (act 0 (give 0 (variable_at 0 t) e)) (seq (seq (point 1) (choose 1 0 c (seq (point 2) (check 2 0 d)) (seq (point 3) (check 3 0 f)))) (point 4))))
+    seq (point 0) (seq (act 0 (append t)) (seq (act 0 (store_value 0 (variable_at 0 t) e)) (seq (seq (point 1) (choose 1 0 c (seq (point 2) (check 2 0 d)) (seq (point 3) (check 3 0 f)))) (point 4))))
 
 past : (sites : List Site) (k : ℕ) → slice_get sites k ≡ None → length sites ≤ k
 past sites k none = elim (slice_get_cases sites k).1 [ inl found ↦ absurd (none-some found.0 (sym none ∙ found.2)) | inr behind ↦ behind.0 ]

@@ -5,9 +5,9 @@ use Rattle.std.proofs.lemmas.List.{length-map}
 use Rattle.std.proofs.lemmas.Option.{none-some, same_Some, slice_get-get_or}
 use Rattle.lra_linear_spec.proofs.Membership.{contains_none, contains_cases}
 use Rattle.lra_domain.specs.Abstraction.{Abstraction}
-use Rattle.lra_operations.specs.declared.graph.Site as coded
-use Rattle.lra_operations.specs.GraphViews.{site_view}
-use Rattle.lra_operations.specs.Asked.{Asked, accessed_in, asked_in}
+use Rattle.lra_operations.specs.declared.tree.Site as coded
+use Rattle.lra_operations.specs.TreeViews.{site_view}
+use Rattle.lra_operations.specs.CheckedOperations.{OpAtPoint, accessing_ops, computing_ops}
 use Rattle.lra_program.specs.Sites.{Site}
 use Rattle.lra_program.specs.Step.{Op}
 use Rattle.lra_change.specs.Changes.{OpFits}
@@ -104,21 +104,21 @@ pub as_many : {A : Type 0} (sites : List coded.Site) (values : List A) → map s
 as_many sites values are many = many ∙ sym (length-map sites site_view) ∙ ap length are
 
 -- what the judging asks: each operation that is asked has a value
-abbrev AllBelow : ℕ → List Asked → Type 0
+abbrev AllBelow : ℕ → List OpAtPoint → Type 0
 AllBelow n [] = Unit {0}
 AllBelow n (x ∷ xs) = (x.point < n) × AllBelow n xs
 
-are_below : (n : ℕ) (xs : List Asked) → AllBelow n xs → AreBelow n xs
+are_below : (n : ℕ) (xs : List OpAtPoint) → AllBelow n xs → AreBelow n xs
 are_below n [] all a h = absurd (contains_none a h)
 are_below n (x ∷ xs) all a h = elim (contains_cases x a xs h) [
-  | inl same ↦ subst (λ (y : Asked). y.point < n) same all.0
+  | inl same ↦ subst (λ (y : OpAtPoint). y.point < n) same all.0
   | inr later ↦ are_below n xs all.1 a later
 ]
 
-pub accesses_below : (n : ℕ) → n ≡ 4 → AreBelow n (accessed_in None accesses_tree)
-accesses_below n is = subst (λ (k : ℕ). AreBelow k (accessed_in None accesses_tree)) (sym is)
-    (are_below 4 (accessed_in None accesses_tree) (omega arith, (omega arith, tt)))
+pub accesses_below : (n : ℕ) → n ≡ 4 → AreBelow n (accessing_ops None accesses_tree)
+accesses_below n is = subst (λ (k : ℕ). AreBelow k (accessing_ops None accesses_tree)) (sym is)
+    (are_below 4 (accessing_ops None accesses_tree) (omega arith, (omega arith, tt)))
 
-pub steps_below : (n : ℕ) → n ≡ 4 → AreBelow n (asked_in None steps_tree)
-steps_below n is = subst (λ (k : ℕ). AreBelow k (asked_in None steps_tree)) (sym is)
-    (are_below 4 (asked_in None steps_tree) (omega arith, (omega arith, (omega arith, tt))))
+pub steps_below : (n : ℕ) → n ≡ 4 → AreBelow n (computing_ops None steps_tree)
+steps_below n is = subst (λ (k : ℕ). AreBelow k (computing_ops None steps_tree)) (sym is)
+    (are_below 4 (computing_ops None steps_tree) (omega arith, (omega arith, (omega arith, tt))))

@@ -7,16 +7,16 @@ use Rattle.lra_base.specs.Operators.{Operator, plus, minus, above, at_least, bel
 use Rattle.lra_program.specs.declared.arrays.Array.{Array}
 use Rattle.lra_program.specs.Receivers.{variable_at}
 use Rattle.lra_program.specs.Program.{local, literal, read, input, binary, element, Expr, Cond, compare, both_of}
-use Rattle.lra_program.specs.Step.{Op, append, give, give_element, test}
+use Rattle.lra_program.specs.Step.{Op, append, store_value, store_element, test}
 use Rattle.lra_program.specs.Sites.{Site}
-use Rattle.lra_operations.specs.Graph.{Node, point, act, seq}
+use Rattle.lra_operations.specs.Tree.{Node, point, act, seq}
 
 -- the operation at its point
 abbrev pub acted : ℕ → Op → Node
 acted q op = seq (point q) (act q op)
 
 abbrev pub tree_of : Op → Op → Node
-tree_of one two = seq (seq (point 0) (seq (act 0 (append Int)) (act 0 (give 0 (variable_at 0 Int) input))))
+tree_of one two = seq (seq (point 0) (seq (act 0 (append Int)) (act 0 (store_value 0 (variable_at 0 Int) input))))
     (seq (acted 1 one) (seq (acted 2 two) (point 3)))
 
 abbrev pub x : Expr
@@ -24,7 +24,7 @@ x = read (record { slot = local 0; number_type = Int })
 
 -- x = x + 1, or with another operator
 abbrev pub stepped : Operator → Op
-stepped op = give 0 (variable_at 0 Int) (binary op x (literal Int 1))
+stepped op = store_value 0 (variable_at 0 Int) (binary op x (literal Int 1))
 
 abbrev pub steps_tree : Node
 steps_tree = tree_of (stepped plus) (stepped minus)
@@ -47,7 +47,7 @@ is_inside = both_of (compare at_least x (literal Int 0)) (both_of (compare below
 
 -- a[x] = a[3]
 abbrev pub written : Op
-written = give_element 0 (record { array = a; place = place 30; index = x }) (a_at 40 (literal Int 3))
+written = store_element 0 (record { array = a; place = place 30; index = x }) (a_at 40 (literal Int 3))
 
 abbrev pub accesses_tree : Node
 accesses_tree = tree_of (test 0 is_inside true) written

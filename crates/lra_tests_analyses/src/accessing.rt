@@ -4,7 +4,7 @@
 ghost use Rattle.std.specs.Prelude.{◌≡◌, map, true, IfOk};
 ghost use Rattle.lra_program.specs.ProgramViews.{cond_view, expr_view};
 ghost use Rattle.lra_program.specs.Step.{test};
-ghost use Rattle.lra_operations.specs.GraphViews.{node_view, op_view, site_view};
+ghost use Rattle.lra_operations.specs.TreeViews.{node_view, op_view, site_view};
 ghost use Rattle.lra_tests_analyses.specs.Steps.{a, a_at, accesses_tree, is_inside, place, steps_sites, written};
 
 use crate::steps::{read_x, steps};
@@ -14,7 +14,7 @@ use lra_domain::Domain;
 use lra_inside::{Inside, judge_accesses};
 use lra_iter::{Plan, analyse};
 use lra_octagon::Octagon;
-use lra_operations::{Graph, Op};
+use lra_operations::{InlinedProgram, Op};
 use lra_program::{Array, Cond, Element, Expr};
 use std::alloc::{AllocError, Global};
 
@@ -69,11 +69,11 @@ fn write(alloc: Global) -> Result<Op, AllocError>
         place: place(30),
         index: read_x(),
     };
-    Ok(Op::GiveElement(0, element, given))
+    Ok(Op::StoreElement(0, element, given))
 }
 
 /// The tree and its points.
-fn access(alloc: Global) -> Result<Graph, AllocError>
+fn access(alloc: Global) -> Result<InlinedProgram, AllocError>
     ensures tree { IfOk result (λ g. node_view g.tree ≡ accesses_tree) }
     ensures sites { IfOk result (λ g. map site_view g.sites.items ≡ steps_sites) }
 {

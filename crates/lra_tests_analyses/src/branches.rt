@@ -2,9 +2,9 @@
 //! `x >= 1` in parentheses of ever more levels; and of the same with `int x`.
 
 ghost use Rattle.std.specs.Prelude.{◌≡◌, map, IfOk};
-ghost use Rattle.lra_operations.specs.Graph as graph;
+ghost use Rattle.lra_operations.specs.Tree as graph;
 ghost use Rattle.lra_program.specs.ProgramViews.{cond_view};
-ghost use Rattle.lra_operations.specs.GraphViews.{op_view, node_view, site_view};
+ghost use Rattle.lra_operations.specs.TreeViews.{op_view, node_view, site_view};
 ghost use Rattle.lra_outcomes.specs.Fits.{TreeFits};
 ghost use Rattle.lra_iter.specs.Numbers.{IsNumbered};
 ghost use Rattle.lra_tests_analyses.specs.Sample.{sample_asserts};
@@ -14,7 +14,7 @@ use lra_box::Boxes;
 use lra_domain::Domain;
 use lra_iter::{Plan, Solution, analyse};
 use lra_octagon::Octagon;
-use lra_operations::{Graph, Node, Op, Path, Site};
+use lra_operations::{InlinedProgram, Node, Op, Path, Site};
 use lra_program::{Cond, Expr, Receiver, Slot, Variable};
 use std::alloc::{AllocError, Global};
 
@@ -110,7 +110,11 @@ fn sites(alloc: Global) -> Result<Vec<Site>, AllocError>
 }
 
 /// The tree and its points, of an `x` of this type.
-fn sample(alloc: Global, number_type: NumberType, condition: Cond) -> Result<Graph, AllocError>
+fn sample(
+    alloc: Global,
+    number_type: NumberType,
+    condition: Cond,
+) -> Result<InlinedProgram, AllocError>
     ensures fits { IfOk result (λ g. TreeFits (node_view g.tree) 0) }
     ensures numbered { IfOk result (λ g. IsNumbered (map site_view g.sites.items) (node_view g.tree)) }
 {
@@ -119,11 +123,11 @@ fn sample(alloc: Global, number_type: NumberType, condition: Cond) -> Result<Gra
     let branches = choice(alloc, condition, yes, no)?;
     let rest = before_point(alloc, branches, 4)?;
     let receiver = Receiver::variable(0, number_type);
-    let given = behind(alloc, Op::Give(0, receiver, Expr::Input), rest)?;
+    let given = behind(alloc, Op::StoreValue(0, receiver, Expr::Input), rest)?;
     let declared = behind(alloc, Op::Append(number_type), given)?;
     let tree = behind_point(alloc, 0, declared)?;
     let sites = sites(alloc)?;
-    Ok(Graph { tree, sites })
+    Ok(InlinedProgram { tree, sites })
 }
 
 /// The rows of the value's parts over one variable, one behind the other.

@@ -2,7 +2,7 @@
 
 ghost use Rattle.std.specs.Prelude.{◌≡◌, [], map, false, IfOk};
 ghost use Rattle.lra_base.specs.OperatorViews.{operator_view};
-ghost use Rattle.lra_operations.specs.GraphViews.{node_view, op_view, site_view};
+ghost use Rattle.lra_operations.specs.TreeViews.{node_view, op_view, site_view};
 ghost use Rattle.lra_tests_analyses.specs.Steps.{steps_tree, steps_sites, stepped};
 
 use crate::steps::{read_x, steps};
@@ -12,7 +12,7 @@ use lra_domain::Domain;
 use lra_fits::{Fitting, judge};
 use lra_iter::{Plan, analyse};
 use lra_octagon::Octagon;
-use lra_operations::{Graph, Op};
+use lra_operations::{InlinedProgram, Op};
 use lra_program::{Expr, Operation, Receiver};
 use std::alloc::{AllocError, Global};
 
@@ -27,11 +27,11 @@ fn step(alloc: Global, operator: Operator) -> Result<Op, AllocError>
     })?;
     let stepped = Expr::Chain(Box::new(alloc, read_x())?, operations);
     let receiver = Receiver::variable(0, NumberType::Int);
-    Ok(Op::Give(0, receiver, stepped))
+    Ok(Op::StoreValue(0, receiver, stepped))
 }
 
 /// The tree and its points.
-fn step_both_ways(alloc: Global) -> Result<Graph, AllocError>
+fn step_both_ways(alloc: Global) -> Result<InlinedProgram, AllocError>
     ensures tree { IfOk result (λ g. node_view g.tree ≡ steps_tree) }
     ensures sites { IfOk result (λ g. map site_view g.sites.items ≡ steps_sites) }
 {

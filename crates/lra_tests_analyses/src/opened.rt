@@ -3,13 +3,13 @@
 use lra_base::NumberType;
 use lra_opened::open_tree;
 use lra_operations::forms::put_in_turn;
-use lra_operations::{Aside, Node, Op};
+use lra_operations::{Node, Op, Probe};
 use lra_program::Receiver;
 use std::alloc::{AllocError, Global};
 
 /// The variable at the place gets any value.
 fn give(place: usize) -> Node {
-    Node::Act(1, Op::GiveAny(Receiver::variable(place, NumberType::Int)))
+    Node::Act(1, Op::Havoc(Receiver::variable(place, NumberType::Int)))
 }
 
 /// A point, and then two gifts, with what others do where one variable is theirs.
@@ -27,7 +27,7 @@ fn enters_first(tree: &Node) -> bool {
     let [Node::Seq(entering, point)] = before.as_slice() else {
         return false;
     };
-    let [Node::Aside(place, Aside::Entering)] = entering.as_slice() else {
+    let [Node::Probe(place, Probe::InterferencePoint)] = entering.as_slice() else {
         return false;
     };
     *place == 1 && matches!(&**point, Node::Point(1))
@@ -44,7 +44,7 @@ fn notes_first(tree: &Node) -> bool {
     let [Node::Seq(_, noting)] = before.as_slice() else {
         return false;
     };
-    matches!(&**noting, Node::Aside(1, Aside::Noting(0)))
+    matches!(&**noting, Node::Probe(1, Probe::RecordWrite(0)))
 }
 
 #[test]

@@ -1,13 +1,13 @@
 //! `int x = input();`, two operations at points of their own, and its end.
 
 ghost use Rattle.std.specs.Prelude.{◌≡◌, map, IfOk};
-ghost use Rattle.lra_operations.specs.GraphViews.{node_view, op_view, site_view};
+ghost use Rattle.lra_operations.specs.TreeViews.{node_view, op_view, site_view};
 ghost use Rattle.lra_program.specs.ProgramViews.{expr_view};
 ghost use Rattle.lra_tests_analyses.specs.Steps.{acted, steps_sites, plain_site, tree_of, x};
 
 use lra_base::NumberType;
 use lra_operations::forms::{declare, put_in_turn, put_point};
-use lra_operations::{Graph, Node, Op, Path, Site};
+use lra_operations::{InlinedProgram, Node, Op, Path, Site};
 use lra_program::{Expr, Receiver, Slot, Variable};
 use std::alloc::{AllocError, Global};
 
@@ -53,19 +53,19 @@ fn sites(alloc: Global) -> Result<Vec<Site>, AllocError>
 }
 
 /// The tree with these operations, and its points.
-pub fn steps(alloc: Global, one: Op, two: Op) -> Result<Graph, AllocError>
+pub fn steps(alloc: Global, one: Op, two: Op) -> Result<InlinedProgram, AllocError>
     ensures tree { IfOk result (λ g. node_view g.tree ≡ tree_of (op_view one) (op_view two)) }
     ensures sites { IfOk result (λ g. map site_view g.sites.items ≡ steps_sites) }
 {
     let receiver = Receiver::variable(0, NumberType::Int);
-    let given = Node::Act(0, Op::Give(0, receiver, Expr::Input));
+    let given = Node::Act(0, Op::StoreValue(0, receiver, Expr::Input));
     let declared = declare(alloc, 0, NumberType::Int, given)?;
     let second = act(alloc, 2, two)?;
     let behind = put_in_turn(alloc, second, Node::Point(3))?;
     let first = act(alloc, 1, one)?;
     let rest = put_in_turn(alloc, first, behind)?;
     let tree = put_in_turn(alloc, declared, rest)?;
-    Ok(Graph {
+    Ok(InlinedProgram {
         tree,
         sites: sites(alloc)?,
     })

@@ -13,10 +13,10 @@ use Rattle.lra_program.specs.Program.{Program}
 use Rattle.lra_program.specs.Sites.{Site, sites_of}
 use Rattle.lra_show.specs.Part.{Part}
 use Rattle.lra_report.specs.Report.{Invariant}
-use Rattle.lra_operations.specs.Agree.{IsGraph}
-use Rattle.lra_operations.specs.Graph.{Node}
-use Rattle.lra_operations.specs.declared.graph.Site as code_site
-use Rattle.lra_operations.specs.GraphViews.{site_view}
+use Rattle.lra_operations.specs.Agree.{IsInlinedTree}
+use Rattle.lra_operations.specs.Tree.{Node}
+use Rattle.lra_operations.specs.declared.tree.Site as code_site
+use Rattle.lra_operations.specs.TreeViews.{site_view}
 use Rattle.lra_report.specs.Listing.{HasWidth}
 use Rattle.lra_listing.specs.Given.{IsAssertion, AreInvariants, AreVerdicts}
 
@@ -154,8 +154,8 @@ no_verdicts = record {
 pub sites_there : (t : FileTree) (P : Program) (given sites : List code_site.Site) → given ≡ sites → map site_view sites ≡ sites_of P → P ≡ resolve t → map site_view given ≡ sites_of (resolve t)
 sites_there t P given sites same are is = ap (map site_view) same ∙ are ∙ ap sites_of is
 
-pub graph_there : (t : FileTree) (P : Program) (g : Node) → IsGraph P g → P ≡ resolve t → (h : Node) × IsGraph (resolve t) h
-graph_there t P g graph is = (g, subst (λ (Q : Program). IsGraph Q g) is graph)
+pub graph_there : (t : FileTree) (P : Program) (g : Node) → IsInlinedTree P g → P ≡ resolve t → (h : Node) × IsInlinedTree (resolve t) h
+graph_there t P g graph is = (g, subst (λ (Q : Program). IsInlinedTree Q g) is graph)
 
 pub states_there : (ss tt : List Site) (states : List (Vec Part Global)) → ss ≡ tt → AreInvariants ss (map parts_of states) → AreInvariants tt (map parts_of states)
 states_there ss tt states same are = subst (λ (xs : List Site). AreInvariants xs (map parts_of states)) same are

@@ -4,9 +4,9 @@ use Rattle.std.specs.List.{AllByRecursion, filter, flat_map}
 use Rattle.std.proofs.lemmas.List.{map_more, take_all}
 use Rattle.lra_program.specs.Accesses.{op_accesses, op_accesses_any}
 use Rattle.lra_program.specs.Program.{Element, Program}
-use Rattle.lra_operations.specs.Asked.{Asked, accessed_in}
-use Rattle.lra_operations.specs.Agree.{IsGraph}
-use Rattle.lra_operations.specs.Graph.{Node}
+use Rattle.lra_operations.specs.CheckedOperations.{OpAtPoint, accessing_ops}
+use Rattle.lra_operations.specs.Agree.{IsInlinedTree}
+use Rattle.lra_operations.specs.Tree.{Node}
 use Rattle.std.proofs.Common.{None}
 use Rattle.lra_doings.specs.declared.doings.Done.{Done}
 use Rattle.lra_doings.specs.Doings.{done_view, done_in}
@@ -24,10 +24,10 @@ use Rattle.std.proofs.lemmas.Option.{none-some}
 use Rattle.std.specs.Prelude.{IsTrue, nat_lt}
 
 -- each of these accesses nothing
-abbrev pub AreSilent : List Asked → Type 0
-AreSilent xs = AllByRecursion (λ (a : Asked). op_accesses a.op ≡ []) xs
+abbrev pub AreSilent : List OpAtPoint → Type 0
+AreSilent xs = AllByRecursion (λ (a : OpAtPoint). op_accesses a.op ≡ []) xs
 
-silent_behind : (xs : List Asked) (a : Asked) → AreSilent xs → op_accesses a.op ≡ [] → AreSilent (xs ++ a ∷ [])
+silent_behind : (xs : List OpAtPoint) (a : OpAtPoint) → AreSilent xs → op_accesses a.op ≡ [] → AreSilent (xs ++ a ∷ [])
 silent_behind [] a h e = (e, tt)
 silent_behind (x ∷ xs) a h e = (h.0, silent_behind xs a h.1 e)
 
@@ -38,7 +38,7 @@ silent_more done d n silent inside read none =
     let more = map_more done_view done n d inside ∙ ap (λ (x : Done). map done_view (take n done) ++ done_view x ∷ []) (sym read) in
     subst AreSilent (sym more) (silent_behind (map done_view (take n done)) (done_view d) silent none)
 
-none_left : (xs : List Asked) → AreSilent xs → filter (λ (a : Asked). op_accesses_any a.op) xs ≡ []
+none_left : (xs : List OpAtPoint) → AreSilent xs → filter (λ (a : OpAtPoint). op_accesses_any a.op) xs ≡ []
 none_left [] h = refl
 none_left (x ∷ xs) h = rw (h.0, none_left xs h.1) refl
 
@@ -47,7 +47,7 @@ pub silent_tree : (g : Node) (done : List Done) (n : ℕ) → map done_view done
     → (q : ℕ) → accesses_at g q ≡ []
 silent_tree g done n all whole silent q =
     let every : AreSilent (done_in None g) = subst AreSilent (ap (map done_view) (take_all n done whole) ∙ all) silent in
-    ap (λ (xs : List Asked). flat_map (λ (a : Asked). cond (nat_eq a.point q) (op_accesses a.op) []) xs)
+    ap (λ (xs : List OpAtPoint). flat_map (λ (a : OpAtPoint). cond (nat_eq a.point q) (op_accesses a.op) []) xs)
     (asking_filtered op_accesses_any None g ∙ none_left (done_in None g) every)
 
 -- a list without an element, of which these are the views
@@ -56,10 +56,11 @@ none_listed [] ys none all = sym all
 none_listed (x ∷ xs) ys none all = absurd cc
 
 -- then so it is in each tree of the program
-pub silent_trees : (t : FileTree) (P : Program) (g : Node) → IsGraph P g → P ≡ resolve t → ((q : ℕ) → accesses_at g q ≡ []) → (h : Node) → IsGraph (resolve t) h
+pub silent_trees : (t : FileTree) (P : Program) (g : Node) → IsInlinedTree P g → P ≡ resolve t → ((q : ℕ) → accesses_at g q ≡ []) → (h : Node) →
+    IsInlinedTree (resolve t) h
     → (q : ℕ) → accesses_at h q ≡ []
 silent_trees t P g graph is none h other q = subst (λ (k : Node). accesses_at k q ≡ [])
-    (one_tree (resolve t) g h (subst (λ (Q : Program). IsGraph Q g) is graph) other) (none q)
+    (one_tree (resolve t) g h (subst (λ (Q : Program). IsInlinedTree Q g) is graph) other) (none q)
 
 never_any : (xs : List Element) → xs ≡ [] → IsTrue (nat_lt 0 (length xs)) → ⊥
 never_any [] e h = let wrong : false ≡ true = h in cc

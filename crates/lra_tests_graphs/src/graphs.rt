@@ -42,7 +42,7 @@ fn is_small(tree: &Node) -> Option<bool> {
         Node::Act(0, Op::Append(NumberType::Long))
     );
     let given = match behind_its_point(assigned, 1)? {
-        Node::Act(1, Op::Give(0, receiver, Expr::Literal(NumberType::Int, 2))) => {
+        Node::Act(1, Op::StoreValue(0, receiver, Expr::Literal(NumberType::Int, 2))) => {
             matches!(
                 &receiver.target,
                 Some(target) if target.cell == Cell::Variable(0)

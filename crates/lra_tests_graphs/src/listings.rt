@@ -6,9 +6,9 @@ ghost use Rattle.lra_tree.specs.Views.{tree_view};
 ghost use Rattle.lra_tree.specs.Labels.{labels_of};
 ghost use Rattle.lra_meaning.specs.Resolve.{resolve};
 ghost use Rattle.lra_program.specs.Sites.{sites_of};
-ghost use Rattle.lra_operations.specs.Agree.{IsGraph};
-ghost use Rattle.lra_operations.specs.Graph as graph;
-ghost use Rattle.lra_operations.specs.GraphViews.{node_view, site_view};
+ghost use Rattle.lra_operations.specs.Agree.{IsInlinedTree};
+ghost use Rattle.lra_operations.specs.Tree as graph;
+ghost use Rattle.lra_operations.specs.TreeViews.{node_view, site_view};
 ghost use Rattle.lra_report.specs.Listing.{HasWidth, accesses_at};
 ghost use Rattle.lra_listing.specs.Given.{AreInvariants, AreVerdicts};
 
@@ -112,8 +112,8 @@ fn report_of(
     requires labels { labels.now.labels ≡ labels_of (tree_view tree.now) }
     requires sites { map site_view sites.now ≡ sites_of (resolve (tree_view tree.now)) }
     requires five { length sites.now ≡ 5 }
-    requires graph { (g : graph.Node) × IsGraph (resolve (tree_view tree.now)) g }
-    requires silent { (g : graph.Node) → IsGraph (resolve (tree_view tree.now)) g →
+    requires graph { (g : graph.Node) × IsInlinedTree (resolve (tree_view tree.now)) g }
+    requires silent { (g : graph.Node) → IsInlinedTree (resolve (tree_view tree.now)) g →
         (q : ℕ) → accesses_at g q ≡ [] }
 {
     let states = states_at(alloc, sites)?;

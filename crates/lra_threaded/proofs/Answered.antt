@@ -13,10 +13,10 @@ use Rattle.lra_program.specs.Program.{Function, Program}
 use Rattle.lra_program.specs.ProgramViews.{function_or, program_view}
 use Rattle.lra_program.specs.declared.program.GlobalVariable.{GlobalVariable}
 use Rattle.lra_program.specs.declared.program.Program as declared
-use Rattle.lra_operations.specs.Agree.{IsGraph}
-use Rattle.lra_operations.specs.Graph.{Node}
-use Rattle.lra_operations.specs.GraphViews.{node_view, site_view}
-use Rattle.lra_operations.specs.declared.graph.Graph.{Graph}
+use Rattle.lra_operations.specs.Agree.{IsInlinedTree}
+use Rattle.lra_operations.specs.Tree.{Node}
+use Rattle.lra_operations.specs.TreeViews.{node_view, site_view}
+use Rattle.lra_operations.specs.declared.tree.InlinedProgram.{InlinedProgram}
 use Rattle.lra_front.specs.Stages.{HasConstants}
 use Rattle.lra_threads_front.specs.Claims.{IsAcceptedThreads, IsThreadTree}
 use Rattle.lra_threads_front.specs.Stages.{IsGraphOf, IsThreadGraph}
@@ -42,7 +42,7 @@ pub globals_seen : (t : FileTree) (p : declared.Program) (globals : List GlobalV
     → globals ≡ (shared_program t).globals
 globals_seen t p globals is same = same ∙ ap (λ (P : Program). P.globals) is
 
-module _ (source : List ℕ) (t : FileTree) (accepted : AcceptsThreads Spells source t) (graphs others : List Graph)
+module _ (source : List ℕ) (t : FileTree) (accepted : AcceptsThreads Spells source t) (graphs others : List InlinedProgram)
     (read : AllZip (IsThreadGraph t) (thread_places t) graphs) (globals : List GlobalVariable) (is : globals ≡ (shared_program t).globals)
     (opens : AllZip (IsOpened (length globals)) graphs others) where
   abbrev P : Program
@@ -52,14 +52,14 @@ module _ (source : List ℕ) (t : FileTree) (accepted : AcceptsThreads Spells so
   long = ap length is
 
   abbrev trees : List Node
-  trees = map (λ (g : Graph). node_view g.tree) graphs
+  trees = map (λ (g : InlinedProgram). node_view g.tree) graphs
 
   abbrev program : IsAcceptedThreads source
   program = record {
     tree = t;
     accepted = accepted;
     operations = trees;
-    are_graphs = zip_viewed (IsThreadGraph t) (IsThreadTree t) (λ (g : Graph). node_view g.tree) (thread_places t) graphs
+    are_graphs = zip_viewed (IsThreadGraph t) (IsThreadTree t) (λ (g : InlinedProgram). node_view g.tree) (thread_places t) graphs
         (λ place g of. (of.is_graph, of.agrees)) read;
   }
 
@@ -74,8 +74,8 @@ module _ (source : List ℕ) (t : FileTree) (accepted : AcceptsThreads Spells so
   trees_opened : AreOpened (length P.globals) trees others
   trees_opened = go graphs others opens
     where
-      go : (gs hs : List Graph) → AllZip (IsOpened (length globals)) gs hs
-          → map (λ (g : Graph). node_view g.tree) hs ≡ map (opened (length P.globals)) (map (λ (g : Graph). node_view g.tree) gs)
+      go : (gs hs : List InlinedProgram) → AllZip (IsOpened (length globals)) gs hs
+          → map (λ (g : InlinedProgram). node_view g.tree) hs ≡ map (opened (length P.globals)) (map (λ (g : InlinedProgram). node_view g.tree) gs)
       go [] [] z = refl
       go [] (h ∷ hs) z = absurd z
       go (g ∷ gs) [] z = absurd z
@@ -83,7 +83,7 @@ module _ (source : List ℕ) (t : FileTree) (accepted : AcceptsThreads Spells so
           ap₂ (λ (h : Node) (hs : List Node). h ∷ hs) (z.0.0 ∙ ap (λ (n : ℕ). opened n (node_view g.tree)) long) (go gs hs z.1)
 
   -- the own tree of the k-th
-  own_tree : (k : ℕ) (h : Graph) → slice_get others k ≡ Some h → (g : Node) × (node_view h.tree ≡ opened (length P.globals) g)
+  own_tree : (k : ℕ) (h : InlinedProgram) → slice_get others k ≡ Some h → (g : Node) × (node_view h.tree ≡ opened (length P.globals) g)
   own_tree k h there =
       let (g, here, is_opened, more) = graph_at t accepted.names accepted.within graphs others read (length globals) long opens k h there in
       (node_view g.tree, is_opened.0 ∙ ap (λ (n : ℕ). opened n (node_view g.tree)) long)
@@ -119,7 +119,7 @@ module _ (source : List ℕ) (t : FileTree) (accepted : AcceptsThreads Spells so
     flag_handed k q flagged =
         let (g, there, low) =
         flag_there plan P trees (λ j. thread_program t (thread_place t j)) graph_there end (rounds P trees (sym is) trees_opened) k q flagged in
-        let (g', here, same) = image_of (λ (x : Graph). node_view x.tree) graphs k g there in
+        let (g', here, same) = image_of (λ (x : InlinedProgram). node_view x.tree) graphs k g there in
         let (place, at, of) = zip_at (IsThreadGraph t) (thread_places t) graphs k g' read here in
         let many = (graphs_handed).count in
         let (h, own) = element_at others k (let within = slice_get_within (thread_places t) k place at in omega (arith, within, many)) in
@@ -128,12 +128,12 @@ module _ (source : List ℕ) (t : FileTree) (accepted : AcceptsThreads Spells so
         let same_points = ap length points in
         (h, own, omega (arith, low, long, same_points))
       where
-        graph_there : (j : ℕ) (g : Node) → slice_get trees j ≡ Some g → IsGraph (thread_program t (thread_place t j)) g
+        graph_there : (j : ℕ) (g : Node) → slice_get trees j ≡ Some g → IsInlinedTree (thread_program t (thread_place t j)) g
         graph_there j g there =
-            let (g', here, same) = image_of (λ (x : Graph). node_view x.tree) graphs j g there in
+            let (g', here, same) = image_of (λ (x : InlinedProgram). node_view x.tree) graphs j g there in
             let (place, at, of) = zip_at (IsThreadGraph t) (thread_places t) graphs j g' read here in
-            subst (λ (p : ℕ). IsGraph (thread_program t p) g) (sym (get_or_from_slice_get (thread_places t) j place 0 at))
-            (subst (IsGraph (thread_program t place)) same of.is_graph)
+            subst (λ (p : ℕ). IsInlinedTree (thread_program t p) g) (sym (get_or_from_slice_get (thread_places t) j place 0 at))
+            (subst (IsInlinedTree (thread_program t place)) same of.is_graph)
 
     pub answered : (delay narrow : ℕ) (constants : List ℤ) (r : ThreadsReport) → ThreadsHold → plan ≡ threads_plan delay narrow constants
         → HasConstants source constants → r.delay ≡ delay → r.narrow ≡ narrow → ShowsThreads t end r → IsThreadsOf delay narrow source r

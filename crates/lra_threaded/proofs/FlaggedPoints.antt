@@ -9,9 +9,9 @@ use Rattle.lra_box.specs.Abstraction.{box_abstraction}
 use Rattle.lra_base.specs.declared.refusals.Place.{Place}
 use Rattle.lra_program.specs.Program.{Program}
 use Rattle.lra_program.specs.Sites.{Site, sites_of}
-use Rattle.lra_operations.specs.Agree.{IsGraph}
-use Rattle.lra_operations.specs.Asked.{accessed_in}
-use Rattle.lra_operations.specs.Graph.{Node}
+use Rattle.lra_operations.specs.Agree.{IsInlinedTree}
+use Rattle.lra_operations.specs.CheckedOperations.{accessing_ops}
+use Rattle.lra_operations.specs.Tree.{Node}
 use Rattle.lra_flow.specs.Accesses.{JudgesAccesses, OpInside}
 use Rattle.lra_flow.specs.Among.{admitted}
 use Rattle.lra_flow.specs.Opened.{opened}
@@ -91,11 +91,11 @@ pub answers_low : (g : Node) (values : List BoxContent) (before : Option ℕ) (t
 answers_low g values before told flag judged v among =
     let (j, one, at, answer) = found_of judged.found v.0 v.1 (subst (λ (l : List (ℕ × List (Place × Bool))). Contains l v) judged.told among) in
     subst (λ (q : ℕ). q < length values) at
-    (point_below (dropping box_abstraction) (OpInside box_abstraction (dropping box_abstraction)) (accessed_in None g) values before told flag judged j one)
+    (point_below (dropping box_abstraction) (OpInside box_abstraction (dropping box_abstraction)) (accessing_ops None g) values before told flag judged j one)
 
 -- of one thread ------------------------------------------------------------------------------------------------------
 
-module _ (o : Interference BoxContent) (plan : Plan) (P Q : Program) (g : Node) (graph : IsGraph Q g) (f : ThreadFound) (is : IsFound o plan P g f) where
+module _ (o : Interference BoxContent) (plan : Plan) (P Q : Program) (g : Node) (graph : IsInlinedTree Q g) (f : ThreadFound) (is : IsFound o plan P g f) where
   abbrev m : ℕ
   m = length (sites_of Q)
 
@@ -170,12 +170,13 @@ module _ (o : Interference BoxContent) (plan : Plan) (P Q : Program) (g : Node) 
 
   pub thread_flag : (q : ℕ) → flag_of_thread f ≡ Some q → q < m
   thread_flag q flagged =
-      flagged_below (dropping box_abstraction) (OpInside box_abstraction (dropping box_abstraction)) (accessed_in None g) (values_of f) f.noted.solution.flagged
+      flagged_below (dropping box_abstraction) (OpInside box_abstraction (dropping box_abstraction)) (accessing_ops None g) (values_of f)
+      f.noted.solution.flagged
       (told_in f)
       (flag_of_thread f) is.accessed m many iteration_flag q flagged
 
 -- of all threads, whose trees these are
-pub flag_there : (plan : Plan) (P : Program) (trees : List Node) (programs : ℕ → Program) → ((k : ℕ) (g : Node) → slice_get trees k ≡ Some g → IsGraph (programs k) g)
+pub flag_there : (plan : Plan) (P : Program) (trees : List Node) (programs : ℕ → Program) → ((k : ℕ) (g : Node) → slice_get trees k ≡ Some g → IsInlinedTree (programs k) g)
     → (end : Settled ThreadFound) → AllRounds thread_finding (length P.globals) (IsFoundOf plan P trees) (length trees) end
     → (k q : ℕ) → end.flag ≡ Some (k, q) → (g : Node) × (slice_get trees k ≡ Some g) × (q < length (sites_of (programs k)))
 flag_there plan P trees programs graphs end rounds k q is =

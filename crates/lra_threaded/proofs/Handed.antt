@@ -9,9 +9,9 @@ use Rattle.lra_program.specs.Assertions.{assertions_from}
 use Rattle.lra_program.specs.Program.{Program}
 use Rattle.lra_program.specs.Sites.{Site}
 use Rattle.lra_program.specs.declared.program.GlobalVariable.{GlobalVariable}
-use Rattle.lra_operations.specs.Graph.{Node}
-use Rattle.lra_operations.specs.GraphViews.{node_view, site_view}
-use Rattle.lra_operations.specs.declared.graph.Graph.{Graph}
+use Rattle.lra_operations.specs.Tree.{Node}
+use Rattle.lra_operations.specs.TreeViews.{node_view, site_view}
+use Rattle.lra_operations.specs.declared.tree.InlinedProgram.{InlinedProgram}
 use Rattle.lra_linear_spec.proofs.Membership.{contains_head, contains_tail}
 use Rattle.lra_flow.specs.Opened.{opened}
 use Rattle.lra_inside.specs.Inside.{told_view}
@@ -37,7 +37,8 @@ each_among : {A : Type 0} (P : A → Type 0) (xs : List A) → ((x : A) → Cont
 each_among P [] each = tt
 each_among P (x ∷ xs) each = (each x (contains_head x xs), each_among P xs (λ y among. each y (contains_tail x y xs among)))
 
-pub of_graph : (P : Program) (k : ℕ) (graph : Graph) (g : Node) (end : Settled ThreadFound) (h : HoldsInRound P k graph g end) → IsOfGraph graph h.found
+pub of_graph : (P : Program) (k : ℕ) (graph : InlinedProgram) (g : Node) (end : Settled ThreadFound) (h : HoldsInRound P k graph g end) →
+    IsOfGraph graph h.found
 of_graph P k graph g end h =
     let long : length (sites_in graph) ≡ points_in graph = length-map graph.sites.items site_view in
     let (before, judged) = h.inside in
@@ -58,8 +59,8 @@ of_graph P k graph g end h =
     }
 
 -- of each thread; its own tree is one of these
-pub of_graphs : (P : Program) (globals : List GlobalVariable) (graphs : List Graph) (end : Settled ThreadFound) → P.globals ≡ globals
-    → ((k : ℕ) (h : Graph) → slice_get graphs k ≡ Some h → (g : Node) × (node_view h.tree ≡ opened (length P.globals) g))
+pub of_graphs : (P : Program) (globals : List GlobalVariable) (graphs : List InlinedProgram) (end : Settled ThreadFound) → P.globals ≡ globals
+    → ((k : ℕ) (h : InlinedProgram) → slice_get graphs k ≡ Some h → (g : Node) × (node_view h.tree ≡ opened (length P.globals) g))
     → AllHold globals graphs end → AreOfGraphs graphs end.found
 of_graphs P globals graphs end is own holds = record {
   count = holds.count;

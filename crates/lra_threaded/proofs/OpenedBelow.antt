@@ -1,11 +1,11 @@
 -- In a tree with what others do, whose points are numbered below m, each operation belongs to such a point.
 use Rattle.std.proofs.Common.{◌≡◌, ◌≤◌, ◌<◌, ◌+◌, ℕ, Bool, true, false, inl, inr, arith}
 use Rattle.std.specs.Prelude.{Option, None, Some, nat_lt, if◌then◌else◌}
-use Rattle.lra_program.specs.Gifts.{gift_of}
+use Rattle.lra_program.specs.WrittenVariables.{written_variable}
 use Rattle.lra_program.specs.Step.{Op}
-use Rattle.lra_operations.specs.declared.asides.Aside.TheVariants.{Noting}
-use Rattle.lra_operations.specs.Graph.{Node, empty, aside, point, act, check, seq, choose, iterate, catch, leave}
-use Rattle.lra_operations.specs.Graph.{select, Arms, no_arms, entry, arm}
+use Rattle.lra_operations.specs.declared.probes.Probe.TheVariants.{RecordWrite}
+use Rattle.lra_operations.specs.Tree.{Node, empty, probe, point, act, check, seq, choose, iterate, catch, leave}
+use Rattle.lra_operations.specs.Tree.{select, Arms, no_arms, entry, arm}
 use Rattle.lra_flow.specs.Opened.{noting_of, opened, opened_arms}
 use Rattle.lra_iter.specs.Numbers.{ArmsAreBelow, AreBelow, values_in, values_in_arms}
 use Rattle.std.proofs.lemmas.Bool.{cases_lt}
@@ -18,7 +18,7 @@ module _ (m : ℕ) where
   abbrev NoArmsValues : Arms → Type 0
   NoArmsValues arms = (q : ℕ) → m ≤ q → values_in_arms arms q ≡ 0
 
-  below_if : (t : Bool) (q place : ℕ) (op : Op) → q < m → AreBelow m (if t then seq (act q op) (aside q (Noting place)) else act q op)
+  below_if : (t : Bool) (q place : ℕ) (op : Op) → q < m → AreBelow m (if t then seq (act q op) (probe q (RecordWrite place)) else act q op)
   below_if true q place op low = (low, low)
   below_if false q place op low = low
 
@@ -39,8 +39,8 @@ module _ (m : ℕ) where
     pub opened_below : (n : ℕ) (g : Node) → NoValues g → AreBelow m g → AreBelow m (opened n g)
     opened_below n empty none low = tt
     opened_below n (point q) none low = (point_low q none, tt)
-    opened_below n (aside q what) none low = low
-    opened_below n (act q op) none low = below_noted n q (gift_of op) op low
+    opened_below n (probe q what) none low = low
+    opened_below n (act q op) none low = below_noted n q (written_variable op) op low
     opened_below n (check q base c) none low = low
     opened_below n (seq a b) none low = (opened_below n a (left a b none) low.0, opened_below n b (right a b none) low.1)
     opened_below n (choose q base c a b) none low = (low.0, opened_below n a (left a b none) low.1, opened_below n b (right a b none) low.2)

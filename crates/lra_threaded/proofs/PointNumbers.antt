@@ -9,8 +9,8 @@ use Rattle.lra_tree.specs.Trees.{FileTree}
 use Rattle.lra_meaning.specs.Refuse.{greatest_points}
 use Rattle.lra_meaning.specs.Threads.{thread_places, thread_program}
 use Rattle.lra_program.specs.Sites.{sites_of}
-use Rattle.lra_operations.specs.GraphViews.{site_view}
-use Rattle.lra_operations.specs.declared.graph.Graph.{Graph}
+use Rattle.lra_operations.specs.TreeViews.{site_view}
+use Rattle.lra_operations.specs.declared.tree.InlinedProgram.{InlinedProgram}
 use Rattle.lra_threaded.specs.Stages.{AreGraphsOf, points_in}
 use Rattle.lra_threaded.specs.Listed.{number_in, points_before, thread_place}
 
@@ -30,18 +30,18 @@ same_sums f h (x ∷ xs) (y ∷ ys) long same (suc n) =
     omega (arith, one, two, first, rest)
 
 -- with all of a thread's points behind those of the threads before it
-pub sum_before : (graphs : List Graph) (k : ℕ) (graph : Graph) → slice_get graphs k ≡ Some graph
+pub sum_before : (graphs : List InlinedProgram) (k : ℕ) (graph : InlinedProgram) → slice_get graphs k ≡ Some graph
     → sum_by points_in (take k graphs) + points_in graph ≤ sum_by points_in graphs
 sum_before graphs k graph there =
-    subst (λ (g : Graph). sum_by points_in (take k graphs) + points_in g ≤ sum_by points_in graphs)
+    subst (λ (g : InlinedProgram). sum_by points_in (take k graphs) + points_in g ≤ sum_by points_in graphs)
     (get_or_from_slice_get graphs k graph graph there)
     (sum_by_more_le points_in graphs k graph (slice_get_within graphs k graph there))
 
-module _ (t : FileTree) (graphs : List Graph) (are : AreGraphsOf t graphs) where
+module _ (t : FileTree) (graphs : List InlinedProgram) (are : AreGraphsOf t graphs) where
   place_at : (k place : ℕ) → slice_get (thread_places t) k ≡ Some place → thread_place t k ≡ place
   place_at k place there = get_or_from_slice_get (thread_places t) k place 0 there
 
-  points_at : (k : ℕ) (graph : Graph) (place : ℕ) → slice_get graphs k ≡ Some graph → slice_get (thread_places t) k ≡ Some place
+  points_at : (k : ℕ) (graph : InlinedProgram) (place : ℕ) → slice_get graphs k ≡ Some graph → slice_get (thread_places t) k ≡ Some place
       → points_in graph ≡ length (sites_of (thread_program t place))
   points_at k graph place one two =
       sym (length-map graph.sites.items site_view) ∙ ap length (are.sites k graph one)
@@ -50,7 +50,7 @@ module _ (t : FileTree) (graphs : List Graph) (are : AreGraphsOf t graphs) where
   pub before_same : (k : ℕ) → sum_by points_in (take k graphs) ≡ points_before t k
   before_same = same_sums points_in (λ place. length (sites_of (thread_program t place))) graphs (thread_places t) are.count points_at
 
-  pub few_points : (k : ℕ) (graph : Graph) → slice_get graphs k ≡ Some graph → sum_by points_in (take k graphs) + points_in graph ≤ greatest_points
+  pub few_points : (k : ℕ) (graph : InlinedProgram) → slice_get graphs k ≡ Some graph → sum_by points_in (take k graphs) + points_in graph ≤ greatest_points
   few_points k graph there =
       let one = sum_before graphs k graph there in
       let all = are.few in

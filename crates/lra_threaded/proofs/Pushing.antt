@@ -16,7 +16,7 @@ use Rattle.lra_report.specs.declared.verdict_kinds.VerdictKind.TheVariants.{Asse
 use Rattle.lra_tree.specs.Labels.{Labelled, labels_of}
 use Rattle.lra_tree.specs.Trees.{FileTree}
 use Rattle.lra_meaning.specs.LiveNames.{globals_named}
-use Rattle.lra_operations.specs.declared.graph.Graph.{Graph}
+use Rattle.lra_operations.specs.declared.tree.InlinedProgram.{InlinedProgram}
 use Rattle.lra_iter.specs.Lives.{AreWide}
 use Rattle.lra_listing.specs.Given.{AreInvariants, accesses_told, state_of, verdict_at}
 use Rattle.lra_listing.specs.Views.{told_view}
@@ -112,35 +112,36 @@ pub if_ok : {X E : Type 0} (A B : X → Type 0) → ((x : X) → A x → B x) �
 if_ok A B so (Ok x) a = so x a
 if_ok A B so (Err e) a = tt
 
-module _ (t : FileTree) (graphs : List Graph) (are : AreGraphsOf t graphs) (k : ℕ) (graph : Graph) (there : slice_get graphs k ≡ Some graph) where
-  -- the points of a thread as they are listed alone
-  pub listed_alone : (found : ThreadFound) (names : List (List ℕ)) (ls : List Labelled) (sites : List Site) (points : List PointReport) (states : List Invariant)
-      → names ≡ globals_named t.parts → ls ≡ labels_of t → sites ≡ sites_in graph → AreListed names ls 1 sites points → map state_of points ≡ states
-      → states ≡ map (shown_state box_abstraction) (values_of found) → AreShown box_abstraction Box (shown_state box_abstraction) (values_of found)
-      → AreListedAlone t k found points
-  listed_alone found names ls sites points states named labelled same listed stated shown are_shown = record {
-    listed = subst (λ (ss : List Site). AreListed (globals_named t.parts) (labels_of t) 1 ss points) (same ∙ are.sites k graph there)
-        (subst (λ (l : List Labelled). AreListed (globals_named t.parts) l 1 sites points) labelled
-        (subst (λ (ns : List (List ℕ)). AreListed ns ls 1 sites points) named listed));
-    states = stated ∙ shown;
-    are_shown = are_shown;
-  }
+module _ (t : FileTree) (graphs : List InlinedProgram) (are : AreGraphsOf t graphs) (k : ℕ) (graph : InlinedProgram) (there : slice_get graphs k ≡ Some graph)
+  where
+    -- the points of a thread as they are listed alone
+    pub listed_alone : (found : ThreadFound) (names : List (List ℕ)) (ls : List Labelled) (sites : List Site) (points : List PointReport) (states : List Invariant)
+        → names ≡ globals_named t.parts → ls ≡ labels_of t → sites ≡ sites_in graph → AreListed names ls 1 sites points → map state_of points ≡ states
+        → states ≡ map (shown_state box_abstraction) (values_of found) → AreShown box_abstraction Box (shown_state box_abstraction) (values_of found)
+        → AreListedAlone t k found points
+    listed_alone found names ls sites points states named labelled same listed stated shown are_shown = record {
+      listed = subst (λ (ss : List Site). AreListed (globals_named t.parts) (labels_of t) 1 ss points) (same ∙ are.sites k graph there)
+          (subst (λ (l : List Labelled). AreListed (globals_named t.parts) l 1 sites points) labelled
+          (subst (λ (ns : List (List ℕ)). AreListed ns ls 1 sites points) named listed));
+      states = stated ∙ shown;
+      are_shown = are_shown;
+    }
 
-  -- a number and a path alone can stand behind those before
-  pub room : (before n : ℕ) → before ≡ sum_by points_in (take k graphs) → n ≡ points_in graph → before + n < 2 ^ 32
-  room before n is many = let few = few_points t graphs are k graph there in omega (arith, is, many, few)
+    -- a number and a path alone can stand behind those before
+    pub room : (before n : ℕ) → before ≡ sum_by points_in (take k graphs) → n ≡ points_in graph → before + n < 2 ^ 32
+    room before n is many = let few = few_points t graphs are k graph there in omega (arith, is, many, few)
 
-  pub verdicts_alone : (ls : List Labelled) (sites : List Site) (found : Found) → ls ≡ labels_of t → sites ≡ sites_in graph
-      → map (verdict_at ls sites Assertion) found.assertions.now ++ (map (verdict_at ls sites Fit) found.fitting.now ++
-      flat_map (accesses_told ls sites) (map told_view found.inside.now)) ≡ judged_alone t k found
-  verdicts_alone ls sites found labelled same =
-      ap (λ (l : List Labelled). map (verdict_at l sites Assertion) found.assertions.now ++ (map (verdict_at l sites Fit) found.fitting.now ++
-      flat_map (accesses_told l sites) (map told_view found.inside.now))) labelled
-      ∙ ap (λ (ss : List Site). map (verdict_at (labels_of t) ss Assertion) found.assertions.now ++ (map (verdict_at (labels_of t) ss Fit) found.fitting.now ++
-      flat_map (accesses_told (labels_of t) ss) (map told_view found.inside.now))) (same ∙ are.sites k graph there)
+    pub verdicts_alone : (ls : List Labelled) (sites : List Site) (found : Found) → ls ≡ labels_of t → sites ≡ sites_in graph
+        → map (verdict_at ls sites Assertion) found.assertions.now ++ (map (verdict_at ls sites Fit) found.fitting.now ++
+        flat_map (accesses_told ls sites) (map told_view found.inside.now)) ≡ judged_alone t k found
+    verdicts_alone ls sites found labelled same =
+        ap (λ (l : List Labelled). map (verdict_at l sites Assertion) found.assertions.now ++ (map (verdict_at l sites Fit) found.fitting.now ++
+        flat_map (accesses_told l sites) (map told_view found.inside.now))) labelled
+        ∙ ap (λ (ss : List Site). map (verdict_at (labels_of t) ss Assertion) found.assertions.now ++ (map (verdict_at (labels_of t) ss Fit) found.fitting.now ++
+        flat_map (accesses_told (labels_of t) ss) (map told_view found.inside.now))) (same ∙ are.sites k graph there)
 
 -- behind the points of the threads before
-pub turned : {A : Type 0} (t : FileTree) (graphs : List Graph) (are : AreGraphsOf t graphs) (k before thread : ℕ) (change : ℕ → ℕ → A → A) (xs ys old new : List A)
+pub turned : {A : Type 0} (t : FileTree) (graphs : List InlinedProgram) (are : AreGraphsOf t graphs) (k before thread : ℕ) (change : ℕ → ℕ → A → A) (xs ys old new : List A)
     → before ≡ sum_by points_in (take k graphs) → thread ≡ suc k → xs ≡ ys → new ≡ old ++ map (change before thread) xs
     → new ≡ old ++ map (change (points_before t k) (suc k)) ys
 turned {A} t graphs are k before thread change xs ys old new is number same all =

@@ -18,14 +18,14 @@ use Rattle.lra_meaning.specs.Resolve.{function_place}
 use Rattle.lra_meaning.specs.Threads.{has_thread, thread_events, thread_faults, thread_name, thread_places, thread_places_from, thread_program}
 use Rattle.lra_program.specs.Accesses.{op_accesses_any}
 use Rattle.lra_program.specs.Program.{Program}
-use Rattle.lra_program.specs.Sites.{Event, Site, comes, events_of, one_call_more, sites_in, sites_of}
+use Rattle.lra_program.specs.Sites.{Event, Site, comes, events_of, one_call_more, event_sites, sites_of}
 use Rattle.lra_program.specs.WellFormed.{AreGoodGlobals}
 use Rattle.lra_program.specs.declared.program.GlobalVariable.{GlobalVariable}
-use Rattle.lra_operations.specs.Asked.{Asked, accessed_in}
-use Rattle.lra_operations.specs.Graph.{Node}
-use Rattle.lra_operations.specs.GraphViews.{node_view, site_view}
-use Rattle.lra_operations.specs.declared.graph.Graph.{Graph}
-use Rattle.lra_operations.specs.declared.graph.Site as declared
+use Rattle.lra_operations.specs.CheckedOperations.{OpAtPoint, accessing_ops}
+use Rattle.lra_operations.specs.Tree.{Node}
+use Rattle.lra_operations.specs.TreeViews.{node_view, site_view}
+use Rattle.lra_operations.specs.declared.tree.InlinedProgram.{InlinedProgram}
+use Rattle.lra_operations.specs.declared.tree.Site as declared
 use Rattle.lra_flow.specs.Opened.{opened}
 use Rattle.lra_flow.specs.Plan.{Plan}
 use Rattle.lra_flow.specs.Room.{most_live}
@@ -92,7 +92,7 @@ some_thread t clean =
 pub same_globals : (t : FileTree) (place : ℕ) → (thread_program t place).globals ≡ (shared_program t).globals
 same_globals t place = refl
 
-module _ (P : Program) (g : Graph) (is : IsGraphOf P g) (n : ℕ) (globals : n ≡ length P.globals) where
+module _ (P : Program) (g : InlinedProgram) (is : IsGraphOf P g) (n : ℕ) (globals : n ≡ length P.globals) where
   abbrev own : Node
   own = node_view g.tree
 
@@ -112,14 +112,14 @@ module _ (P : Program) (g : Graph) (is : IsGraphOf P g) (n : ℕ) (globals : n �
       let few = is.few k s (subst (λ (l : List Site). slice_get l k ≡ Some s) same there) in
       omega (arith, few)
 
-  accessed : (m : ℕ) → m ≡ length (sites_of P) → AreBelow m (accessed_in None (opened n own))
+  accessed : (m : ℕ) → m ≡ length (sites_of P) → AreBelow m (accessing_ops None (opened n own))
   accessed m same a h =
       subst (λ (k : ℕ). a.point < k) (sym same)
       (asked_one op_accesses_any (length (sites_of P)) own None (graph_below P own is.is_graph) a
-      (subst (λ (l : List Asked). Contains l a) (asks_opened op_accesses_any None n own) h)).0
+      (subst (λ (l : List OpAtPoint). Contains l a) (asks_opened op_accesses_any None n own) h)).0
 
   -- an opened graph of it can be iterated over
-  pub ready : (h : Graph) → IsOpened n g h → IsReady n h
+  pub ready : (h : InlinedProgram) → IsOpened n g h → IsReady n h
   ready h o =
       let T = points_of_graph h in
       let points : T ≡ sites_of P = ap (λ (ss : Vec declared.Site Global). map site_view ss.items) o.1 ∙ is.points in
@@ -130,17 +130,17 @@ module _ (P : Program) (g : Graph) (is : IsGraphOf P g) (n : ℕ) (globals : n �
         points = subst (λ (l : List Site). PointsHave l (node_view h.tree) n) (sym points)
             (subst (λ (x : Node). PointsHave (sites_of P) x n) (sym o.0) (points_of (sites_of P) n own n fits lives));
         few = few_at T points;
-        below = subst (λ (x : Node). AreBelow (length T) (accessed_in None x)) (sym o.0) (accessed (length T) (ap length points));
+        below = subst (λ (x : Node). AreBelow (length T) (accessing_ops None x)) (sym o.0) (accessed (length T) (ap length points));
       }
 
 -- all of them --------------------------------------------------------------------------------------------------------
 
-many_both : (es fs : List Event) → length (sites_in (es ++ fs)) ≡ length (sites_in es) + length (sites_in fs)
+many_both : (es fs : List Event) → length (event_sites (es ++ fs)) ≡ length (event_sites es) + length (event_sites fs)
 many_both [] fs = omega arith
 many_both (comes s ∷ es) fs = let rest = many_both es fs in omega (arith, rest)
 many_both (one_call_more at ∷ es) fs = many_both es fs
 
-many_points : (t : FileTree) (places : List ℕ) → length (sites_in (flat_map events_of (map (thread_program t) places)))
+many_points : (t : FileTree) (places : List ℕ) → length (event_sites (flat_map events_of (map (thread_program t) places)))
     ≡ sum_by (λ place. length (sites_of (thread_program t place))) places
 many_points t [] = refl
 many_points t (place ∷ places) =
@@ -161,12 +161,12 @@ zip_sums f h (x ∷ xs) (y ∷ ys) same =
     omega (arith, one, two, first, rest)
 
 -- read and opened
-module _ (t : FileTree) (clean : thread_faults t ≡ []) (within : limit_fault (labels_of t) 0 (thread_events t) ≡ None) (graphs others : List Graph)
+module _ (t : FileTree) (clean : thread_faults t ≡ []) (within : limit_fault (labels_of t) 0 (thread_events t) ≡ None) (graphs others : List InlinedProgram)
     (read : AllZip (IsThreadGraph t) (thread_places t) graphs) (n : ℕ) (globals : n ≡ length (shared_program t).globals)
     (are : AllZip (IsOpened n) graphs others) where
   -- the k-th
-  pub graph_at : (k : ℕ) (h : Graph) → slice_get others k ≡ Some h
-      → (g : Graph) × (slice_get graphs k ≡ Some g) × IsOpened n g h × ((place : ℕ) × (slice_get (thread_places t) k ≡ Some place) × IsGraphOf (thread_program t place) g)
+  pub graph_at : (k : ℕ) (h : InlinedProgram) → slice_get others k ≡ Some h
+      → (g : InlinedProgram) × (slice_get graphs k ≡ Some g) × IsOpened n g h × ((place : ℕ) × (slice_get (thread_places t) k ≡ Some place) × IsGraphOf (thread_program t place) g)
   graph_at k h there =
       let (g, here, is) = zip_at (IsOpened n) graphs others k h are there in
       let (place, at, of) = zip_at (IsThreadGraph t) (thread_places t) graphs k g read here in
@@ -175,7 +175,7 @@ module _ (t : FileTree) (clean : thread_faults t ≡ []) (within : limit_fault (
   many : length others ≡ length (thread_places t)
   many = sym (zip_long (IsOpened n) graphs others are) ∙ sym (zip_long (IsThreadGraph t) (thread_places t) graphs read)
 
-  points_at : (k : ℕ) (h : Graph) → slice_get others k ≡ Some h → points_of_graph h ≡ thread_sites t k
+  points_at : (k : ℕ) (h : InlinedProgram) → slice_get others k ≡ Some h → points_of_graph h ≡ thread_sites t k
   points_at k h there =
       let (g, here, is, (place, at, of)) = graph_at k h there in
       ap (λ (ss : Vec declared.Site Global). map site_view ss.items) is.1 ∙ of.points

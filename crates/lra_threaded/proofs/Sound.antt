@@ -19,8 +19,8 @@ use Rattle.lra_meaning.specs.Threads.{thread_places, thread_program}
 use Rattle.lra_program.specs.Program.{Function, Program}
 use Rattle.lra_program.specs.ProgramViews.{function_or}
 use Rattle.lra_program.specs.Sites.{Site, sites_of}
-use Rattle.lra_operations.specs.Agree.{IsGraph, point_of}
-use Rattle.lra_operations.specs.Graph.{Node}
+use Rattle.lra_operations.specs.Agree.{IsInlinedTree, point_of}
+use Rattle.lra_operations.specs.Tree.{Node}
 use Rattle.lra_report.specs.Listing.{AreListed, listed_verdict}
 use Rattle.lra_report.specs.Report.{Holds, Invariant, PointReport, Verdict}
 use Rattle.lra_report.specs.declared.verdict_kinds.VerdictKind.{VerdictKind}
@@ -29,7 +29,7 @@ use Rattle.lra_formed.proofs.Named.{globals_as_many}
 use Rattle.lra_listing.specs.Given.{access_verdicts, accesses_told, site_at, state_of, verdict_at}
 use Rattle.lra_states.specs.Shown.{shown_state}
 use Rattle.lra_source.proofs.Handing.{contained, image_of}
-use Rattle.lra_interleavings.specs.Interleavings.{AtThread, FailsThread, Gives, StraysThread}
+use Rattle.lra_interleavings.specs.Interleavings.{AtThread, FailsThread, ThreadWritesValue, OutOfBoundsThread}
 use Rattle.lra_rounds.specs.Rounds.{Settled}
 use Rattle.lra_rounds.specs.Telling.{interval_at, others_of}
 use Rattle.lra_threads.specs.Found.{IsFoundOf, thread_finding, told_in, values_of, verdicts_of}
@@ -166,11 +166,11 @@ module _ (delay narrow : ℕ) (source : List ℕ) (r : ThreadsReport) (x : IsThr
   fs = thread_functions t
 
   pub tree_at : (k : ℕ) (g : Node) → slice_get x.program.operations k ≡ Some g
-      → (k < length (thread_places t)) × IsGraph (thread_program t (thread_place t k)) g
+      → (k < length (thread_places t)) × IsInlinedTree (thread_program t (thread_place t k)) g
   tree_at k g there =
       let (place, at, graph) = zip_at (IsThreadTree t) (thread_places t) x.program.operations k g x.program.are_graphs there in (
         slice_get_within (thread_places t) k place at,
-        subst (λ (p : ℕ). IsGraph (thread_program t p) g) (sym (get_or_from_slice_get (thread_places t) k place 0 at)) graph.0,
+        subst (λ (p : ℕ). IsInlinedTree (thread_program t p) g) (sym (get_or_from_slice_get (thread_places t) k place 0 at)) graph.0,
       )
 
   pub many_found : length x.end.found ≡ length (thread_places t)
@@ -216,7 +216,7 @@ module _ (delay narrow : ℕ) (source : List ℕ) (r : ThreadsReport) (x : IsThr
 
     access_right : (p n : ℕ) (js : List (Place × Bool)) (place : Place) (b : Bool) → Contains (told_in found) (p, js) → slice_get js n ≡ Some (place, b)
         → (k q : ℕ) (s : Site) → IsPointOf t k q s
-        → points_before t j + suc p ≡ number_in t k q → IsTrue b → StraysThread P fs k (point_of s) n → ⊥
+        → points_before t j + suc p ≡ number_in t k q → IsTrue b → OutOfBoundsThread P fs k (point_of s) n → ⊥
     access_right p n js place b listed here k q s is same inside =
         let own = own_number p k q s (told_inside p js listed) is same in
         x.holds.inside k q (function_or (slice_get (resolved_functions t) (thread_place t k))) s found js n place (function_at t x.end x.holds k is.is_thread)
@@ -277,7 +277,7 @@ module _ (delay narrow : ℕ) (source : List ℕ) (r : ThreadsReport) (x : IsThr
       subst (λ (o : Option Interval). Contains (write_told k name o) (record { thread = suc k; name = name; low = interval.low; high = interval.high })) (sym is)
       (contains_head (record { thread = suc k; name = name; low = interval.low; high = interval.high }) [])
 
-  writes_hold : (k y : ℕ) (z : ℤ) → Gives P fs k y z → IsTold t r k y z
+  writes_hold : (k y : ℕ) (z : ℤ) → ThreadWritesValue P fs k y z → IsTold t r k y z
   writes_hold k y z gives =
       let (row, is_row, (interval, is_interval, within)) = x.holds.gives k y z gives in
       let below = gives.global in

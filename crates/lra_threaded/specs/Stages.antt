@@ -10,8 +10,8 @@ use Rattle.lra_meaning.specs.Refuse.{greatest_points}
 use Rattle.lra_meaning.specs.RefuseThreads.{AcceptsThreads}
 use Rattle.lra_meaning.specs.Threads.{thread_places, thread_program}
 use Rattle.lra_program.specs.ProgramViews.{program_view}
-use Rattle.lra_operations.specs.GraphViews.{node_view}
-use Rattle.lra_operations.specs.declared.graph.Graph.{Graph}
+use Rattle.lra_operations.specs.TreeViews.{node_view}
+use Rattle.lra_operations.specs.declared.tree.InlinedProgram.{InlinedProgram}
 use Rattle.lra_report.specs.Report.{Verdict}
 use Rattle.lra_report.specs.declared.verdict_kinds.VerdictKind.TheVariants.{Assertion, Fit}
 use Rattle.lra_front.specs.Stages.{HasConstants}
@@ -26,11 +26,11 @@ use Rattle.lra_threads.specs.Found.{sites_in, values_of, verdicts_of}
 use Rattle.lra_threads.specs.declared.found.ThreadFound.{ThreadFound}
 use Rattle.lra_threaded.specs.Listed.{thread_sites}
 
-abbrev pub points_in : Graph → ℕ
+abbrev pub points_in : InlinedProgram → ℕ
 points_in graph = length graph.sites.items
 
 -- the same graph with what others do written into its tree
-abbrev pub IsOpened : ℕ → Graph → Graph → Type 0
+abbrev pub IsOpened : ℕ → InlinedProgram → InlinedProgram → Type 0
 IsOpened globals graph other =
     (node_view other.tree ≡ opened globals (node_view graph.tree)) × (other.sites ≡ graph.sites)
 
@@ -49,26 +49,26 @@ pub record IsReadOf (source : List ℕ) (front : ThreadsFront) : Type 0 where
   pub graphs : AllZip (IsThreadGraph (tree_view front.tree)) (thread_places (tree_view front.tree)) front.graphs.items
 
 -- the graphs have the points of a source's threads, no more in all than a report may have
-pub record AreGraphsOf (t : FileTree) (graphs : List Graph) : Type 0 where
+pub record AreGraphsOf (t : FileTree) (graphs : List InlinedProgram) : Type 0 where
   pub count : length graphs ≡ length (thread_places t)
-  pub sites : (k : ℕ) (graph : Graph) → slice_get graphs k ≡ Some graph → sites_in graph ≡ thread_sites t k
+  pub sites : (k : ℕ) (graph : InlinedProgram) → slice_get graphs k ≡ Some graph → sites_in graph ≡ thread_sites t k
   pub few : sum_by points_in graphs ≤ greatest_points
 
 -- a value for each point, as wide as what lives there, and what is judged stands at points
-pub record IsOfGraph (graph : Graph) (found : ThreadFound) : Type 0 where
+pub record IsOfGraph (graph : InlinedProgram) (found : ThreadFound) : Type 0 where
   pub wide : AreWide box_abstraction (sites_in graph) (values_of found)
   pub points : length (values_of found) ≡ length (sites_in graph)
   pub assertions : All (λ v. v.0 < points_in graph) (verdicts_of found)
   pub inside : All (λ v. v.0 < points_in graph) found.inside.verdicts.items
 
 -- of each thread
-pub record AreOfGraphs (graphs : List Graph) (found : List ThreadFound) : Type 0 where
+pub record AreOfGraphs (graphs : List InlinedProgram) (found : List ThreadFound) : Type 0 where
   pub count : length found ≡ length graphs
-  pub each : (k : ℕ) (graph : Graph) (one : ThreadFound) → slice_get graphs k ≡ Some graph →
+  pub each : (k : ℕ) (graph : InlinedProgram) (one : ThreadFound) → slice_get graphs k ≡ Some graph →
       slice_get found k ≡ Some one → IsOfGraph graph one
 
 -- verdicts on a thread, as it is listed alone, stand at its points
-pub record IsJudgedIn (graph : Graph) (found : Found) : Type 0 where
+pub record IsJudgedIn (graph : InlinedProgram) (found : Found) : Type 0 where
   pub assertions : All (λ v. v.0 < points_in graph) found.assertions.now
   pub fitting : All (λ v. v.0 < points_in graph) found.fitting.now
   pub inside : All (λ v. v.0 < points_in graph) found.inside.now
@@ -90,5 +90,5 @@ abbrev pub CanFollow : ℕ → ℕ → List ℕ → Type 0
 CanFollow before number path = (before + number < 2 ^ 32) × BeginsAtMain path
 
 -- a flag is that of a point
-abbrev pub IsFlagIn : List Graph → ℕ × ℕ → Type 0
-IsFlagIn graphs flag = (graph : Graph) × (slice_get graphs flag.0 ≡ Some graph) × (flag.1 < points_in graph)
+abbrev pub IsFlagIn : List InlinedProgram → ℕ × ℕ → Type 0
+IsFlagIn graphs flag = (graph : InlinedProgram) × (slice_get graphs flag.0 ≡ Some graph) × (flag.1 < points_in graph)

@@ -12,7 +12,7 @@ use Rattle.lra_program.specs.ProgramViews.{function_or}
 use Rattle.lra_program.specs.Run.{Point}
 use Rattle.lra_program.specs.Sites.{Site}
 use Rattle.lra_operations.specs.Agree.{point_of}
-use Rattle.lra_operations.specs.Graph.{Node}
+use Rattle.lra_operations.specs.Tree.{Node}
 use Rattle.lra_options.specs.declared.options.Domain.TheVariants.{Box}
 use Rattle.lra_options.specs.declared.options.Options.{Options}
 use Rattle.lra_options.specs.OptionRows.{default_options}
@@ -22,7 +22,7 @@ use Rattle.lra_report.specs.declared.verdict_kinds.VerdictKind.TheVariants.{Asse
 use Rattle.lra_front.specs.Stages.{HasConstants}
 use Rattle.lra_threads_front.specs.Claims.{IsAcceptedThreads}
 use Rattle.lra_flow.specs.Plan.{Plan, plan_of}
-use Rattle.lra_interleavings.specs.Interleavings.{AtThread, FailsThread, Gives, StraysThread}
+use Rattle.lra_interleavings.specs.Interleavings.{AtThread, FailsThread, ThreadWritesValue, OutOfBoundsThread}
 use Rattle.lra_rounds.specs.Intervals.{empty_table}
 use Rattle.lra_rounds.specs.Rounds.{AllRounds, Settled, joining_rounds}
 use Rattle.lra_rounds.specs.Flags.{ComesToStrain}
@@ -79,7 +79,7 @@ pub record IsPointOf (t : FileTree) (k q : ℕ) (s : Site) : Type 0 where
 abbrev pub BreaksThread : VerdictKind → Program → List Function → ℕ → Point → ℕ → Type 0
 BreaksThread Assertion P fs k p n = FailsThread P fs k p
 BreaksThread Fit P fs k p n = ⊥
-BreaksThread Access P fs k p n = StraysThread P fs k p n
+BreaksThread Access P fs k p n = OutOfBoundsThread P fs k p n
 
 -- the number lies between the bounds; an absent one bounds nothing
 abbrev pub LiesIn : Writes → ℤ → Type 0
@@ -104,7 +104,7 @@ pub record HoldsInInterleavings (t : FileTree) (r : ThreadsReport) : Type 0 wher
   pub verdicts : (k q : ℕ) (s : Site) (v : Verdict) → IsPointOf t k q s → Contains r.verdicts v →
       v.number ≡ number_in t k q → IsTrue v.holds →
       BreaksThread v.kind (shared_program t) (thread_functions t) k (point_of s) v.which → ⊥
-  pub writes : (k x : ℕ) (z : ℤ) → Gives (shared_program t) (thread_functions t) k x z → IsTold t r k x z
+  pub writes : (k x : ℕ) (z : ℤ) → ThreadWritesValue (shared_program t) (thread_functions t) k x z → IsTold t r k x z
 
 -- what is shown is what the written rounds end with: in them each operation of an iteration and of what is judged of
 -- accesses gives its defined result

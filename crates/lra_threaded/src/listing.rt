@@ -27,7 +27,7 @@ use crate::text::{ThreadsReport, Writes};
 use lra_box::Interval;
 use lra_listing::{Found, list_points, list_verdicts, names_of_globals, number_of};
 use lra_meaning::Labels;
-use lra_operations::Graph;
+use lra_operations::InlinedProgram;
 use lra_report::{PointReport, Verdict};
 use lra_rounds::{Intervals, SettledRound};
 use lra_show::Names;
@@ -41,7 +41,7 @@ use std::alloc::{AllocError, Global};
 pub struct Outline<'a> {
     pub tree: &'a Tree,
     pub labels: &'a Labels,
-    pub graphs: &'a [Graph],
+    pub graphs: &'a [InlinedProgram],
 }
 
 /// A thread's number, from 1, and how many points the threads before it have.
@@ -54,7 +54,7 @@ struct Turn {
 // numbers -----------------------------------------------------------------------------------------
 
 /// How many points these threads have.
-fn count_points(graphs: &[Graph]) -> u32
+fn count_points(graphs: &[InlinedProgram]) -> u32
     requires { sum_by points_in graphs.now ≤ greatest_points }
     ensures { result ≡ sum_by points_in graphs.now }
 {
@@ -66,7 +66,7 @@ fn count_points(graphs: &[Graph]) -> u32
 }
 
 /// That of thread `k`, from 0.
-fn turn_of(graphs: &[Graph], k: usize) -> Turn
+fn turn_of(graphs: &[InlinedProgram], k: usize) -> Turn
     requires few { sum_by points_in graphs.now ≤ greatest_points }
     requires there { k < length graphs.now }
     requires number { suc k < 2 ^ 32 }
@@ -80,7 +80,7 @@ fn turn_of(graphs: &[Graph], k: usize) -> Turn
 }
 
 /// The number of the first flagged point.
-fn flag_of(graphs: &[Graph], flag: Option<(usize, usize)>) -> Option<u32>
+fn flag_of(graphs: &[InlinedProgram], flag: Option<(usize, usize)>) -> Option<u32>
     requires few { sum_by points_in graphs.now ≤ greatest_points }
     requires flag { (k q : ℕ) → flag ≡ Some (k, q) → IsFlagIn graphs.now (k, q) }
     ensures { result ≡ option_map (λ (f : ℕ × ℕ). sum_by points_in (take f.0 graphs.now) + suc f.1)
@@ -154,7 +154,7 @@ fn push_thread(
     requires labels { outline.now.labels.now.labels ≡ labels_of (tree_view outline.now.tree.now) }
     requires globals { globals.now ≡ globals_named (tree_view outline.now.tree.now).parts }
     requires there { k < length outline.now.graphs.now }
-    requires found { (graph : Graph) → slice_get outline.now.graphs.now k ≡ Some graph →
+    requires found { (graph : InlinedProgram) → slice_get outline.now.graphs.now k ≡ Some graph →
         IsOfGraph graph found.now }
     ensures { IfOk result (λ _. (points : List report.PointReport) ×
         AreListedAlone (tree_view outline.now.tree.now) k found.now points ×
@@ -230,7 +230,7 @@ fn push_judged(
     requires graphs { AreGraphsOf (tree_view outline.now.tree.now) outline.now.graphs.now }
     requires labels { outline.now.labels.now.labels ≡ labels_of (tree_view outline.now.tree.now) }
     requires there { k < length outline.now.graphs.now }
-    requires judged { (graph : Graph) → slice_get outline.now.graphs.now k ≡ Some graph →
+    requires judged { (graph : InlinedProgram) → slice_get outline.now.graphs.now k ≡ Some graph →
         IsJudgedIn graph judged.now }
     ensures { IfOk result (λ _. map verdict_of listed.new.items ≡ map verdict_of listed.old.items ++
         map (verdict_in_thread (points_before (tree_view outline.now.tree.now) k) (suc k))

@@ -15,7 +15,7 @@ use crate::text::ThreadsReport;
 use lra_base::SourceError;
 use lra_iter::Plan;
 use lra_opened::opened_graph;
-use lra_operations::Graph;
+use lra_operations::InlinedProgram;
 use lra_options::{Domain, Options, default_options};
 use lra_threads::analyse_threads;
 use lra_threads_front::{ThreadsFront, read_threads};
@@ -36,7 +36,11 @@ fn threads_options(delay: u32, narrow: u32) -> Options
 }
 
 /// The graphs with what others do written into their trees, over so many globals.
-fn open_graphs(alloc: Global, globals: usize, graphs: Vec<Graph>) -> Result<Vec<Graph>, AllocError>
+fn open_graphs(
+    alloc: Global,
+    globals: usize,
+    graphs: Vec<InlinedProgram>,
+) -> Result<Vec<InlinedProgram>, AllocError>
     ensures { IfOk result (λ opened. AllZip (IsOpened globals) graphs.items opened.items) }
 {
     let mut opened = Vec::new(alloc);

@@ -6,8 +6,8 @@ use Rattle.lra_box.specs.Laws.{box_laws}
 use Rattle.lra_box.specs.Abstraction.{box_abstraction}
 use Rattle.lra_base.specs.declared.refusals.Place.{Place}
 use Rattle.lra_program.specs.Accesses.{op_accesses_any}
-use Rattle.lra_operations.specs.Asked.{Asked, accessed_in}
-use Rattle.lra_operations.specs.Graph.{Node}
+use Rattle.lra_operations.specs.CheckedOperations.{OpAtPoint, accessing_ops}
+use Rattle.lra_operations.specs.Tree.{Node}
 use Rattle.lra_flow.specs.Accesses.{JudgesAccesses, OpInside}
 use Rattle.lra_flow.specs.Judging.{Finding, Finds, first_flagged}
 use Rattle.lra_flow.specs.Opened.{opened}
@@ -22,8 +22,9 @@ pub judged_own : (n : ℕ) (g h : Node) (values : List BoxContent) (before last 
     → JudgesAccesses box_abstraction (dropping box_abstraction) h values before inside last
     → JudgesAccesses box_abstraction (dropping box_abstraction) g values before inside last
 judged_own n g h values before last inside opens judged =
-    let same : accessed_in None h ≡ accessed_in None g = ap (accessed_in None) opens ∙ asks_opened op_accesses_any None n g in
-    subst (λ (asked : List Asked). Finds (dropping box_abstraction) (OpInside box_abstraction (dropping box_abstraction)) asked values before inside last) same
+    let same : accessing_ops None h ≡ accessing_ops None g = ap (accessing_ops None) opens ∙ asks_opened op_accesses_any None n g in
+    subst (λ (asked : List OpAtPoint). Finds (dropping box_abstraction) (OpInside box_abstraction (dropping box_abstraction)) asked values before inside last)
+    same
     judged
 
 -- flags ------------------------------------------------------------------------------------------------------------

@@ -6,9 +6,9 @@ use Rattle.std.proofs.lemmas.Option.{slice_get-get_or, slice_get_within, get_or_
 use Rattle.lra_box.specs.Content.{BoxContent}
 use Rattle.lra_box.specs.Abstraction.{box_abstraction}
 use Rattle.lra_program.specs.Sites.{Site}
-use Rattle.lra_operations.specs.Asked.{Asked}
-use Rattle.lra_operations.specs.GraphViews.{site_view}
-use Rattle.lra_operations.specs.declared.graph.Graph.{Graph}
+use Rattle.lra_operations.specs.CheckedOperations.{OpAtPoint}
+use Rattle.lra_operations.specs.TreeViews.{site_view}
+use Rattle.lra_operations.specs.declared.tree.InlinedProgram.{InlinedProgram}
 use Rattle.lra_flow.specs.Room.{most_live}
 use Rattle.lra_iter.specs.Lives.{AreWide}
 use Rattle.lra_fits.specs.Judged.{AreBelow}
@@ -22,7 +22,7 @@ same_place (z ∷ xs) [] k x long e = let wrong : ⊥ = cc in absurd wrong
 same_place (z ∷ xs) (y ∷ ys) zero x long e = (y, refl)
 same_place (z ∷ xs) (y ∷ ys) (suc k) x long e = same_place xs ys k x (omega (arith, long)) e
 
-module _ (graph : Graph) (values : List BoxContent) (points : length values ≡ length graph.sites.items) where
+module _ (graph : InlinedProgram) (values : List BoxContent) (points : length values ≡ length graph.sites.items) where
   pub as_many_sites : length values ≡ length (sites_in graph)
   as_many_sites = points ∙ sym (length-map graph.sites.items site_view)
 
@@ -37,5 +37,5 @@ module _ (graph : Graph) (values : List BoxContent) (points : length values ≡ 
       let dims = wide k v there s site in
       omega (arith, dims, own)
 
-  pub all_below : (asked : List Asked) → AreBelow (length (sites_in graph)) asked → AreBelow (length values) asked
+  pub all_below : (asked : List OpAtPoint) → AreBelow (length (sites_in graph)) asked → AreBelow (length values) asked
   all_below asked below = subst (λ (n : ℕ). AreBelow n asked) (sym as_many_sites) below

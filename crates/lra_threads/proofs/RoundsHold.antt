@@ -8,9 +8,9 @@ use Rattle.lra_box.specs.Content.{BoxContent}
 use Rattle.lra_box.specs.Abstraction.{box_abstraction}
 use Rattle.lra_program.specs.Program.{Program}
 use Rattle.lra_program.specs.declared.program.GlobalVariable.{GlobalVariable}
-use Rattle.lra_operations.specs.Graph.{Node}
-use Rattle.lra_operations.specs.GraphViews.{node_view}
-use Rattle.lra_operations.specs.declared.graph.Graph.{Graph}
+use Rattle.lra_operations.specs.Tree.{Node}
+use Rattle.lra_operations.specs.TreeViews.{node_view}
+use Rattle.lra_operations.specs.declared.tree.InlinedProgram.{InlinedProgram}
 use Rattle.lra_flow.specs.Analysis.{Solves}
 use Rattle.lra_flow.specs.Opened.{opened}
 use Rattle.lra_flow.specs.Plan.{Plan}
@@ -32,18 +32,18 @@ own_there : {A B : Type 0} (f : A → B) (o : Option A) (y : B) → option_map f
 own_there f None y e = absurd (none-some y e)
 own_there f (Some x) y e = (x, refl, sym (same_Some (f x) y e))
 
-module _ (plan : Plan) (globals : List GlobalVariable) (graphs : List Graph) where
+module _ (plan : Plan) (globals : List GlobalVariable) (graphs : List InlinedProgram) where
   abbrev Ends : Settled ThreadFound → Type 0
   Ends end = AllRounds thread_finding (length globals) (IsAnalysedOf plan globals graphs) (length graphs) end
 
-  holds_in_round : (P : Program) (k : ℕ) (graph : Graph) (g : Node) (end : Settled ThreadFound)
+  holds_in_round : (P : Program) (k : ℕ) (graph : InlinedProgram) (g : Node) (end : Settled ThreadFound)
       → AreFound (length globals) (IsAnalysedOf plan globals graphs) (length graphs) end.table end.found → P.globals ≡ globals
       → slice_get graphs k ≡ Some graph → node_view graph.tree ≡ opened (length P.globals) g → HoldsInRound P k graph g end
   holds_in_round P k graph g end are same is opens =
       let (f, there) = same_place graphs end.found k graph are.all is in
       let (one, at, analysed) = are.each k f there in
       let own : one ≡ graph = same_Some one graph (sym at ∙ is) in
-      of_graph f there (subst (λ (x : Graph). IsAnalysed plan globals x (others_of (length globals) k end.table) f) own analysed)
+      of_graph f there (subst (λ (x : InlinedProgram). IsAnalysed plan globals x (others_of (length globals) k end.table) f) own analysed)
     where
       of_graph : (f : ThreadFound) → slice_get end.found k ≡ Some f → IsAnalysed plan globals graph (others_of (length globals) k end.table) f
           → HoldsInRound P k graph g end
@@ -81,14 +81,14 @@ module _ (plan : Plan) (globals : List GlobalVariable) (graphs : List Graph) whe
 
   module _ (P : Program) (trees : List Node) (same : P.globals ≡ globals) (opens : AreOpened (length P.globals) trees graphs) where
     as_many : length graphs ≡ length trees
-    as_many = sym (length-map graphs (λ (x : Graph). node_view x.tree)) ∙ ap length opens ∙ length-map trees (opened (length P.globals))
+    as_many = sym (length-map graphs (λ (x : InlinedProgram). node_view x.tree)) ∙ ap length opens ∙ length-map trees (opened (length P.globals))
 
-    own_tree : (k : ℕ) (graph : Graph) → slice_get graphs k ≡ Some graph
+    own_tree : (k : ℕ) (graph : InlinedProgram) → slice_get graphs k ≡ Some graph
         → (g : Node) × (slice_get trees k ≡ Some g) × (node_view graph.tree ≡ opened (length P.globals) g)
     own_tree k graph is =
         own_there (opened (length P.globals)) (slice_get trees k) (node_view graph.tree)
         (sym (slice_get-map (opened (length P.globals)) trees k) ∙ ap (λ (gs : List Node). slice_get gs k) (sym opens)
-        ∙ slice_get-map (λ (x : Graph). node_view x.tree) graphs k ∙ ap (option_map (λ (x : Graph). node_view x.tree)) is)
+        ∙ slice_get-map (λ (x : InlinedProgram). node_view x.tree) graphs k ∙ ap (option_map (λ (x : InlinedProgram). node_view x.tree)) is)
 
     found_of : (k : ℕ) (o : Interference BoxContent) (f : ThreadFound) → IsAnalysedOf plan globals graphs k o f → IsFoundOf plan P trees k o f
     found_of k o f (graph, is, one) =

@@ -6,9 +6,9 @@ use Rattle.lra_box.specs.Abstraction.{box_abstraction}
 use Rattle.lra_program.specs.Assertions.{assertions_from}
 use Rattle.lra_program.specs.Program.{Program}
 use Rattle.lra_program.specs.declared.program.GlobalVariable.{GlobalVariable}
-use Rattle.lra_operations.specs.Graph.{Node}
-use Rattle.lra_operations.specs.GraphViews.{node_view}
-use Rattle.lra_operations.specs.declared.graph.Graph.{Graph}
+use Rattle.lra_operations.specs.Tree.{Node}
+use Rattle.lra_operations.specs.TreeViews.{node_view}
+use Rattle.lra_operations.specs.declared.tree.InlinedProgram.{InlinedProgram}
 use Rattle.lra_flow.specs.Accesses.{JudgesAccesses}
 use Rattle.lra_flow.specs.Opened.{opened}
 use Rattle.lra_flow.specs.Operations.{dropping}
@@ -21,7 +21,8 @@ use Rattle.lra_threads.specs.Found.{sites_in, values_of, verdicts_of, notes_of, 
 -- the iteration over the graph among these others; what holds of the runs of the thread's own tree; as many values as
 -- points, and verdicts of all assertions; each value has a dimension for each variable that lives at its point, and
 -- that of a note one for its variable; what is judged of accesses behind that
-pub record IsAnalysed (plan : Plan) (globals : List GlobalVariable) (graph : Graph) (o : Interference BoxContent)
+pub record IsAnalysed (plan : Plan) (globals : List GlobalVariable) (graph : InlinedProgram)
+    (o : Interference BoxContent)
     (f : ThreadFound) : Type 0 where
   pub solved : (P : Program) → P.globals ≡ globals → IsSolvedAmong o box_abstraction plan P (node_view graph.tree)
       (values_of f) (notes_of f) (verdicts_of f) f.noted.solution.flagged
@@ -35,6 +36,7 @@ pub record IsAnalysed (plan : Plan) (globals : List GlobalVariable) (graph : Gra
       f.noted.solution.flagged (told_in f) (flag_of_thread f)
 
 -- of the k-th thread
-abbrev pub IsAnalysedOf : Plan → List GlobalVariable → List Graph → ℕ → Interference BoxContent → ThreadFound → Type 0
+abbrev pub IsAnalysedOf : Plan → List GlobalVariable → List InlinedProgram → ℕ → Interference BoxContent → ThreadFound →
+    Type 0
 IsAnalysedOf plan globals graphs k o f =
-    (graph : Graph) × (slice_get graphs k ≡ Some graph) × IsAnalysed plan globals graph o f
+    (graph : InlinedProgram) × (slice_get graphs k ≡ Some graph) × IsAnalysed plan globals graph o f

@@ -9,10 +9,10 @@ use Rattle.lra_program.specs.Program.{Program}
 use Rattle.lra_program.specs.Sites.{Site}
 use Rattle.lra_program.specs.declared.program.GlobalVariable.{GlobalVariable}
 use Rattle.lra_program.specs.WellFormed.{AreGoodGlobals}
-use Rattle.lra_operations.specs.Asked.{accessed_in}
-use Rattle.lra_operations.specs.Graph.{Node}
-use Rattle.lra_operations.specs.GraphViews.{node_view, site_view}
-use Rattle.lra_operations.specs.declared.graph.Graph.{Graph}
+use Rattle.lra_operations.specs.CheckedOperations.{accessing_ops}
+use Rattle.lra_operations.specs.Tree.{Node}
+use Rattle.lra_operations.specs.TreeViews.{node_view, site_view}
+use Rattle.lra_operations.specs.declared.tree.InlinedProgram.{InlinedProgram}
 use Rattle.lra_flow.specs.Accesses.{JudgesAccesses}
 use Rattle.lra_flow.specs.Analysis.{Solves}
 use Rattle.lra_flow.specs.Among.{WrittenAmong, StrainsAmong}
@@ -33,26 +33,26 @@ use Rattle.lra_inside.specs.Inside.{told_view}
 use Rattle.lra_rounds.specs.Rounds.{Finding}
 use Rattle.lra_threads.specs.declared.found.ThreadFound.{ThreadFound}
 
-abbrev pub sites_in : Graph → List Site
+abbrev pub sites_in : InlinedProgram → List Site
 sites_in graph = map site_view graph.sites.items
 
 -- an iteration may be made over the graph, with so many globals, and accesses may be judged by what it leaves
-pub record IsReady (globals : ℕ) (graph : Graph) : Type 0 where
+pub record IsReady (globals : ℕ) (graph : InlinedProgram) : Type 0 where
   pub fits : TreeFits (node_view graph.tree) globals
   pub numbered : IsNumbered (sites_in graph) (node_view graph.tree)
   pub points : PointsHave (sites_in graph) (node_view graph.tree) globals
   pub few : All (λ (s : Site). s.live < most_live) (sites_in graph)
-  pub below : AreBelow (length (sites_in graph)) (accessed_in None (node_view graph.tree))
+  pub below : AreBelow (length (sites_in graph)) (accessing_ops None (node_view graph.tree))
 
-pub record AreReady (plan : Plan) (globals : List GlobalVariable) (graphs : List Graph) : Type 0 where
+pub record AreReady (plan : Plan) (globals : List GlobalVariable) (graphs : List InlinedProgram) : Type 0 where
   pub parts : 1 ≤ plan.parts
   pub few : length globals ≤ most_live
   pub good : AreGoodGlobals globals
-  pub each : (k : ℕ) (graph : Graph) → slice_get graphs k ≡ Some graph → IsReady (length globals) graph
+  pub each : (k : ℕ) (graph : InlinedProgram) → slice_get graphs k ≡ Some graph → IsReady (length globals) graph
 
 -- each graph's tree is one of these, the threads' own trees, opened
-abbrev pub AreOpened : ℕ → List Node → List Graph → Type 0
-AreOpened globals trees graphs = map (λ (x : Graph). node_view x.tree) graphs ≡ map (opened globals) trees
+abbrev pub AreOpened : ℕ → List Node → List InlinedProgram → Type 0
+AreOpened globals trees graphs = map (λ (x : InlinedProgram). node_view x.tree) graphs ≡ map (opened globals) trees
 
 -- what is found of a thread -----------------------------------------------------------------------------------------
 

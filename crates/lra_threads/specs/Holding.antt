@@ -3,9 +3,9 @@ use Rattle.std.specs.Prelude.{◌≡◌, ℕ, List, length, map, Option, None, S
 use Rattle.lra_program.specs.Assertions.{assertions_from}
 use Rattle.lra_program.specs.Program.{Program}
 use Rattle.lra_program.specs.declared.program.GlobalVariable.{GlobalVariable}
-use Rattle.lra_operations.specs.Graph.{Node}
-use Rattle.lra_operations.specs.GraphViews.{node_view}
-use Rattle.lra_operations.specs.declared.graph.Graph.{Graph}
+use Rattle.lra_operations.specs.Tree.{Node}
+use Rattle.lra_operations.specs.TreeViews.{node_view}
+use Rattle.lra_operations.specs.declared.tree.InlinedProgram.{InlinedProgram}
 use Rattle.lra_flow.specs.Accesses.{JudgesAccesses}
 use Rattle.lra_flow.specs.Opened.{opened}
 use Rattle.lra_flow.specs.Operations.{dropping}
@@ -26,30 +26,32 @@ use Rattle.lra_threads.specs.Found.{HoldsOf, IsWrittenOf, StrainsAt, thread_find
 -- them, and holds in all runs of that tree among them; a value for each point, with a dimension for each variable that
 -- lives there, a verdict for each assertion, and what is judged of the tree's accesses by these values. Of which plan,
 -- and behind which flag, the rounds tell.
-pub record HoldsInRound (P : Program) (k : ℕ) (graph : Graph) (g : Node) (end : Settled ThreadFound) : Type 0 where
-  pub found : ThreadFound
-  pub is_found : slice_get end.found k ≡ Some found
-  pub solved : (plan : Plan) × IsSolvedAmong (others_of (length P.globals) k end.table) box_abstraction plan P
-      (node_view graph.tree) (values_of found) (notes_of found) (verdicts_of found) found.noted.solution.flagged
-  pub holds : HoldsOf (others_of (length P.globals) k end.table) P g found
-  pub wide : AreWide box_abstraction (sites_in graph) (values_of found)
-  pub notes : NotesHave box_abstraction (notes_of found)
-  pub points : length (values_of found) ≡ length (sites_in graph)
-  pub assertions : map (λ v. v.0) (verdicts_of found) ≡ map (λ a. a.0) (assertions_from 0 (sites_in graph))
-  pub inside : (before : Option ℕ)
-      × JudgesAccesses box_abstraction (dropping box_abstraction) g (values_of found) before
-      (told_in found) (flag_of_thread found)
+pub record HoldsInRound (P : Program) (k : ℕ) (graph : InlinedProgram) (g : Node) (end : Settled ThreadFound) : Type 0
+  where
+    pub found : ThreadFound
+    pub is_found : slice_get end.found k ≡ Some found
+    pub solved : (plan : Plan) × IsSolvedAmong (others_of (length P.globals) k end.table) box_abstraction plan P
+        (node_view graph.tree) (values_of found) (notes_of found) (verdicts_of found) found.noted.solution.flagged
+    pub holds : HoldsOf (others_of (length P.globals) k end.table) P g found
+    pub wide : AreWide box_abstraction (sites_in graph) (values_of found)
+    pub notes : NotesHave box_abstraction (notes_of found)
+    pub points : length (values_of found) ≡ length (sites_in graph)
+    pub assertions : map (λ v. v.0) (verdicts_of found) ≡ map (λ a. a.0) (assertions_from 0 (sites_in graph))
+    pub inside : (before : Option ℕ)
+        × JudgesAccesses box_abstraction (dropping box_abstraction) g (values_of found) before
+        (told_in found) (flag_of_thread found)
 
 -- the round that settles: nothing is written that isn't in the table, which has an interval for each thread and global;
 -- and so much holds of each thread
-pub record AllHold (globals : List GlobalVariable) (graphs : List Graph) (end : Settled ThreadFound) : Type 0 where
-  pub within : TableWithin (written_in thread_finding (length globals) end.found) end.table
-  pub count : length end.found ≡ length graphs
-  pub table : length end.table ≡ length graphs
-  pub wide : intervals.AreWide (length globals) end.table
-  pub each : (P : Program) (k : ℕ) (graph : Graph) (g : Node) → P.globals ≡ globals →
-      slice_get graphs k ≡ Some graph → node_view graph.tree ≡ opened (length P.globals) g →
-      HoldsInRound P k graph g end
+pub record AllHold (globals : List GlobalVariable) (graphs : List InlinedProgram) (end : Settled ThreadFound) : Type 0
+  where
+    pub within : TableWithin (written_in thread_finding (length globals) end.found) end.table
+    pub count : length end.found ≡ length graphs
+    pub table : length end.table ≡ length graphs
+    pub wide : intervals.AreWide (length globals) end.table
+    pub each : (P : Program) (k : ℕ) (graph : InlinedProgram) (g : Node) → P.globals ≡ globals →
+        slice_get graphs k ≡ Some graph → node_view graph.tree ≡ opened (length P.globals) g →
+        HoldsInRound P k graph g end
 
 -- Without a flag all rounds are those of the written iterations and of accesses judged by what these leave. A first
 -- flag is of a thread whose written iteration strains there, or whose accesses do behind it, and the rounds go as far

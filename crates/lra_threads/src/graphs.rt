@@ -4,7 +4,7 @@ ghost use Rattle.std.specs.Prelude.{◌≡◌, List, length, IfOk};
 ghost use Rattle.lra_rounds.specs.Rounds.{AllRounds};
 ghost use Rattle.lra_rounds.specs.Found.{settled_view};
 ghost use Rattle.lra_program.specs.Program.{Program};
-ghost use Rattle.lra_operations.specs.Graph.{Node};
+ghost use Rattle.lra_operations.specs.Tree.{Node};
 ghost use Rattle.lra_threads.specs.Found.{thread_finding, AreOpened, AreReady, IsFoundOf};
 ghost use Rattle.lra_threads.specs.Analysed.{IsAnalysedOf};
 ghost use Rattle.lra_threads.specs.Holding.{AllHold, AreFlagged};
@@ -12,7 +12,7 @@ ghost use Rattle.lra_threads.specs.Holding.{AllHold, AreFlagged};
 use crate::found::ThreadFound;
 use lra_inside::judge_accesses;
 use lra_iter::{Plan, analyse_with};
-use lra_operations::Graph;
+use lra_operations::InlinedProgram;
 use lra_program::GlobalVariable;
 use lra_rounds::{Intervals, SettledRound, Threads, settle};
 use std::alloc::{AllocError, Global};
@@ -23,7 +23,7 @@ use std::alloc::{AllocError, Global};
 pub struct Graphs<'a> {
     pub plan: &'a Plan,
     pub globals: &'a [GlobalVariable],
-    pub graphs: &'a [Graph],
+    pub graphs: &'a [InlinedProgram],
 }
 
 impl Threads for Graphs<'_> {
@@ -78,7 +78,7 @@ pub fn analyse_threads(
     alloc: Global,
     plan: &Plan,
     globals: &[GlobalVariable],
-    graphs: &[Graph],
+    graphs: &[InlinedProgram],
 ) -> Result<SettledRound<ThreadFound>, AllocError>
     requires { AreReady plan.now globals.now graphs.now }
     ensures rounds { IfOk result (λ end. (P : Program) (trees : List Node) →

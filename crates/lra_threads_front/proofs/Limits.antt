@@ -4,7 +4,7 @@ use Rattle.std.specs.Prelude.{nat_lt, if◌then◌else◌}
 use Rattle.std.proofs.lemmas.Option.{none-some}
 use Rattle.lra_base.specs.declared.refusals.Refusal.{Refusal}
 use Rattle.lra_tree.specs.Labels.{Labelled}
-use Rattle.lra_program.specs.Sites.{Event, comes, one_call_more, sites_in}
+use Rattle.lra_program.specs.Sites.{Event, comes, one_call_more, event_sites}
 use Rattle.lra_meaning.specs.Refuse.{greatest_live, greatest_points, limit_fault}
 
 then_case : (many full : Bool) (x y : Refusal) (f g : Option Refusal) → (f ≡ None → g ≡ None) → (if many then Some x else (if full then Some y else f)) ≡ None
@@ -21,11 +21,11 @@ passed_case false true x y f g h s e = absurd (none-some y (sym e))
 passed_case false false x y f g h s e = s e
 
 pub fault_behind : (ls : List Labelled) (n : ℕ) (es fs : List Event) → limit_fault ls n es ≡ None
-    → limit_fault ls n (es ++ fs) ≡ limit_fault ls (n + length (sites_in es)) fs
+    → limit_fault ls n (es ++ fs) ≡ limit_fault ls (n + length (event_sites es)) fs
 fault_behind ls n [] fs e = ap (λ k. limit_fault ls k fs) (omega arith)
 fault_behind ls n (comes s ∷ es) fs e =
     passed_case (nat_lt greatest_live s.live) (nat_lt greatest_points (suc n)) _ _ (limit_fault ls (suc n) es) (limit_fault ls (suc n) (es ++ fs))
-    (limit_fault ls (n + suc (length (sites_in es))) fs)
+    (limit_fault ls (n + suc (length (event_sites es))) fs)
     (λ h. fault_behind ls (suc n) es fs h ∙ ap (λ k. limit_fault ls k fs) (omega arith)) e
 fault_behind ls n (one_call_more at ∷ es) fs e = absurd (none-some _ (sym e))
 

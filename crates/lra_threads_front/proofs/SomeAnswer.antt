@@ -11,9 +11,9 @@ use Rattle.lra_tree.specs.Trees.{FileTree}
 use Rattle.lra_tree.specs.Labels.{labels_of}
 use Rattle.lra_tree.specs.Reach.{NotRecursive}
 use Rattle.lra_tree.specs.Grammar.{Spells}
-use Rattle.lra_program.specs.Sites.{events_of, sites_in}
+use Rattle.lra_program.specs.Sites.{events_of, event_sites}
 use Rattle.lra_program.specs.WellFormed.{IsWellFormed}
-use Rattle.lra_operations.specs.Graph.{Node}
+use Rattle.lra_operations.specs.Tree.{Node}
 use Rattle.lra_meaning.specs.Refuse.{limit_fault}
 use Rattle.lra_meaning.specs.Threads.{thread_faults, thread_places, thread_program, thread_events}
 use Rattle.lra_meaning.specs.RefuseThreads.{bad_name, recursive, past_limit, too_long, bad_token, bad_text, unread, bad_tree, OneThreadsAnswer}
@@ -44,7 +44,7 @@ module _ (t : FileTree) where
       let rest = flat_map events_of (map (thread_program t) places) in
       let front = within_front (labels_of t) n (events_of P) rest e in
       let (g, is_graph) = has_graph P well.0 (labels_of t) (fewer_within (labels_of t) 0 n (events_of P) (omega arith) front) in
-      let (gs, are) = thread_trees (n + length (sites_in (events_of P))) places well.1 (sym (fault_behind (labels_of t) n (events_of P) rest front) ∙ e) in
+      let (gs, are) = thread_trees (n + length (event_sites (events_of P))) places well.1 (sym (fault_behind (labels_of t) n (events_of P) rest front) ∙ e) in
       (g ∷ gs, ((is_graph, graphs_agree P g (distinct_sites P well.0) is_graph), are))
 
 -- what the tree of a source leads to

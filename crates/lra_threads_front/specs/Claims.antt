@@ -6,8 +6,8 @@ use Rattle.lra_base.specs.declared.refusals.Cause.{Cause}
 use Rattle.lra_base.specs.declared.refusals.Place.{Place}
 use Rattle.lra_tree.specs.Trees.{FileTree}
 use Rattle.lra_tree.specs.Grammar.{Spells}
-use Rattle.lra_operations.specs.Graph.{Node}
-use Rattle.lra_operations.specs.Agree.{IsGraph, Agrees}
+use Rattle.lra_operations.specs.Tree.{Node}
+use Rattle.lra_operations.specs.Agree.{IsInlinedTree, Agrees}
 use Rattle.lra_meaning.specs.Threads.{thread_places, thread_program}
 use Rattle.lra_meaning.specs.RefuseThreads.{RefuseThreads, AcceptsThreads}
 
@@ -17,7 +17,7 @@ HasThreadsRefusal source = (cause : Cause) × (at : Place) × RefuseThreads Spel
 
 -- a tree of operations of a thread's program, that comes to the points of its runs
 abbrev pub IsThreadTree : FileTree → ℕ → Node → Type 0
-IsThreadTree t place g = IsGraph (thread_program t place) g × Agrees (thread_program t place) g
+IsThreadTree t place g = IsInlinedTree (thread_program t place) g × Agrees (thread_program t place) g
 
 -- the source is accepted, and each thread has such a tree
 pub record IsAcceptedThreads (source : List ℕ) : Type 0 where

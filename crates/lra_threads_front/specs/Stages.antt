@@ -6,23 +6,23 @@ use Rattle.lra_tree.specs.Reach.{NotRecursive}
 use Rattle.lra_program.specs.Program.{Program}
 use Rattle.lra_program.specs.Sites.{sites_of}
 use Rattle.lra_program.specs.WellFormed.{IsWellFormed}
-use Rattle.lra_operations.specs.Agree.{IsGraph, Agrees}
-use Rattle.lra_operations.specs.GraphViews.{node_view, site_view}
-use Rattle.lra_operations.specs.declared.graph.Graph.{Graph}
+use Rattle.lra_operations.specs.Agree.{IsInlinedTree, Agrees}
+use Rattle.lra_operations.specs.TreeViews.{node_view, site_view}
+use Rattle.lra_operations.specs.declared.tree.InlinedProgram.{InlinedProgram}
 use Rattle.lra_meaning.specs.Refuse.{limit_fault}
 use Rattle.lra_meaning.specs.Threads.{thread_faults, thread_program, thread_events}
 use Rattle.lra_front.specs.Claims.{AreFew}
 
 -- the tree of operations of a well-formed program, and its points
-pub record IsGraphOf (P : Program) (g : Graph) : Type 0 where
+pub record IsGraphOf (P : Program) (g : InlinedProgram) : Type 0 where
   pub well : IsWellFormed P
   pub few : AreFew (sites_of P)
-  pub is_graph : IsGraph P (node_view g.tree)
+  pub is_graph : IsInlinedTree P (node_view g.tree)
   pub agrees : Agrees P (node_view g.tree)
   pub points : map site_view g.sites.items ≡ sites_of P
 
 -- that of the thread whose function stands at this place
-abbrev pub IsThreadGraph : FileTree → ℕ → Graph → Type 0
+abbrev pub IsThreadGraph : FileTree → ℕ → InlinedProgram → Type 0
 IsThreadGraph t place g = IsGraphOf (thread_program t place) g
 
 -- a tree whose names have no fault, that has no recursion and whose threads pass no limit

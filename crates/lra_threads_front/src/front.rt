@@ -16,7 +16,7 @@ use crate::threads::{graphs_of, threads_of};
 use lra_base::SourceError;
 use lra_front::{Reading, read_text};
 use lra_names::{Resolution, ThreadsResolution};
-use lra_operations::Graph;
+use lra_operations::InlinedProgram;
 use lra_tree::Tree;
 use std::alloc::Global;
 
@@ -28,7 +28,7 @@ pub struct ThreadsFront {
     pub constants: Vec<i64>,
     pub resolution: Resolution,
     pub threads: Vec<usize>,
-    pub graphs: Vec<Graph>,
+    pub graphs: Vec<InlinedProgram>,
 }
 
 impl Drop for ThreadsFront {

@@ -20,7 +20,7 @@ use lra_front::check_calls;
 use lra_graph::{GraphError, build_thread, refusal};
 use lra_meaning::Labels;
 use lra_names::{Resolution, ThreadsResolution, resolve_threads};
-use lra_operations::{Graph, Site};
+use lra_operations::{InlinedProgram, Site};
 use lra_program::Program;
 use lra_tree::Tree;
 use std::alloc::Global;
@@ -47,7 +47,7 @@ fn graph_of(
     labels: &Labels,
     thread: usize,
     before: &mut Vec<Site>,
-) -> Result<Graph, SourceError>
+) -> Result<InlinedProgram, SourceError>
     requires { IsWellFormed (program_view (record program.old { main = thread })) }
     ensures placed { OnOk result (program.new ≡ record program.old { main = thread }) }
     ensures graph { IfOk result (IsGraphOf (program_view (record program.old { main = thread }))) }
@@ -73,7 +73,7 @@ pub fn graphs_of(
     tree: &Tree,
     resolution: &mut Resolution,
     threads: &[usize],
-) -> Result<Vec<Graph>, SourceError>
+) -> Result<Vec<InlinedProgram>, SourceError>
     requires program { program_view resolution.old.program
         ≡ thread_program (tree_view tree.now) resolution.old.program.main }
     requires labels { resolution.old.labels.labels ≡ labels_of (tree_view tree.now) }

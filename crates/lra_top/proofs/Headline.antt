@@ -12,7 +12,7 @@ use Rattle.lra_program.specs.Program.{Program}
 use Rattle.lra_flow.specs.Analysis.{Solves}
 use Rattle.lra_flow.specs.Operations.{dropping}
 use Rattle.lra_flow.specs.Fits.{Judges, JudgesIf}
-use Rattle.lra_operations.specs.Graph.{Node}
+use Rattle.lra_operations.specs.Tree.{Node}
 use Rattle.lra_listing.specs.Given.{told_all, told_of}
 use Rattle.lra_source.proofs.OneReport.{unflagged_behind, unflagged_first}
 use Rattle.lra_meaning.specs.Resolve.{resolve}

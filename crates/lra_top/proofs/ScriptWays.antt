@@ -3,7 +3,7 @@ use Rattle.std.proofs.Common.{◌≡◌, ◌∙◌, ◌≤◌, ◌<◌, ℕ, Lis
 use Rattle.std.specs.Prelude.{Some, Result, Ok, Err}
 use Rattle.std.proofs.lemmas.Grind.{common_steps}
 use Rattle.std.proofs.lemmas.List.{take-append-le}
-use Rattle.lra_base.specs.Places.{greatest_length, place_behind}
+use Rattle.lra_base.specs.Places.{greatest_length, place_after}
 use Rattle.lra_calc.specs.Script as script
 use Rattle.lra_calc.proofs.Limit.{answer_too_long, long_answer}
 use Rattle.lra_answers.specs.Statuses.{Ends, refused, source_statuses}
@@ -24,7 +24,7 @@ pub ruleset deserving = (deserves_output, deserves_refused)
 
 -- one byte past the limit ---------------------------------------------------------
 
-too_long_answer : (bytes : List ℕ) → greatest_length < length bytes → script.AnswersTo bytes (Err (script.TooLong (place_behind (take greatest_length bytes))))
+too_long_answer : (bytes : List ℕ) → greatest_length < length bytes → script.AnswersTo bytes (Err (script.TooLong (place_after (take greatest_length bytes))))
 too_long_answer bytes long = answer_too_long greatest_length bytes refl long
 
 -- more bytes behind those past the limit change nothing
@@ -32,7 +32,7 @@ same_answer : (bytes rest : List ℕ) (answer : Result (List ℕ) script.Refusal
 same_answer bytes rest answer long a =
     let longer : greatest_length < length (bytes ++ rest) = grind (arith, common_steps) in
     let reached : greatest_length ≤ length bytes = omega arith in
-    let same = ap (λ (front : List ℕ). let r : Result (List ℕ) script.Refusal = Err (script.TooLong (place_behind front)) in r) (take-append-le greatest_length bytes rest reached) in
+    let same = ap (λ (front : List ℕ). let r : Result (List ℕ) script.Refusal = Err (script.TooLong (place_after front)) in r) (take-append-le greatest_length bytes rest reached) in
     subst (script.AnswersTo (bytes ++ rest)) (same ∙ sym (long_answer bytes answer long a)) (too_long_answer (bytes ++ rest) longer)
 
 longer_script : (bytes rest text : List ℕ) (status : Status) → greatest_length < length bytes → DeservesScript bytes text status → DeservesScript (bytes ++ rest) text status

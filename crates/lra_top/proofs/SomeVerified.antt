@@ -13,8 +13,8 @@ use Rattle.lra_tree.proofs.LexedByTest.{and_second}
 use Rattle.lra_meaning.specs.Refuse.{greatest_live, greatest_points, limit_fault}
 use Rattle.lra_meaning.specs.Resolve.{resolve}
 use Rattle.lra_program.specs.Program.{Program}
-use Rattle.lra_program.specs.Sites.{Site, Event, comes, one_call_more, sites_in, events_of, sites_of}
-use Rattle.lra_operations.specs.Graph.{Node}
+use Rattle.lra_program.specs.Sites.{Site, Event, comes, one_call_more, event_sites, events_of, sites_of}
+use Rattle.lra_operations.specs.Tree.{Node}
 use Rattle.lra_front.specs.Claims.{IsAccepted}
 use Rattle.lra_front.specs.Stages.{HasTree}
 use Rattle.lra_front.proofs.SomeAnswer.{some_answer}
@@ -39,7 +39,7 @@ neither true b r s o e = absurd (none-some r (sym e))
 neither false true r s o e = absurd (none-some s (sym e))
 neither false false r s o e = (refl, e)
 
-few_sites : (ls : List Labelled) (n : ℕ) (es : List Event) → limit_fault ls n es ≡ None → (q : ℕ) (s : Site) → slice_get (sites_in es) q ≡ Some s → s.live ≤ greatest_live
+few_sites : (ls : List Labelled) (n : ℕ) (es : List Event) → limit_fault ls n es ≡ None → (q : ℕ) (s : Site) → slice_get (event_sites es) q ≡ Some s → s.live ≤ greatest_live
 few_sites ls n [] e q s f = absurd (none-some s f)
 few_sites ls n (comes t ∷ es) e zero s f =
     let (few, rest) = neither (nat_lt greatest_live t.live) (nat_lt greatest_points (suc n)) _ _ (limit_fault ls (suc n) es) e in

@@ -6,7 +6,7 @@ use Rattle.std.proofs.lemmas.List.{take-append-le}
 use Rattle.lra_base.specs.declared.refusals.Cause.{Cause}
 use Rattle.lra_base.specs.declared.refusals.Cause.TheVariants.{TooLong}
 use Rattle.lra_base.specs.declared.refusals.Place.{Place}
-use Rattle.lra_base.specs.Places.{place_behind, greatest_length}
+use Rattle.lra_base.specs.Places.{place_after, greatest_length}
 use Rattle.lra_tree.specs.Trees.{FileTree}
 use Rattle.lra_tree.specs.Grammar.{Spells}
 use Rattle.lra_meaning.specs.RefuseThreads.{RefuseThreads, AcceptsThreads, Unread, too_long, bad_token, bad_text, unread, bad_tree}
@@ -45,10 +45,10 @@ front_long : (bytes rest : List ℕ) → greatest_length < length bytes → grea
 front_long bytes rest long = grind (arith, common_steps)
 
 longer_too_long : (bytes rest : List ℕ) → greatest_length < length bytes
-    → RefuseThreads Spells (bytes ++ rest) TooLong (place_behind (take greatest_length bytes))
+    → RefuseThreads Spells (bytes ++ rest) TooLong (place_after (take greatest_length bytes))
 longer_too_long bytes rest long =
     let reached : greatest_length ≤ length bytes = omega arith in
-    subst (λ (front : List ℕ). RefuseThreads Spells (bytes ++ rest) TooLong (place_behind front)) (take-append-le greatest_length bytes rest reached)
+    subst (λ (front : List ℕ). RefuseThreads Spells (bytes ++ rest) TooLong (place_after front)) (take-append-le greatest_length bytes rest reached)
     (unread _ _ (too_long (front_long bytes rest long)))
 
 longer_unread : (bytes rest : List ℕ) (c : Cause) (at : Place) → greatest_length < length bytes → Unread Spells bytes c at

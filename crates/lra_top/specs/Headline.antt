@@ -14,8 +14,8 @@ use Rattle.lra_meaning.specs.Resolve.{resolve}
 use Rattle.lra_program.specs.Program.{Program}
 use Rattle.lra_program.specs.Run.{At, Fails}
 use Rattle.lra_program.specs.Sites.{Site, sites_of}
-use Rattle.lra_operations.specs.Graph.{Node}
-use Rattle.lra_operations.specs.Agree.{IsGraph, point_of}
+use Rattle.lra_operations.specs.Tree.{Node}
+use Rattle.lra_operations.specs.Agree.{IsInlinedTree, point_of}
 use Rattle.lra_linear_spec.specs.Descriptions.{LinearRow, Con}
 use Rattle.lra_domain.specs.Abstraction.{Abstraction}
 use Rattle.lra_front.specs.Stages.{HasConstants}
@@ -86,7 +86,7 @@ pub record HoldsInAllRuns (bytes : List ℕ) (r : Report) : Type 0 where
 pub record TellsWritten {V H : Type 0} (m : Abstraction V H) (shown : V → Invariant) (o : Options) (constants : List ℤ)
     (P : Program) (r : Report) : Type 0 where
   pub tree : Node
-  pub is_graph : IsGraph P tree
+  pub is_graph : IsInlinedTree P tree
   pub result : Result V
   pub written : Written m (plan_of o constants) P tree result
   pub values : List V
@@ -114,7 +114,7 @@ pub record IsWrittenUnlessFlagged (o : Options) (bytes : List ℕ) (r : Report) 
 pub record TellsAccessing {V H : Type 0} (m : Abstraction V H) (shown : V → Invariant) (o : Options) (P : Program)
     (r : Report) : Type 0 where
   pub tree : Node
-  pub is_graph : IsGraph P tree
+  pub is_graph : IsInlinedTree P tree
   pub values : List V
   pub states : map (λ (p : PointReport). p.state) r.points ≡ map shown values
   pub are_shown : AreShown m o.domain shown values

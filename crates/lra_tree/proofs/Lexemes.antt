@@ -12,7 +12,7 @@ use Rattle.lra_tree.specs.declared.tokens.Mark.{Mark}
 use Rattle.lra_tree.specs.declared.tokens.Token.{Token}
 use Rattle.lra_tree.specs.Lexeme.{mark_text, Lexeme, SpellsToken, mark_word, mark_of}
 use Rattle.lra_tree.specs.Tokens.{is_blank, blank, Fragment, gap, token, bytes_of, tokens_of, IsToken, IsReading, Lex}
-use Rattle.lra_base.specs.Places.{place_behind}
+use Rattle.lra_base.specs.Places.{place_after}
 use Rattle.lra_tree.specs.Tokens.{end_token, IsFaulty, IsTokenFault}
 use Rattle.lra_tree.specs.Texts.{Pieces, plain}
 use Rattle.lra_tree.specs.Faults.{IsLow, greatest_level}
@@ -37,21 +37,21 @@ behind before (lexeme c cs k o ∷ xs) = behind (before ++ c ∷ cs) xs
 abbrev pub reading : List ℕ → List Item → List Fragment
 reading before [] = []
 reading before (skip c ∷ xs) = gap (c ∷ []) ∷ reading (before ++ c ∷ []) xs
-reading before (lexeme c cs k o ∷ xs) = token (c ∷ cs) (record { kind = k; place = place_behind before }) ∷
+reading before (lexeme c cs k o ∷ xs) = token (c ∷ cs) (record { kind = k; place = place_after before }) ∷
     reading (before ++ c ∷ cs) xs
 
 abbrev pub pieces : List ℕ → List Item → Pieces
 pieces before [] = []
 pieces before (skip c ∷ xs) = pieces (before ++ c ∷ []) xs
-pieces before (lexeme c cs k o ∷ xs) = (record { kind = k; place = place_behind before }, o) ∷
+pieces before (lexeme c cs k o ∷ xs) = (record { kind = k; place = place_after before }, o) ∷
     pieces (before ++ c ∷ cs) xs
 
 -- the place of the item with this number, from 0
 abbrev pub item_place : List ℕ → List Item → ℕ → Place
-item_place before [] n = place_behind before
-item_place before (skip c ∷ xs) zero = place_behind before
+item_place before [] n = place_after before
+item_place before (skip c ∷ xs) zero = place_after before
 item_place before (skip c ∷ xs) (suc n) = item_place (before ++ c ∷ []) xs n
-item_place before (lexeme c cs k o ∷ xs) zero = place_behind before
+item_place before (lexeme c cs k o ∷ xs) zero = place_after before
 item_place before (lexeme c cs k o ∷ xs) (suc n) = item_place (before ++ c ∷ cs) xs n
 
 -- where they are right ---------------------------------------------------------------------------------------------
@@ -124,7 +124,7 @@ pub pieces_append : (before : List ℕ) (xs ys : List Item) →
     pieces before (xs ++ ys) ≡ pieces before xs ++ pieces (behind before xs) ys
 pieces_append before [] ys = refl
 pieces_append before (skip c ∷ xs) ys = pieces_append (before ++ c ∷ []) xs ys
-pieces_append before (lexeme c cs k o ∷ xs) ys = ap (λ t. (record { kind = k; place = place_behind before }, o) ∷ t)
+pieces_append before (lexeme c cs k o ∷ xs) ys = ap (λ t. (record { kind = k; place = place_after before }, o) ∷ t)
     (pieces_append (before ++ c ∷ cs) xs ys)
 
 -- tokens -------------------------------------------------------------------------------------------------------------
@@ -144,7 +144,7 @@ no_comment c [] e = refl
 no_comment c (d ∷ rest) e = rw (second_of (is_blank c) (nat_eq c 47) (nat_eq c 35) e) refl
 
 token_read : (before : List ℕ) (c : ℕ) (cs after : List ℕ) (k : Kind) (o : ℕ) → IsRead c cs k o after →
-    IsToken before (c ∷ cs) ((c ∷ cs) ++ after) (record { kind = k; place = place_behind before })
+    IsToken before (c ∷ cs) ((c ∷ cs) ++ after) (record { kind = k; place = place_after before })
 token_read before c cs after k o r =
     as_token before (c ∷ cs) after k r.good.lexeme r.good.spells r.good.gapless
     (no_comment c (cs ++ after) r.good.gapless) r.ends
@@ -153,7 +153,7 @@ read_before : (rest before : List ℕ) (xs : List Item) → AreReadBefore rest x
 read_before rest before [] g = tt
 read_before rest before (skip c ∷ xs) g = (blank c refl g.0, read_before rest (before ++ c ∷ []) xs g.1)
 read_before rest before (lexeme c cs k o ∷ xs) g = (
-  subst (λ z. IsToken before (c ∷ cs) ((c ∷ cs) ++ (z ++ rest)) (record { kind = k; place = place_behind before }))
+  subst (λ z. IsToken before (c ∷ cs) ((c ∷ cs) ++ (z ++ rest)) (record { kind = k; place = place_after before }))
       (sym (bytes_read (before ++ c ∷ cs) xs))
       (token_read before c cs (written xs ++ rest) k o g.0),
   read_before rest (before ++ c ∷ cs) xs g.1,
@@ -175,7 +175,7 @@ lexed source xs e g = all_lexed source xs e (before_none xs g)
 -- up to a fault
 pub faulty : (source rest : List ℕ) (xs : List Item) (c : Cause) → source ≡ written xs ++ rest →
     AreReadBefore rest xs → IsFaulty c (bytes_of (reading [] xs)) rest →
-    IsTokenFault source c (place_behind (bytes_of (reading [] xs)))
+    IsTokenFault source c (place_after (bytes_of (reading [] xs)))
 faulty source rest xs c e g fault = (
   reading [] xs,
   rest,
@@ -189,7 +189,7 @@ pub plain_pieces : (before : List ℕ) (xs : List Item) (t : Token) →
     plain (pieces before xs ++ (t, 0) ∷ []) ≡ tokens_of (reading before xs) ++ t ∷ []
 plain_pieces before [] t = refl
 plain_pieces before (skip c ∷ xs) t = plain_pieces (before ++ c ∷ []) xs t
-plain_pieces before (lexeme c cs k o ∷ xs) t = ap (λ ts. record { kind = k; place = place_behind before } ∷ ts)
+plain_pieces before (lexeme c cs k o ∷ xs) t = ap (λ ts. record { kind = k; place = place_after before } ∷ ts)
     (plain_pieces (before ++ c ∷ cs) xs t)
 
 level_by : (o : ℕ) → nat_le o greatest_level ≡ true → o ≤ greatest_level

@@ -6,7 +6,7 @@ use Rattle.lra_tree.specs.declared.tokens.Mark.{Mark}
 use Rattle.lra_tree.specs.declared.tokens.Mark.TheVariants as mark
 use Rattle.lra_tree.specs.declared.tokens.Kind.{Kind}
 use Rattle.lra_tree.specs.Lexeme.{is_name_word, is_number_word, mark_text, is_among, IsOpen, SpellsToken, Lexeme, word, number_word, mark_word, unclosed}
-use Rattle.lra_base.specs.Places.{place_behind}
+use Rattle.lra_base.specs.Places.{place_after}
 use Rattle.lra_tree.specs.Tokens.{is_blank, IsGap, blank, line_comment, block_comment, skipped_line, NoGap, IsLongest, IsToken}
 
 -- no gap begins with another byte than a blank, `/`, `#`
@@ -106,7 +106,7 @@ longest_by s after lexeme other ends = record {
 }
 
 pub as_token : (before s after : List ℕ) (k : Kind) → Lexeme s → SpellsToken s k → begins_gap (first_byte (s ++ after)) ≡ false → opens_comment (s ++ after) ≡ false
-    → ends_there s after ≡ true → IsToken before s (s ++ after) (record { kind = k; place = place_behind before })
+    → ends_there s after ≡ true → IsToken before s (s ++ after) (record { kind = k; place = place_after before })
 as_token before s after k lexeme spells gapless other ends = record {
   no_gap = no_gap before (s ++ after) gapless;
   longest = longest_by s after lexeme other ends;

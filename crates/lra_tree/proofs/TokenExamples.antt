@@ -14,7 +14,7 @@ use Rattle.lra_tree.specs.declared.tokens.Mark.TheVariants as mark
 use Rattle.lra_tree.specs.declared.tokens.Token.{Token}
 use Rattle.lra_tree.specs.Lexeme.{octal, decimal_base, hexadecimal, IsLiteral, Base, IsFront, is_digit, is_digit_of, number_behind, greatest_literal, is_between, is_among, suffixes, word, number_word, literal_type}
 use Rattle.lra_tree.specs.Lexeme.{mark_word, name, number, mark_of, reserved}
-use Rattle.lra_base.specs.Places.{place_behind}
+use Rattle.lra_base.specs.Places.{place_after}
 use Rattle.lra_tree.specs.Tokens.{blank, line_comment, block_comment, skipped_line, gap, token, Lex, IsTokenFault}
 use Rattle.lra_tree.proofs.LongestByTest.{no_gap, longest_by, as_token, is_open, no_lexeme}
 use Rattle.lra_tree.proofs.Lexemes.{Item, ◌⨾◌, all_lexed, faulty}
@@ -81,7 +81,7 @@ types_of_literals = (refl, refl, refl)
 -- places -----------------------------------------------------------------------------------------------------------
 
 -- a line feed ends a line, and belongs to it: catches columns from 0
-places : (place_behind [] ≡ at 1 1) × (place_behind (codes "ab") ≡ at 1 3) × (place_behind (codes "ab" ++ 10 ∷ []) ≡ at 2 1) × (place_behind (codes "ab" ++ 10 ∷ codes "c") ≡ at 2 2)
+places : (place_after [] ≡ at 1 1) × (place_after (codes "ab") ≡ at 1 3) × (place_after (codes "ab" ++ 10 ∷ []) ≡ at 2 1) × (place_after (codes "ab" ++ 10 ∷ codes "c") ≡ at 2 2)
 places = (refl, refl, refl, refl)
 
 -- whole sources ----------------------------------------------------------------------------------------------------

@@ -4,7 +4,7 @@ use Rattle.std.specs.Prelude.{◌≡◌, ◌≢◌, ℕ, ◌≤◌, ◌⊎◌, B
 use Rattle.std.specs.Prelude.{codes, ⊤, not}
 use Rattle.std.specs.List.{list_all}
 use Rattle.lra_base.specs.declared.refusals.Place.{Place}
-use Rattle.lra_base.specs.Places.{place_behind}
+use Rattle.lra_base.specs.Places.{place_after}
 use Rattle.lra_base.specs.declared.refusals.Cause.{Cause}
 use Rattle.lra_base.specs.declared.refusals.Cause.TheVariants.{BadByte, BadLiteral}
 use Rattle.lra_tree.specs.declared.tokens.Token.{Token}
@@ -89,7 +89,7 @@ pub record IsToken (before s rest : List ℕ) (t : Token) : Type 0 where
   pub no_gap : NoGap before rest
   pub longest : IsLongest s rest
   pub spells : SpellsToken s t.kind
-  pub place : t.place ≡ place_behind before
+  pub place : t.place ≡ place_after before
 
 -- the pieces stand between the bytes before and after them
 abbrev pub IsReading : List ℕ → List Fragment → List ℕ → Type 0
@@ -100,7 +100,7 @@ IsReading before (token bytes t ∷ ps) after = IsToken before bytes (bytes ++ (
     IsReading (before ++ bytes) ps after
 
 abbrev pub end_token : List ℕ → Token
-end_token source = record { kind = End; place = place_behind source }
+end_token source = record { kind = End; place = place_after source }
 
 -- the tokens of the source; behind the last byte stands the end
 abbrev pub Lex : List ℕ → List Token → Type 0
@@ -120,7 +120,7 @@ IsFaulty cause before rest = ⊥
 abbrev pub IsTokenFault : List ℕ → Cause → Place → Type 0
 IsTokenFault source cause place =
     (ps : List Fragment) × (rest : List ℕ) × (source ≡ bytes_of ps ++ rest) × IsReading [] ps rest
-    × IsFaulty cause (bytes_of ps) rest × (place ≡ place_behind (bytes_of ps))
+    × IsFaulty cause (bytes_of ps) rest × (place ≡ place_after (bytes_of ps))
 
 -- a source has one list of tokens, or one first fault
 abbrev pub OneReading : Type 0

@@ -2,7 +2,7 @@
 use Rattle.std.proofs.Common.{◌≡◌, ◌≤◌, ◌<◌, inl, inr, ℕ, List, length, Option, Some, None}
 use Rattle.std.proofs.Common.{Result, Ok, Err, IfOk, refl, ap, sym, ◌∙◌, subst, arith}
 use Rattle.lra_program.specs.Program.{Program}
-use Rattle.lra_operations.specs.Graph.{Node}
+use Rattle.lra_operations.specs.Tree.{Node}
 use Rattle.lra_paths.specs.Paths.{AreFewPaths}
 use Rattle.lra_lines.specs.declared.refusals.VerifyError.{VerifyError}
 use Rattle.lra_lines.specs.declared.refusals.VerifyError.TheVariants.{Refused, Memory}
@@ -24,7 +24,7 @@ use Rattle.lra_meaning.specs.Refuse.{Refuse}
 use Rattle.lra_meaning.specs.Resolve.{resolve}
 use Rattle.lra_program.specs.ProgramViews.{program_view}
 use Rattle.lra_program.specs.Sites.{Site, sites_of}
-use Rattle.lra_operations.specs.GraphViews.{node_view, site_view}
+use Rattle.lra_operations.specs.TreeViews.{node_view, site_view}
 use Rattle.lra_front.specs.Stages.{HasTree, HasGraph}
 use Rattle.lra_front.specs.declared.front.Front.{Front}
 use Rattle.lra_verify.specs.declared.head.Head as declared

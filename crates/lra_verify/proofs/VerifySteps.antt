@@ -9,7 +9,7 @@ use Rattle.std.proofs.lemmas.List.{length-map}
 use Rattle.std.proofs.lemmas.Bool.Decides.{leb_tells}
 use Rattle.std.proofs.lemmas.Option.{slice_get-get_or, slice_get-map}
 use Rattle.lra_front.specs.Claims.{AreFew}
-use Rattle.lra_operations.specs.declared.graph.Site as declared
+use Rattle.lra_operations.specs.declared.tree.Site as declared
 use Rattle.lra_sides.proofs.TableSteps.{get_left, get_seam}
 use Rattle.lra_domain.specs.Actions.{Action}
 use Rattle.lra_linear_spec.specs.declared.ConKind.{ConKind}
@@ -18,8 +18,8 @@ use Rattle.lra_systems.specs.LinearSystems.{LinearSystem, rows_by_kind}
 use Rattle.lra_verify.specs.PointViews.{HaveDims}
 use Rattle.lra_program.specs.Program.{Program}
 use Rattle.lra_program.specs.Sites.{Site, sites_of}
-use Rattle.lra_operations.specs.Graph.{Node}
-use Rattle.lra_operations.specs.GraphViews.{site_view}
+use Rattle.lra_operations.specs.Tree.{Node}
+use Rattle.lra_operations.specs.TreeViews.{site_view}
 use Rattle.lra_ways.specs.Ways.{Goal, comes_to, denies}
 use Rattle.lra_paths.specs.Paths.{Path, path_by, paths_between, paths_of, denials_of, sources_of, points_of, leading, leading_in}
 use Rattle.lra_sides.specs.Sides.{greatest_paths}

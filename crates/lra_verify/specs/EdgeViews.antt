@@ -7,7 +7,7 @@ use Rattle.lra_linear_spec.specs.declared.ConKind.{ConKind}
 use Rattle.lra_systems.specs.LinearSystems.{LinearSystem, constraints}
 use Rattle.lra_domain.specs.Actions.{Action}
 use Rattle.lra_program.specs.Sites.{Site}
-use Rattle.lra_operations.specs.GraphViews.{site_view}
+use Rattle.lra_operations.specs.TreeViews.{site_view}
 use Rattle.lra_ways.specs.Ways.{Goal, comes_to, denies}
 use Rattle.lra_paths.specs.Paths.{Path, path_by, live_of}
 use Rattle.lra_paths.specs.Sources.{to_goal, AreFewTo}

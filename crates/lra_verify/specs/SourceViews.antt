@@ -2,7 +2,7 @@
 use Rattle.std.specs.Prelude.{◌≡◌, ◌<◌, ℕ, suc, List, length, slice_get, Result, Ok, Err, ⊤}
 use Rattle.std.specs.List.{All}
 use Rattle.lra_program.specs.Program.{Program}
-use Rattle.lra_operations.specs.Graph.{Node}
+use Rattle.lra_operations.specs.Tree.{Node}
 use Rattle.lra_ways.specs.Ways.{Goal}
 use Rattle.lra_paths.specs.Paths.{leading, AreFewPaths, HasTooMany}
 use Rattle.lra_paths.specs.Sources.{AreFewTo}

@@ -5,7 +5,7 @@ ghost use Rattle.std.specs.Prelude.{MatchOption, IfOk, IfSome};
 ghost use Rattle.std.specs.Prelude.{nat_eq, true, false, option_map, suc};
 ghost use Rattle.std.specs.List.{All, starts_with};
 ghost use Rattle.lra_program.specs.Sites.{Site};
-ghost use Rattle.lra_operations.specs.GraphViews.{site_view};
+ghost use Rattle.lra_operations.specs.TreeViews.{site_view};
 ghost use Rattle.lra_script.specs.Views.{constraint_of};
 ghost use Rattle.lra_certificate.specs.CertificateText.{point_text};
 ghost use Rattle.lra_certificate.specs.Judged.{as_given, numbers_behind, row_in, line_on};

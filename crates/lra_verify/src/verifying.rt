@@ -6,8 +6,8 @@ ghost use Rattle.std.specs.List.{All};
 ghost use Rattle.lra_program.specs.Program as programs;
 ghost use Rattle.lra_program.specs.ProgramViews.{program_view};
 ghost use Rattle.lra_program.specs.Sites.{sites_of};
-ghost use Rattle.lra_operations.specs.Graph.{Node};
-ghost use Rattle.lra_operations.specs.GraphViews.{node_view, site_view};
+ghost use Rattle.lra_operations.specs.Tree.{Node};
+ghost use Rattle.lra_operations.specs.TreeViews.{node_view, site_view};
 ghost use Rattle.lra_paths.specs.Paths.{leading_in};
 ghost use Rattle.lra_ways.specs.Stretches.{AreWays};
 ghost use Rattle.lra_ways.specs.StretchViews.{seen};
@@ -26,7 +26,7 @@ use crate::ways::Ways;
 use lra_base::SourceError;
 use lra_front::read_source;
 use lra_lines::{LineFault, VerifyError, VerifyRefusal};
-use lra_operations::{Graph, Site};
+use lra_operations::{InlinedProgram, Site};
 use lra_paths::{Paths, PathsFailure, Source, find_paths};
 use lra_program::Program;
 use lra_systems::ConSys;
@@ -86,7 +86,7 @@ fn take_lines(
 fn judge(
     alloc: Global,
     program: &Program,
-    graph: &Graph,
+    graph: &InlinedProgram,
     rest: &[u8],
 ) -> Result<(u32, u32), VerifyError>
     requires short { length rest.now < 2 ^ 31 }

@@ -7,10 +7,10 @@ use Rattle.lra_base.specs.declared.refusals.Place.{Place}
 use Rattle.lra_base.specs.Operators.{above, at_least, below}
 use Rattle.lra_program.specs.Receivers.{variable_at}
 use Rattle.lra_program.specs.Program.{local, Expr, literal, read, input, element, Element, Cond, compare, both_of, either_of}
-use Rattle.lra_program.specs.Step.{Op, append, give, give_element}
+use Rattle.lra_program.specs.Step.{Op, append, store_value, store_element}
 use Rattle.lra_program.specs.Step as step
-use Rattle.lra_operations.specs.Graph.{Node, empty, point, act, seq, choose}
-use Rattle.lra_operations.specs.Asked.{accessed_in}
+use Rattle.lra_operations.specs.Tree.{Node, empty, point, act, seq, choose}
+use Rattle.lra_operations.specs.CheckedOperations.{accessing_ops}
 use Rattle.lra_box.specs.Bounds.{full_interval}
 use Rattle.lra_box.specs.declared.interval.Interval.{Interval}
 use Rattle.lra_box.specs.Content.{BoxContent}
@@ -57,7 +57,7 @@ abbrev compared : Cond
 compared = both_of (compare at_least i (literal Int 0)) (both_of (compare below i (literal Int 3)) (compare above (read_at left) (read_at outer)))
 
 abbrev comparing_tree : Node
-comparing_tree = seq (seq (seq (point 0) (seq (act 0 (append Int)) (act 0 (give 0 (variable_at 0 Int) input))))
+comparing_tree = seq (seq (seq (point 0) (seq (act 0 (append Int)) (act 0 (store_value 0 (variable_at 0 Int) input))))
     (seq (seq (point 1) (choose 1 0 compared (point 2) empty)) empty)) (point 3)
 
 abbrev ints : BoxContent
@@ -144,7 +144,7 @@ compared_inside = (
 )
 
 comparing_inside : JudgesAccesses box_abstraction boxes comparing_tree comparing_values None ((1, compared_told) ∷ []) None
-comparing_inside = judged (OpInside box_abstraction boxes) (accessed_in None comparing_tree) comparing_values
+comparing_inside = judged (OpInside box_abstraction boxes) (accessing_ops None comparing_tree) comparing_values
     ((record { point = 1; fresh = None; op = step.test 0 compared true }, compared_told) ∷ []) refl (compared_inside, tt) (tt, tt)
 
 -- int main(void){ long a[4], i=input(); if(i<0 || i>=4 || a[i]>0) ; a[i]=a[3]; } ----------------------------------------------
@@ -165,10 +165,10 @@ abbrev last : Element
 last = access 4 Long 72 (literal Int 3)
 
 abbrev writes : Op
-writes = give_element 0 target (read_at last)
+writes = store_element 0 target (read_at last)
 
 abbrev trying_tree : Node
-trying_tree = seq (seq (seq (point 0) (seq (act 0 (append Long)) (act 0 (give 0 (variable_at 0 Long) input))))
+trying_tree = seq (seq (seq (point 0) (seq (act 0 (append Long)) (act 0 (store_value 0 (variable_at 0 Long) input))))
     (seq (seq (point 1) (choose 1 0 outside_or (point 2) empty)) (seq (seq (point 3) (act 3 writes)) empty))) (point 4)
 
 abbrev any : BoxContent
@@ -266,7 +266,7 @@ written_told = (
 
 trying_inside : JudgesAccesses box_abstraction boxes trying_tree trying_values None
     ((1, (at 57, true) ∷ []) ∷ (3, (at 67, false) ∷ (at 72, true) ∷ []) ∷ []) None
-trying_inside = judged (OpInside box_abstraction boxes) (accessed_in None trying_tree) trying_values
+trying_inside = judged (OpInside box_abstraction boxes) (accessing_ops None trying_tree) trying_values
     ((record { point = 1; fresh = None; op = step.test 0 outside_or true }, (at 57, true) ∷ [])
     ∷ (record { point = 3; fresh = None; op = writes }, (at 67, false) ∷ (at 72, true) ∷ []) ∷ [])
     refl (tried_told, (written_told, tt)) ((lit< tt, tt), (tt, tt))

@@ -7,8 +7,8 @@ use Rattle.lra_program.proofs.RunExamples.{long_variable}
 use Rattle.lra_program.specs.Receivers.{variable_at}
 use Rattle.lra_program.specs.Program.{local, Expr, literal, read, binary}
 use Rattle.lra_base.specs.Operators.{plus}
-use Rattle.lra_program.specs.Step.{give, keep}
-use Rattle.lra_operations.specs.Graph.{broken, act, seq, leave}
+use Rattle.lra_program.specs.Step.{store_value, truncate_to}
+use Rattle.lra_operations.specs.Tree.{broken, act, seq, leave}
 use Rattle.lra_box.specs.Content.{BoxContent}
 use Rattle.lra_box.specs.Abstraction.{box_abstraction}
 use Rattle.lra_flow.specs.Operations.{straining}
@@ -20,7 +20,7 @@ abbrev i : Expr
 i = read (long_variable (local 0))
 
 -- a `break` in a block with a variable of its own goes out without it; behind the `break` it still lives
-cut_break : Pass BoxContent BoxContent boxes (narrowed 1) (seq (act 6 (keep 1)) (leave 2 broken)) None (two (between 0 3) (between 1 1)) (jumps broken (one (between 0 3)) nowhere None)
+cut_break : Pass BoxContent BoxContent boxes (narrowed 1) (seq (act 6 (truncate_to 1)) (leave 2 broken)) None (two (between 0 3) (between 1 1)) (jumps broken (one (between 0 3)) nowhere None)
 cut_break = (
   goes_on [] (one (between 0 3)) None,
   jumps broken (one (between 0 3)) nowhere None,
@@ -30,7 +30,7 @@ cut_break = (
 )
 
 -- i = i + 1 of i in 0..2^127 - 1 strains: the new bound would pass the range
-strained_example : Pass BoxContent BoxContent (straining box_abstraction) (narrowed 1) (act 5 (give 0 (variable_at 0 Long) (binary plus i (literal Int 1)))) None (one (between 0 (2 ^ 127 - 1)))
+strained_example : Pass BoxContent BoxContent (straining box_abstraction) (narrowed 1) (act 5 (store_value 0 (variable_at 0 Long) (binary plus i (literal Int 1)))) None (one (between 0 (2 ^ 127 - 1)))
     (goes_on [] (one (at_least 1)) (Some 5))
 strained_example = (
   one (at_least 1),

@@ -10,10 +10,10 @@ use Rattle.lra_program.specs.Receivers.{variable_at}
 use Rattle.lra_program.specs.Value.{Argument}
 use Rattle.lra_program.specs.Program.{local, literal, read, input, nonzero, Call, Function, Program, declaration, statement, no_more, absent}
 use Rattle.lra_program.specs.Program as program
-use Rattle.lra_program.specs.Step.{Op, append, give, give_any, keep}
-use Rattle.lra_operations.specs.Graph.{returned, Node, empty, point, act, seq, choose}
+use Rattle.lra_program.specs.Step.{Op, append, store_value, havoc, truncate_to}
+use Rattle.lra_operations.specs.Tree.{returned, Node, empty, point, act, seq, choose}
 use Rattle.lra_operations.specs.Inlined.{as_declaration, as_given, as_result, is_call, as_statement, as_none, as_if, as_absent, as_assign, as_value, as_return_value, call_node, return_node}
-use Rattle.lra_operations.specs.Agree.{IsGraph}
+use Rattle.lra_operations.specs.Agree.{IsInlinedTree}
 use Rattle.lra_box.specs.declared.interval.Interval.{Interval}
 use Rattle.lra_box.specs.declared.interval.Side.TheVariants.{Low, High}
 use Rattle.lra_box.specs.Bounds.{full_interval, form, IsValidInterval}
@@ -55,16 +55,16 @@ calling = record {
 
 -- both variables live where f returns, and r alone behind the call
 abbrev returns_one : Node
-returns_one = seq (point 2) (return_node 2 (give 1 (variable_at 0 Long) (literal Int 1)) 1 2)
+returns_one = seq (point 2) (return_node 2 (store_value 1 (variable_at 0 Long) (literal Int 1)) 1 2)
 
 abbrev may_return : Node
 may_return = seq (point 1) (choose 1 1 (nonzero input) returns_one empty)
 
 abbrev sets_two : Node
-sets_two = seq (point 3) (act 3 (give 1 (variable_at 1 Long) (literal Int 2)))
+sets_two = seq (point 3) (act 3 (store_value 1 (variable_at 1 Long) (literal Int 2)))
 
 abbrev returns_x : Node
-returns_x = seq (point 4) (return_node 4 (give 1 (variable_at 0 Long) (read (long_variable (local 0)))) 1 2)
+returns_x = seq (point 4) (return_node 4 (store_value 1 (variable_at 0 Long) (read (long_variable (local 0)))) 1 2)
 
 abbrev inside : Node
 inside = seq may_return (seq sets_two (seq returns_x empty))
@@ -79,7 +79,7 @@ abbrev calling_tree : Node
 calling_tree = seq (seq (seq (point 0) (seq (act 0 (append Long)) whole_call)) empty) (point 6)
 
 -- the tree is that of the program
-calling_graph : IsGraph calling calling_tree
+calling_graph : IsInlinedTree calling calling_tree
 calling_graph = record {
   body = _;
   last = 6;
@@ -149,7 +149,7 @@ returning q op r x s given = (
   refl,
 )
 
-gives_one : Pass BoxContent BoxContent boxes (narrowed 1) (act 2 (give 1 (variable_at 0 Long) (literal Int 1))) None at_first
+gives_one : Pass BoxContent BoxContent boxes (narrowed 1) (act 2 (store_value 1 (variable_at 0 Long) (literal Int 1))) None at_first
     (goes_on [] (two (between 1 1) (between 0 0)) None)
 gives_one = (
   two (between 1 1) (between 0 0),
@@ -158,7 +158,7 @@ gives_one = (
   refl,
 )
 
-gives_x : Pass BoxContent BoxContent boxes (narrowed 1) (act 4 (give 1 (variable_at 0 Long) (read (long_variable (local 0))))) None at_last
+gives_x : Pass BoxContent BoxContent boxes (narrowed 1) (act 4 (store_value 1 (variable_at 0 Long) (read (long_variable (local 0))))) None at_last
     (goes_on [] (two (between 2 2) (between 2 2)) None)
 gives_x = (
   two (between 2 2) (between 2 2),
@@ -184,7 +184,7 @@ may_return_pass = (
     returned_with 2 at_first (between 1 1),
     goes_on [] at_first None,
     (refl, refl),
-    returning 2 (give 1 (variable_at 0 Long) (literal Int 1)) full_interval (between 0 0) (between 1 1) gives_one,
+    returning 2 (store_value 1 (variable_at 0 Long) (literal Int 1)) full_interval (between 0 0) (between 1 1) gives_one,
     (refl, refl),
     refl,
     (refl, refl),
@@ -222,7 +222,7 @@ inside_pass = (
     (
       returned_with 4 at_last (between 2 2),
       goes_on [] nowhere None,
-      returning 4 (give 1 (variable_at 0 Long) (read (long_variable (local 0)))) full_interval (between 2 2) (between 2 2) gives_x,
+      returning 4 (store_value 1 (variable_at 0 Long) (read (long_variable (local 0)))) full_interval (between 2 2) (between 2 2) gives_x,
       refl,
       refl,
     ),
@@ -235,7 +235,7 @@ abbrev nowhere_alone : BoxContent
 nowhere_alone = record { dims = 1; bounds = None }
 
 -- at the end of f both variables live, though no run comes there
-f_ends : Pass BoxContent BoxContent boxes (narrowed 1) (seq (point 5) (seq (act 5 (keep 2)) (seq (act 5 (give_any (variable_at 0 Long))) (act 5 (keep 1))))) None nowhere
+f_ends : Pass BoxContent BoxContent boxes (narrowed 1) (seq (point 5) (seq (act 5 (truncate_to 2)) (seq (act 5 (havoc (variable_at 0 Long))) (act 5 (truncate_to 1))))) None nowhere
     (goes_on (value 5 nowhere ∷ []) nowhere_alone None)
 f_ends = (
   goes_on (value 5 nowhere ∷ []) nowhere None,

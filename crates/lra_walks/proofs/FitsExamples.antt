@@ -18,13 +18,13 @@ use Rattle.lra_program.specs.Receivers.{variable_at}
 use Rattle.lra_program.specs.Program.{local, Variable, Expr, literal, read, input, binary, Cond, compare, both_of, Program, declaration, statement}
 use Rattle.lra_program.specs.Program.{no_more, loop, absent}
 use Rattle.lra_program.specs.Program as program
-use Rattle.lra_program.specs.Step.{Op, append, give}
+use Rattle.lra_program.specs.Step.{Op, append, store_value}
 use Rattle.lra_program.specs.Step as step
-use Rattle.lra_operations.specs.Graph.{Node, empty, point, act, seq, choose}
+use Rattle.lra_operations.specs.Tree.{Node, empty, point, act, seq, choose}
 use Rattle.lra_operations.specs.Inlined.{as_declaration, as_fresh, as_given, as_value, as_statement, as_none, as_loop, is_loop, as_assign, as_if}
 use Rattle.lra_operations.specs.Inlined.{as_nothing, as_absent, loop_node}
-use Rattle.lra_operations.specs.Agree.{IsGraph}
-use Rattle.lra_operations.specs.Asked.{Asked, asked_in}
+use Rattle.lra_operations.specs.Agree.{IsInlinedTree}
+use Rattle.lra_operations.specs.CheckedOperations.{OpAtPoint, computing_ops}
 use Rattle.lra_box.specs.Bounds.{full_interval, form}
 use Rattle.lra_box.specs.Content.{BoxContent}
 use Rattle.lra_box.specs.Laws.{box_laws}
@@ -56,7 +56,7 @@ abbrev x_plus_one : Expr
 x_plus_one = binary plus x (literal Int 1)
 
 abbrev gets_one_more : Op
-gets_one_more = give 0 (variable_at 0 Int) x_plus_one
+gets_one_more = store_value 0 (variable_at 0 Int) x_plus_one
 
 some_value : (l h : ℤ) → IsUnreachable box_abstraction (x_in l h) → ⊥
 some_value l h e = cc
@@ -109,7 +109,7 @@ greatest_overflows = fits_not (negsuc 2147483647) (pos 2147483647) (LiesIn box_a
     (lies_not ints next (negsuc 2147483646) (pos 2147483648) (refl, (((lit< tt, lit< tt), refl), tt))
     (one_more (negsuc 2147483647) (pos 2147483647) (lit< tt) (lit< tt) (lit< tt) (lit< tt)) refl)
 
-abbrev asked_sum : ℕ → Asked
+abbrev asked_sum : ℕ → OpAtPoint
 asked_sum q = record { point = q; fresh = None; op = gets_one_more }
 
 sum_judged : (values : List BoxContent) (q : ℕ) (l h : ℤ) (b : Bool) → slice_get values q ≡ Some (x_in l h)
@@ -135,7 +135,7 @@ declared = (one full_interval, Exact, Exact, (refl, record { table = refl; extre
 -- int main(void){ int x=input(); x=x+1; } ------------------------------------------------------------------------------
 
 abbrev gets_input : Op
-gets_input = give 0 (variable_at 0 Int) input
+gets_input = store_value 0 (variable_at 0 Int) input
 
 abbrev reading : Program
 reading = main_alone (declaration (record { label = 1; number_type = Int; rvalue = Some (program.value input) })
@@ -151,7 +151,7 @@ abbrev reading_tree : Node
 reading_tree = seq (seq reads (seq increases empty)) (point 2)
 
 -- the tree is that of the program
-reading_graph : IsGraph reading reading_tree
+reading_graph : IsInlinedTree reading reading_tree
 reading_graph = record {
   body = _;
   last = 2;
@@ -235,7 +235,7 @@ reading_written = (
 abbrev reading_values : List BoxContent
 reading_values = none ∷ ints ∷ more ∷ []
 
-abbrev asked_input : Asked
+abbrev asked_input : OpAtPoint
 asked_input = record { point = 0; fresh = Some Int; op = gets_input }
 
 -- a number of 64 bits, which has no form, is converted behind the new variable
@@ -257,7 +257,7 @@ input_judged = (
 
 -- neither fits: catches a conversion that isn't asked, and a sum whose values are those that the test behind it leaves
 reading_fits : Judges box_abstraction boxes reading_tree reading_values None ((0, false) ∷ (1, false) ∷ []) None
-reading_fits = judged (OpFits box_abstraction boxes) (asked_in None reading_tree) reading_values ((asked_input, false) ∷ (asked_sum 1, false) ∷ []) refl
+reading_fits = judged (OpFits box_abstraction boxes) (computing_ops None reading_tree) reading_values ((asked_input, false) ∷ (asked_sum 1, false) ∷ []) refl
     (input_judged, (sum_judged reading_values 1 (negsuc 2147483647) (pos 2147483647) false refl greatest_overflows refl, tt))
     ((lit< tt, tt), (tt, tt))
 
@@ -279,7 +279,7 @@ testing_tree = seq (seq (seq (point 0) (act 0 (append Int)))
     (seq (seq (point 1) (choose 1 0 is_less (seq (point 2) (act 2 gets_one_more)) empty))
     (seq (seq (point 3) (choose 3 0 divides (point 4) empty)) empty))) (point 5)
 
-testing_graph : IsGraph testing testing_tree
+testing_graph : IsInlinedTree testing testing_tree
 testing_graph = record {
   body = _;
   last = 5;
@@ -388,7 +388,7 @@ divides_judged = (
 )
 
 testing_fits : Judges box_abstraction boxes testing_tree testing_values None ((1, true) ∷ (2, true) ∷ (3, false) ∷ []) None
-testing_fits = judged (OpFits box_abstraction boxes) (asked_in None testing_tree) testing_values
+testing_fits = judged (OpFits box_abstraction boxes) (computing_ops None testing_tree) testing_values
     ((record { point = 1; fresh = None; op = step.test 0 is_less true }, true) ∷ (asked_sum 2, true)
     ∷ (record { point = 3; fresh = None; op = step.test 0 divides true }, false) ∷ [])
     refl (
@@ -411,10 +411,10 @@ counting = main_alone (declaration (record { label = 1; number_type = Int; rvalu
     (statement (loop 2 is_small (program.assign 3 variable (program.value x_plus_one)) absent) no_more)) 4
 
 abbrev counting_tree : Node
-counting_tree = seq (seq (seq (point 0) (seq (act 0 (append Int)) (act 0 (give 0 (variable_at 0 Int) (literal Int 0)))))
+counting_tree = seq (seq (seq (point 0) (seq (act 0 (append Int)) (act 0 (store_value 0 (variable_at 0 Int) (literal Int 0)))))
     (seq (loop_node 1 0 is_small (seq (point 2) (act 2 gets_one_more)) empty) empty)) (point 3)
 
-counting_graph : IsGraph counting counting_tree
+counting_graph : IsInlinedTree counting counting_tree
 counting_graph = record {
   body = _;
   last = 3;
@@ -431,6 +431,6 @@ counting_values = none ∷ x_in (pos 0) (pos 10) ∷ x_in (pos 0) (pos 9) ∷ x_
 
 -- one answer alone: nothing is computed by the condition, nor by what an `int` gets of an `int`
 counting_fits : Judges box_abstraction boxes counting_tree counting_values None ((2, true) ∷ []) None
-counting_fits = judged (OpFits box_abstraction boxes) (asked_in None counting_tree) counting_values ((asked_sum 2, true) ∷ []) refl
+counting_fits = judged (OpFits box_abstraction boxes) (computing_ops None counting_tree) counting_values ((asked_sum 2, true) ∷ []) refl
     (sum_judged counting_values 2 (pos 0) (pos 9) true refl (sum_fits (pos 0) (pos 9) (lit< tt) (lit< tt) (lit< tt) (lit< tt) refl refl) refl, tt)
     (tt, tt)

@@ -6,19 +6,19 @@ use Rattle.lra_linear_spec.proofs.Membership.{contains_none, contains_head, cont
 use Rattle.lra_domain.specs.declared.Exactness.{Exactness}
 use Rattle.lra_domain.specs.declared.Exactness.TheVariants.{Exact}
 use Rattle.lra_program.specs.Step.{Op}
-use Rattle.lra_operations.specs.Asked.{Asked}
+use Rattle.lra_operations.specs.CheckedOperations.{OpAtPoint}
 use Rattle.lra_box.specs.Content.{BoxContent}
 use Rattle.lra_flow.specs.Judging.{Finding, Finds, answer_of, first_flagged, AskedTold, IsFoundOn}
 use Rattle.lra_walks.proofs.LoopExamples.{boxes}
 
 module _ {A : Type 0} (Told : Op → BoxContent → A → Exactness → Type 0) where
   abbrev pub Found : Type 0
-  Found = List (Asked × A)
+  Found = List (OpAtPoint × A)
 
-  abbrev pub operation : Asked × A → Asked
+  abbrev pub operation : OpAtPoint × A → OpAtPoint
   operation x = x.0
 
-  abbrev pub finding_of : Asked × A → Finding A
+  abbrev pub finding_of : OpAtPoint × A → Finding A
   finding_of x = record { point = x.0.point; answer = x.1; exactness = Exact }
 
   -- each is judged so, without a flag
@@ -44,10 +44,10 @@ module _ {A : Type 0} (Told : Op → BoxContent → A → Exactness → Type 0) 
     | inr later ↦ let a = found_on values xs j are.1 later in (a.0, contains_tail x.0 a.0 (map operation xs) a.1, a.2, a.3)
   ]
 
-  asked_found : (xs : Found) (a : Asked) → Contains (map operation xs) a → (j : Finding A) × Contains (map finding_of xs) j × (j.point ≡ a.point)
+  asked_found : (xs : Found) (a : OpAtPoint) → Contains (map operation xs) a → (j : Finding A) × Contains (map finding_of xs) j × (j.point ≡ a.point)
   asked_found [] a h = absurd (contains_none a h)
   asked_found (x ∷ xs) a h = elim (contains_cases x.0 a (map operation xs) h) [
-    | inl same ↦ (finding_of x, contains_head (finding_of x) (map finding_of xs), ap (λ (b : Asked). b.point) same)
+    | inl same ↦ (finding_of x, contains_head (finding_of x) (map finding_of xs), ap (λ (b : OpAtPoint). b.point) same)
     | inr later ↦ let r = asked_found xs a later in (r.0, contains_tail (finding_of x) r.0 (map finding_of xs) r.1, r.2)
   ]
 
@@ -69,12 +69,12 @@ module _ {A : Type 0} (Told : Op → BoxContent → A → Exactness → Type 0) 
   never_flagged [] = refl
   never_flagged (x ∷ xs) = never_flagged xs
 
-  pub judged : (asked : List Asked) (values : List BoxContent) (xs : Found) → asked ≡ map operation xs → AreFound values xs → Ascend xs
+  pub judged : (asked : List OpAtPoint) (values : List BoxContent) (xs : Found) → asked ≡ map operation xs → AreFound values xs → Ascend xs
       → Finds boxes Told asked values None (map answer_of (map finding_of xs)) None
   judged asked values xs is are up = record {
     found = map finding_of xs;
-    is_asked = λ j h. subst (λ (all : List Asked). IsFoundOn boxes Told all values j) (sym is) (found_on values xs j are h);
-    has_asked = λ a h. asked_found xs a (subst (λ (all : List Asked). Contains all a) is h);
+    is_asked = λ j h. subst (λ (all : List OpAtPoint). IsFoundOn boxes Told all values j) (sym is) (found_on values xs j are h);
+    has_asked = λ a h. asked_found xs a (subst (λ (all : List OpAtPoint). Contains all a) is h);
     in_order = λ i k j l less a b. ascends xs i k j l up less a b;
     told = refl;
     flags = sym (never_flagged xs);

@@ -11,10 +11,10 @@ use Rattle.lra_program.specs.Receivers.{variable_at}
 use Rattle.lra_program.specs.Program.{local, Expr, literal, read, binary, Cond, compare, Program, declaration, statement, no_more, loop, absent}
 use Rattle.lra_base.specs.Operators.{plus, below}
 use Rattle.lra_program.specs.Program as program
-use Rattle.lra_program.specs.Step.{append, give}
-use Rattle.lra_operations.specs.Graph.{continued, Node, empty, point, act, seq, catch}
+use Rattle.lra_program.specs.Step.{append, store_value}
+use Rattle.lra_operations.specs.Tree.{continued, Node, empty, point, act, seq, catch}
 use Rattle.lra_operations.specs.Inlined.{as_declaration, as_given, as_value, as_statement, as_none, as_loop, is_loop, as_assign, as_absent, loop_node}
-use Rattle.lra_operations.specs.Agree.{IsGraph}
+use Rattle.lra_operations.specs.Agree.{IsInlinedTree}
 use Rattle.lra_box.specs.declared.interval.Interval.{Interval}
 use Rattle.lra_box.specs.declared.interval.Side.TheVariants.{Low, High}
 use Rattle.lra_box.specs.Bounds.{full_interval, crossed, form, IsValidInterval}
@@ -66,16 +66,16 @@ counting = record {
 }
 
 abbrev increase : Node
-increase = seq (point 2) (act 2 (give 0 (variable_at 0 Long) (binary plus i (literal Int 1))))
+increase = seq (point 2) (act 2 (store_value 0 (variable_at 0 Long) (binary plus i (literal Int 1))))
 
 abbrev pub declared : Node
-declared = seq (point 0) (seq (act 0 (append Long)) (act 0 (give 0 (variable_at 0 Long) (literal Int 0))))
+declared = seq (point 0) (seq (act 0 (append Long)) (act 0 (store_value 0 (variable_at 0 Long) (literal Int 0))))
 
 abbrev counting_tree : Node
 counting_tree = seq (seq declared (seq (loop_node 1 0 is_small increase empty) empty)) (point 3)
 
 -- the tree is that of the program
-counting_graph : IsGraph counting counting_tree
+counting_graph : IsInlinedTree counting counting_tree
 counting_graph = record {
   body = _;
   last = 3;

@@ -11,16 +11,16 @@ use Rattle.lra_domain.specs.Bounds.{greater, stable, lesser_low}
 use Rattle.lra_base.specs.declared.number_types.NumberType.TheVariants.{Int, Long}
 use Rattle.lra_program.proofs.RunExamples.{long_variable}
 use Rattle.lra_program.specs.declared.receivers.Receiver.{Receiver}
-use Rattle.lra_program.specs.Receivers.{variable_at, nobody, behind_result}
+use Rattle.lra_program.specs.Receivers.{variable_at, nobody, result_receiver}
 use Rattle.lra_program.specs.Program.{local, Expr, literal, read, input, binary, Cond, compare, nonzero}
 use Rattle.lra_base.specs.Operators.{plus, below, equal}
 use Rattle.lra_program.specs.Program as program
 use Rattle.lra_base.specs.Operators as operators
-use Rattle.lra_program.specs.Step.{append, give, keep}
-use Rattle.lra_operations.specs.Graph.{broken, continued, returned, Node, empty, point, act, check, seq, choose, catch, leave}
+use Rattle.lra_program.specs.Step.{append, store_value, truncate_to}
+use Rattle.lra_operations.specs.Tree.{broken, continued, returned, Node, empty, point, act, check, seq, choose, catch, leave}
 use Rattle.lra_operations.specs.Inlined.{as_declaration, as_given, as_value, as_statement, as_none, as_loop, is_loop, as_assign, as_absent, as_block, as_if, as_break, as_end_value, as_assert}
 use Rattle.lra_operations.specs.Inlined.{loop_node}
-use Rattle.lra_operations.specs.Agree.{IsGraph}
+use Rattle.lra_operations.specs.Agree.{IsInlinedTree}
 use Rattle.lra_box.specs.declared.interval.Interval.{Interval}
 use Rattle.lra_box.specs.declared.interval.Side.TheVariants.{Low, High}
 use Rattle.lra_box.specs.Bounds.{full_interval, crossed, form, IsValidInterval}
@@ -49,20 +49,20 @@ b_is = read (long_variable (local 1))
 
 -- the inner loop's body: its point is 4, and the points inside are 5 to 10
 abbrev leaving : Node
-leaving = seq (point 5) (choose 5 0 (compare operators.at_least b_is (literal Int 3)) (seq (point 6) (seq (act 6 (keep 2)) (leave 2 broken))) empty)
+leaving = seq (point 5) (choose 5 0 (compare operators.at_least b_is (literal Int 3)) (seq (point 6) (seq (act 6 (truncate_to 2)) (leave 2 broken))) empty)
 
 -- nobody asks for main's result, which has to be an `int`
 abbrev to_main : Receiver
-to_main = behind_result (Some Int) nobody
+to_main = result_receiver (Some Int) nobody
 
 abbrev returning : Node
-returning = seq (point 7) (choose 7 0 (nonzero input) (seq (point 8) (seq (act 8 (give 0 to_main (literal Int 0))) (leave 2 returned))) empty)
+returning = seq (point 7) (choose 7 0 (nonzero input) (seq (point 8) (seq (act 8 (store_value 0 to_main (literal Int 0))) (leave 2 returned))) empty)
 
 abbrev counting_b : Node
-counting_b = seq (point 9) (act 9 (give 0 (variable_at 1 Long) (binary plus b_is (literal Int 1))))
+counting_b = seq (point 9) (act 9 (store_value 0 (variable_at 1 Long) (binary plus b_is (literal Int 1))))
 
 abbrev inner_body : Node
-inner_body = seq (seq leaving (seq returning (seq counting_b empty))) (seq (point 10) (act 10 (keep 2)))
+inner_body = seq (seq leaving (seq returning (seq counting_b empty))) (seq (point 10) (act 10 (truncate_to 2)))
 
 abbrev endless : Cond
 endless = nonzero (literal Int 1)
@@ -98,7 +98,7 @@ returned_at v = record { entries = value 8 v ∷ []; normal = nowhere; breaks = 
 abbrev box_of : Option (List Interval) → BoxContent
 box_of o = record { dims = 2; bounds = o }
 
-breaking : (set : Plan) (o : Option (List Interval)) → Pass BoxContent BoxContent boxes set (seq (point 6) (seq (act 6 (keep 2)) (leave 2 broken))) None (box_of o) (broken_at (box_of o))
+breaking : (set : Plan) (o : Option (List Interval)) → Pass BoxContent BoxContent boxes set (seq (point 6) (seq (act 6 (truncate_to 2)) (leave 2 broken))) None (box_of o) (broken_at (box_of o))
 breaking set o = (
   goes_on (value 6 (box_of o) ∷ []) (box_of o) None,
   jumps broken (box_of o) nowhere None,
@@ -327,8 +327,8 @@ inner_loop_pass a sound order low_joined high_joined low_widened high_widened = 
 
 -- the outer loop's body: its point is 2, and the points inside are 3 to 12
 abbrev outer_body : Node
-outer_body = seq (seq (seq (point 3) (act 3 (give 0 (variable_at 1 Long) (literal Int 0)))) (seq inner_loop (seq (seq (point 11) (act 11 (give 0 (variable_at 0 Long) (binary plus a_is (literal Int 1))))) empty)))
-    (seq (point 12) (act 12 (keep 2)))
+outer_body = seq (seq (seq (point 3) (act 3 (store_value 0 (variable_at 1 Long) (literal Int 0)))) (seq inner_loop (seq (seq (point 11) (act 11 (store_value 0 (variable_at 0 Long) (binary plus a_is (literal Int 1))))) empty)))
+    (seq (point 12) (act 12 (truncate_to 2)))
 
 abbrev outer_condition : Cond
 outer_condition = compare below a_is (literal Int 5)
@@ -577,7 +577,7 @@ nested = record {
 }
 
 abbrev declared_b : Node
-declared_b = seq (point 1) (seq (act 1 (append Long)) (act 1 (give 0 (variable_at 1 Long) (literal Int 0))))
+declared_b = seq (point 1) (seq (act 1 (append Long)) (act 1 (store_value 0 (variable_at 1 Long) (literal Int 0))))
 
 abbrev nested_tree : Node
 nested_tree = seq (seq declared (seq declared_b (seq outer_loop (seq (seq (point 13) (check 13 0 (compare equal a_is (literal Int 5)))) empty)))) (point 14)
@@ -586,7 +586,7 @@ both_live : 2 ≤ 2
 both_live = omega arith
 
 -- the tree is that of the program
-nested_graph : IsGraph nested nested_tree
+nested_graph : IsInlinedTree nested nested_tree
 nested_graph = record {
   body = _;
   last = 14;

@@ -1,11 +1,11 @@
 -- Arms of a `switch`: each is a label or a tree; the labels among them.
 use Rattle.std.proofs.Common.{◌≡◌, List, [], ◌∷◌, ◌++◌, map, refl, sym, ap, ◌∙◌, subst, append_assoc}
 use Rattle.lra_base.specs.declared.case_labels.CaseLabel.{CaseLabel}
-use Rattle.lra_operations.specs.Graph.{Arms, no_arms, entries_of}
-use Rattle.lra_operations.specs.GraphViews.{ArmPart, arm_view, arms_before, arms_of}
-use Rattle.lra_operations.specs.declared.graph.Arm.{Arm, Arm-F, out-Arm, roll-Arm, roll-out-Arm}
-use Rattle.lra_operations.specs.declared.graph.Arm.TheVariants.{Entry, Tree}
-use Rattle.lra_operations.specs.declared.graph.Node.{Node}
+use Rattle.lra_operations.specs.Tree.{Arms, no_arms, entries_of}
+use Rattle.lra_operations.specs.TreeViews.{ArmPart, arm_view, arms_before, arms_of}
+use Rattle.lra_operations.specs.declared.tree.Arm.{Arm, Arm-F, out-Arm, roll-Arm, roll-out-Arm}
+use Rattle.lra_operations.specs.declared.tree.Arm.TheVariants.{Entry, Tree}
+use Rattle.lra_operations.specs.declared.tree.Node.{Node}
 use Rattle.lra_operations.proofs.ArmViews.{entry_view, tree_view}
 use Rattle.lra_ways.specs.Labels.{label_at, labels_in}
 

@@ -5,8 +5,8 @@ use Rattle.std.specs.List.{list_any}
 use Rattle.std.proofs.lemmas.Bool.Decides.{Decides-int_eq}
 use Rattle.lra_base.specs.declared.case_labels.CaseLabel.{CaseLabel}
 use Rattle.lra_base.specs.declared.case_labels.CaseLabel.TheVariants.{Case, Default}
-use Rattle.lra_base.specs.CaseLabels.{are_alike, goal_of}
-use Rattle.lra_operations.specs.Graph.{How, normal, jump, empty, Arms, no_arms, entry, arm, entries_of}
+use Rattle.lra_base.specs.CaseLabels.{is_same_case, goal_of}
+use Rattle.lra_operations.specs.Tree.{Completion, normal, jump, empty, Arms, no_arms, entry, arm, entries_of}
 use Rattle.lra_operations.proofs.ArmRows.{arms_row, row_behind}
 use Rattle.lra_ways.specs.Ways.{each_then, segments_by, then_outs, then_ways, through, through_arms, enter, enter_arms}
 use Rattle.lra_ways.specs.Ways.{outs, outs_arms, inside, inside_arms}
@@ -15,25 +15,25 @@ pub neither : (a b : Bool) → (a || b) ≡ false → (a ≡ false) × (b ≡ fa
 neither true b e = absurd (let no : true ≡ false = e in cc)
 neither false b e = (refl, e)
 
-pub alike_are : (l k : CaseLabel) → are_alike l k ≡ true → l ≡ k
+pub alike_are : (l k : CaseLabel) → is_same_case l k ≡ true → l ≡ k
 alike_are (Case y) (Case z) e = ap Case ((Decides-int_eq y z).0 e)
 alike_are (Case y) Default e = absurd (let no : false ≡ true = e in cc)
 alike_are Default (Case z) e = absurd (let no : false ≡ true = e in cc)
 alike_are Default Default e = refl
 
 -- where the label to which a value goes is none of them, it goes past all
-pub goal_out : (z : ℤ) (labels : List CaseLabel) → list_any (are_alike (goal_of z labels)) labels ≡ false
-    → (goal_of z labels ≡ Default) × (list_any (are_alike Default) labels ≡ false)
-goal_out z labels never = by (list_any (are_alike (Case z)) labels) refl never
+pub goal_out : (z : ℤ) (labels : List CaseLabel) → list_any (is_same_case (goal_of z labels)) labels ≡ false
+    → (goal_of z labels ≡ Default) × (list_any (is_same_case Default) labels ≡ false)
+goal_out z labels never = by (list_any (is_same_case (Case z)) labels) refl never
   where
-    by : (b : Bool) → list_any (are_alike (Case z)) labels ≡ b → list_any (are_alike (if b then Case z else Default)) labels ≡ false
-        → ((if b then Case z else Default) ≡ Default) × (list_any (are_alike Default) labels ≡ false)
+    by : (b : Bool) → list_any (is_same_case (Case z)) labels ≡ b → list_any (is_same_case (if b then Case z else Default)) labels ≡ false
+        → ((if b then Case z else Default) ≡ Default) × (list_any (is_same_case Default) labels ≡ false)
     by true i a = absurd (let no : true ≡ false = sym i ∙ a in cc)
     by false i a = (refl, a)
 
 -- rows -------------------------------------------------------------------------------------------------------------------
 
-pub through_row : (arms : Arms) (h : How) → through (arms_row arms) h ≡ through_arms arms h
+pub through_row : (arms : Arms) (h : Completion) → through (arms_row arms) h ≡ through_arms arms h
 through_row no_arms normal = refl
 through_row no_arms (jump j) = refl
 through_row (entry l arms) h = through_row arms h
@@ -45,7 +45,7 @@ enter_row no_arms = refl
 enter_row (entry l arms) = enter_row arms
 enter_row (arm a arms) = ap (λ ways. enter a ++ then_ways (through a normal) ways) (enter_row arms)
 
-pub outs_row : (arms : Arms) (h : How) → outs (arms_row arms) h ≡ outs_arms arms h
+pub outs_row : (arms : Arms) (h : Completion) → outs (arms_row arms) h ≡ outs_arms arms h
 outs_row no_arms h = refl
 outs_row (entry l arms) h = outs_row arms h
 outs_row (arm a arms) normal =
@@ -63,9 +63,9 @@ inside_row (arm a arms) =
     ∙ ap (λ xs. inside a ++ segments_by (outs a normal) (enter_arms arms) ++ xs) (inside_row arms)
 
 -- behind a label that isn't there nothing stands
-pub none_behind : (l : CaseLabel) (arms : Arms) → list_any (are_alike l) (entries_of arms) ≡ false → row_behind l arms ≡ empty
+pub none_behind : (l : CaseLabel) (arms : Arms) → list_any (is_same_case l) (entries_of arms) ≡ false → row_behind l arms ≡ empty
 none_behind l no_arms never = refl
 none_behind l (entry k arms) never =
-    let (here, later) = neither (are_alike l k) (list_any (are_alike l) (entries_of arms)) never in
+    let (here, later) = neither (is_same_case l k) (list_any (is_same_case l) (entries_of arms)) never in
     ap (λ b. cond b (arms_row arms) (row_behind l arms)) here ∙ none_behind l arms later
 none_behind l (arm a arms) never = none_behind l arms never

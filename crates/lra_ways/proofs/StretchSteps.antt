@@ -4,11 +4,11 @@ use Rattle.std.proofs.Common.{append-nil, append_assoc}
 use Rattle.std.specs.List.{list_any}
 use Rattle.lra_base.specs.declared.case_labels.CaseLabel.{CaseLabel}
 use Rattle.lra_base.specs.declared.case_labels.CaseLabel.TheVariants.{Default}
-use Rattle.lra_base.specs.CaseLabels.{are_alike}
+use Rattle.lra_base.specs.CaseLabels.{is_same_case}
 use Rattle.lra_program.specs.Program.{Expr, Cond}
 use Rattle.lra_program.specs.Step.{Op, test}
-use Rattle.lra_operations.specs.Graph.{Exit, broken, continued, returned, How, normal, jump, Node, empty, aside, point, act, check, seq, choose, iterate, catch, leave}
-use Rattle.lra_operations.specs.Graph.{select, Arms, no_arms, entry, arm, entries_of}
+use Rattle.lra_operations.specs.Tree.{Exit, broken, continued, returned, Completion, normal, jump, Node, empty, probe, point, act, check, seq, choose, iterate, catch, leave}
+use Rattle.lra_operations.specs.Tree.{select, Arms, no_arms, entry, arm, entries_of}
 use Rattle.lra_operations.proofs.ArmRows.{arms_row}
 use Rattle.lra_ways.specs.Ways.{Step, does, Goal, comes_to, Way, Segment, Suffix, same_exit, each_then}
 use Rattle.lra_ways.specs.Ways.{then_way, then_ways, then_out, then_outs, segment_by, segments_by}
@@ -29,7 +29,7 @@ ends s = leaves_so normal s.end
 abbrev begins : Stretch → Bool
 begins s = starts s.source
 
-no_segment : (p : Option ℕ) (ops : List Step) (h : How) → segments_at p ops (leaves h) ≡ []
+no_segment : (p : Option ℕ) (ops : List Step) (h : Completion) → segments_at p ops (leaves h) ≡ []
 no_segment None ops h = refl
 no_segment (Some p) ops h = refl
 
@@ -171,7 +171,7 @@ module _ (g h : Node) (xs ys : List Stretch) (a : AreWays xs g) (b : AreWays ys 
   abbrev right : List Stretch
   right = others starting ys
 
-  both_pass : (w : How) → flat_map (passed w) both ≡ each_then (through g normal) (through h w)
+  both_pass : (w : Completion) → flat_map (passed w) both ≡ each_then (through g normal) (through h w)
   both_pass w =
       joined_all (passed w) (passed normal) (passed w) (λ y x. x ++ y) xs (λ y. pass_with xs (begins y) (leaves_so w y.end) y.ops) ys
       ∙ ap (λ u. each_then u (flat_map (passed w) ys)) (a.passes normal) ∙ ap (λ u. each_then (through g normal) u) (b.passes w)
@@ -181,7 +181,7 @@ module _ (g h : Node) (xs ys : List Stretch) (a : AreWays xs g) (b : AreWays ys 
       joined_all entered (passed normal) entered then_way xs (λ y. enter_with xs (begins y) y.ops y.end) ys
       ∙ ap (λ u. then_ways u (flat_map entered ys)) (a.passes normal) ∙ ap (λ u. then_ways (through g normal) u) b.enters
 
-  both_go : (w : How) → flat_map (gone w) both ≡ then_outs (outs g normal) (through h w)
+  both_go : (w : Completion) → flat_map (gone w) both ≡ then_outs (outs g normal) (through h w)
   both_go w =
       joined_all (gone w) (gone normal) (passed w) then_out xs (λ y. go_with xs (begins y) (leaves_so w y.end) y.ops) ys
       ∙ ap (λ u. then_outs u (flat_map (passed w) ys)) (a.goes normal) ∙ ap (λ u. then_outs (outs g normal) u) (b.passes w)
@@ -209,20 +209,20 @@ module _ (g h : Node) (xs ys : List Stretch) (a : AreWays xs g) (b : AreWays ys 
   left_meets : flat_map met left ≡ inside g
   left_meets = flat_picked (λ s. not (ends s)) met met (λ s. stay_met s.source s.ops s.end) xs ∙ a.meets
 
-  right_passes : (w : How) → flat_map (passed w) right ≡ []
+  right_passes : (w : Completion) → flat_map (passed w) right ≡ []
   right_passes w = flat_picked (λ s. not (begins s)) (passed w) (λ s. []) (λ s. later_none (begins s) (cond (leaves_so w s.end) (s.ops ∷ []) [])) ys ∙
       flat_none (λ s. []) (λ s. refl) ys
 
   right_enters : flat_map entered right ≡ []
   right_enters = flat_picked (λ s. not (begins s)) entered (λ s. []) (λ s. later_none (begins s) (ways_at s.ops s.end)) ys ∙ flat_none (λ s. []) (λ s. refl) ys
 
-  right_goes : (w : How) → flat_map (gone w) right ≡ outs h w
+  right_goes : (w : Completion) → flat_map (gone w) right ≡ outs h w
   right_goes w = flat_picked (λ s. not (begins s)) (gone w) (gone w) (λ s. later_gone s.source s.ops (leaves_so w s.end)) ys ∙ b.goes w
 
   right_meets : flat_map met right ≡ inside h
   right_meets = flat_picked (λ s. not (begins s)) met met (λ s. later_met s.source s.ops s.end) ys ∙ b.meets
 
-  turn_passes : (w : How) → flat_map (passed w) (sequenced xs ys) ≡ through (seq g h) w
+  turn_passes : (w : Completion) → flat_map (passed w) (sequenced xs ys) ≡ through (seq g h) w
   turn_passes normal =
       three_parts (passed normal) left both right [] (each_then (through g normal) (through h normal)) [] left_none (both_pass normal) (right_passes normal)
       ∙ append-nil (each_then (through g normal) (through h normal))
@@ -231,7 +231,7 @@ module _ (g h : Node) (xs ys : List Stretch) (a : AreWays xs g) (b : AreWays ys 
       (both_pass (jump j)) (right_passes (jump j))
       ∙ append-nil (through g (jump j) ++ each_then (through g normal) (through h (jump j)))
 
-  turn_goes : (w : How) → flat_map (gone w) (sequenced xs ys) ≡ outs (seq g h) w
+  turn_goes : (w : Completion) → flat_map (gone w) (sequenced xs ys) ≡ outs (seq g h) w
   turn_goes normal = three_parts (gone normal) left both right [] (then_outs (outs g normal) (through h normal)) (outs h normal) left_gone (both_go normal)
       (right_goes normal)
   turn_goes (jump j) =
@@ -254,7 +254,7 @@ module _ (step : Step) where
   prefixed_bool true ops = refl
   prefixed_bool false ops = refl
 
-  prefixed_passed : (h : How) (p : Option ℕ) (ops : List Step) (e : End) → passed h (prefixed_by step p ops e) ≡ map (led step)
+  prefixed_passed : (h : Completion) (p : Option ℕ) (ops : List Step) (e : End) → passed h (prefixed_by step p ops e) ≡ map (led step)
       (cond (starts p) (cond (leaves_so h e) (ops ∷ []) []) [])
   prefixed_passed h None ops e = prefixed_bool (leaves_so h e) ops
   prefixed_passed h (Some p) ops e = refl
@@ -264,7 +264,7 @@ module _ (step : Step) where
   prefixed_entered None ops (meets goal) = refl
   prefixed_entered (Some p) ops e = refl
 
-  prefixed_gone : (h : How) (p : Option ℕ) (ops : List Step) (e : End) → gone h (prefixed_by step p ops e) ≡ cond (leaves_so h e) (suffixes_at p ops) []
+  prefixed_gone : (h : Completion) (p : Option ℕ) (ops : List Step) (e : End) → gone h (prefixed_by step p ops e) ≡ cond (leaves_so h e) (suffixes_at p ops) []
   prefixed_gone h None ops e = refl
   prefixed_gone h (Some p) ops e = refl
 
@@ -272,13 +272,13 @@ module _ (step : Step) where
   prefixed_met None ops e = refl
   prefixed_met (Some p) ops e = refl
 
-  all_passed : (h : How) (xs : List Stretch) → flat_map (passed h) (map (prefixed step) xs) ≡ map (led step) (flat_map (passed h) xs)
+  all_passed : (h : Completion) (xs : List Stretch) → flat_map (passed h) (map (prefixed step) xs) ≡ map (led step) (flat_map (passed h) xs)
   all_passed h xs = all_mapped (prefixed step) (passed h) (passed h) (led step) (λ s. prefixed_passed h s.source s.ops s.end) xs
 
   all_entered : (xs : List Stretch) → flat_map entered (map (prefixed step) xs) ≡ map (led_way step) (flat_map entered xs)
   all_entered xs = all_mapped (prefixed step) entered entered (led_way step) (λ s. prefixed_entered s.source s.ops s.end) xs
 
-  all_gone : (h : How) (xs : List Stretch) → flat_map (gone h) (map (prefixed step) xs) ≡ flat_map (gone h) xs
+  all_gone : (h : Completion) (xs : List Stretch) → flat_map (gone h) (map (prefixed step) xs) ≡ flat_map (gone h) xs
   all_gone h xs = flat_mapped (gone h) (prefixed step) xs ∙ flat_same (λ s. gone h (prefixed step s)) (gone h) (λ s. prefixed_gone h s.source s.ops s.end) xs
 
   all_met : (xs : List Stretch) → flat_map met (map (prefixed step) xs) ≡ flat_map met xs
@@ -309,7 +309,7 @@ module _ (q base : ℕ) (c : Cond) where
   abbrev turn : Option ℕ → List Step → End → Stretch
   turn p ops e = stretch (Some (source_or q p)) (prefixed_by on p ops e).ops (back_to q e)
 
-  no_passed : (h : How) (s : Stretch) → passed h (turned q on s) ≡ []
+  no_passed : (h : Completion) (s : Stretch) → passed h (turned q on s) ≡ []
   no_passed h s = refl
 
   no_entered : (s : Stretch) → entered (turned q on s) ≡ []
@@ -408,7 +408,7 @@ module _ (q base : ℕ) (c : Cond) where
       (flat_two g (into ss ++ past ss) (back ss) (us ++ vs) ws (flat_two g (into ss) (past ss) us vs h k) i) j
 
   module _ (g : Node) (ss : List Stretch) (a : AreWays ss g) where
-    loop_goes : (w : How) → flat_map (gone w) (looped q base c ss) ≡ outs (iterate q base c g) w
+    loop_goes : (w : Completion) → flat_map (gone w) (looped q base c ss) ≡ outs (iterate q base c g) w
     loop_goes normal =
         let e = flat_mapped (gone normal) (turned q on) (body_order ss) ∙ flat_none (λ s. gone normal (turned q on s)) (λ s. no_gone s.source s.ops s.end)
         (body_order ss) in
@@ -537,7 +537,7 @@ module _ (k : Exit) where
     none_came : {B : Type 0} (f : Stretch → List B) → ((s : Stretch) → f (ended s) ≡ []) → flat_map f came ≡ []
     none_came f h = flat_mapped f ended (those (leaving (jump k)) ss) ∙ flat_none (λ s. f (ended s)) h (those (leaving (jump k)) ss)
 
-    catch_passes : (w : How) → flat_map (passed w) (caught k ss) ≡ through (catch q k g) w
+    catch_passes : (w : Completion) → flat_map (passed w) (caught k ss) ≡ through (catch q k g) w
     catch_passes normal =
         flat_two (passed normal) kept came (through g normal) (through g (jump k))
         (flat_picked (λ s. not (jumps s)) (passed normal) (passed normal) (λ s. kept_pass (begins s) s.ops s.end) ss ∙ a.passes normal)
@@ -550,7 +550,7 @@ module _ (k : Exit) where
         (none_came (passed (jump j)) (λ s. both_same (begins s) []))
         ∙ append-nil (cond (same_exit j k) [] (through g (jump j)))
 
-    catch_goes : (w : How) → flat_map (gone w) (caught k ss) ≡ outs (catch q k g) w
+    catch_goes : (w : Completion) → flat_map (gone w) (caught k ss) ≡ outs (catch q k g) w
     catch_goes normal =
         flat_two (gone normal) kept came (outs g normal) (outs g (jump k))
         (flat_picked (λ s. not (jumps s)) (gone normal) (gone normal) (λ s. kept_go s.source s.ops s.end) ss ∙ a.goes normal)
@@ -585,43 +585,43 @@ leaf_passes : (b : Bool) (xs : List (List Step)) → cond b xs [] ++ [] ≡ cond
 leaf_passes true xs = append-nil xs
 leaf_passes false xs = refl
 
-empty_passes : (w : How) → flat_map (passed w) (stretches empty) ≡ through empty w
+empty_passes : (w : Completion) → flat_map (passed w) (stretches empty) ≡ through empty w
 empty_passes normal = refl
 empty_passes (jump j) = refl
 
-act_passes : (q : ℕ) (op : Op) (w : How) → flat_map (passed w) (stretches (act q op)) ≡ through (act q op) w
+act_passes : (q : ℕ) (op : Op) (w : Completion) → flat_map (passed w) (stretches (act q op)) ≡ through (act q op) w
 act_passes q op normal = refl
 act_passes q op (jump j) = refl
 
-check_passes : (q base : ℕ) (c : Cond) (w : How) → flat_map (passed w) (stretches (check q base c)) ≡ through (check q base c) w
+check_passes : (q base : ℕ) (c : Cond) (w : Completion) → flat_map (passed w) (stretches (check q base c)) ≡ through (check q base c) w
 check_passes q base c normal = refl
 check_passes q base c (jump j) = refl
 
-leave_passes : (n : ℕ) (k : Exit) (w : How) → flat_map (passed w) (stretches (leave n k)) ≡ through (leave n k) w
+leave_passes : (n : ℕ) (k : Exit) (w : Completion) → flat_map (passed w) (stretches (leave n k)) ≡ through (leave n k) w
 leave_passes n k normal = refl
 leave_passes n k (jump j) = leaf_passes (same_exit j k) ([] ∷ [])
 
 -- nothing goes out of a tree without a point
-no_outs : (w k : How) (ops : List Step) → gone w (stretch None ops (leaves k)) ≡ []
+no_outs : (w k : Completion) (ops : List Step) → gone w (stretch None ops (leaves k)) ≡ []
 no_outs w k ops = both_same (same_how w k) []
 
-point_goes : (q : ℕ) (w : How) → flat_map (gone w) (stretches (point q)) ≡ outs (point q) w
+point_goes : (q : ℕ) (w : Completion) → flat_map (gone w) (stretches (point q)) ≡ outs (point q) w
 point_goes q normal = refl
 point_goes q (jump j) = refl
 
-empty_goes : (w : How) → flat_map (gone w) (stretches empty) ≡ outs empty w
+empty_goes : (w : Completion) → flat_map (gone w) (stretches empty) ≡ outs empty w
 empty_goes normal = refl
 empty_goes (jump j) = refl
 
-act_goes : (q : ℕ) (op : Op) (w : How) → flat_map (gone w) (stretches (act q op)) ≡ outs (act q op) w
+act_goes : (q : ℕ) (op : Op) (w : Completion) → flat_map (gone w) (stretches (act q op)) ≡ outs (act q op) w
 act_goes q op normal = refl
 act_goes q op (jump j) = refl
 
-check_goes : (q base : ℕ) (c : Cond) (w : How) → flat_map (gone w) (stretches (check q base c)) ≡ outs (check q base c) w
+check_goes : (q base : ℕ) (c : Cond) (w : Completion) → flat_map (gone w) (stretches (check q base c)) ≡ outs (check q base c) w
 check_goes q base c normal = refl
 check_goes q base c (jump j) = refl
 
-leave_goes : (n : ℕ) (k : Exit) (w : How) → flat_map (gone w) (stretches (leave n k)) ≡ outs (leave n k) w
+leave_goes : (n : ℕ) (k : Exit) (w : Completion) → flat_map (gone w) (stretches (leave n k)) ≡ outs (leave n k) w
 leave_goes n k w = ap (λ (u : List Suffix). u ++ []) (no_outs w (jump k) [])
 
 empty_ways : AreWays nothing_done empty
@@ -646,7 +646,7 @@ module _ (step : Step) (row : List Stretch) where
   abbrev begun : List Stretch
   begun = those starting row
 
-  begun_passes : (w : How) → flat_map (passed w) (map (prefixed step) begun) ≡ map (led step) (flat_map (passed w) row)
+  begun_passes : (w : Completion) → flat_map (passed w) (map (prefixed step) begun) ≡ map (led step) (flat_map (passed w) row)
   begun_passes w = all_passed step w begun
       ∙ ap (map (led step)) (flat_picked begins (passed w) (passed w) (λ s. twice (begins s) (cond (leaves_so w s.end) (s.ops ∷ []) [])) row)
 
@@ -654,7 +654,7 @@ module _ (step : Step) (row : List Stretch) where
   begun_enters = all_entered step begun
       ∙ ap (map (led_way step)) (flat_picked begins entered entered (λ s. twice (begins s) (ways_at s.ops s.end)) row)
 
-  begun_goes : (w : How) → flat_map (gone w) (map (prefixed step) begun) ≡ []
+  begun_goes : (w : Completion) → flat_map (gone w) (map (prefixed step) begun) ≡ []
   begun_goes w = all_gone step w begun
       ∙ flat_picked begins (gone w) (λ s. []) (λ s. begun_gone s.source s.ops (leaves_so w s.end)) row ∙ flat_none (λ s. []) (λ s. refl) row
 
@@ -664,12 +664,12 @@ module _ (step : Step) (row : List Stretch) where
 
 -- from the labels, and past all of them
 record AreFrom (go : CaseLabel → Step) (d : Bool) (ss : List Stretch) (arms : Arms) : Type 0 where
-  passes : (w : How) → flat_map (passed w) ss ≡ through_labels go arms w ++ past_labels go d w
+  passes : (w : Completion) → flat_map (passed w) ss ≡ through_labels go arms w ++ past_labels go d w
   enters : flat_map entered ss ≡ enter_labels go arms
-  goes : (w : How) → flat_map (gone w) ss ≡ []
+  goes : (w : Completion) → flat_map (gone w) ss ≡ []
   meets : flat_map met ss ≡ []
 
-past_passes : (go : CaseLabel → Step) (d : Bool) (w : How) → flat_map (passed w) (past_all go d) ≡ past_labels go d w
+past_passes : (go : CaseLabel → Step) (d : Bool) (w : Completion) → flat_map (passed w) (past_all go d) ≡ past_labels go d w
 past_passes go true w = refl
 past_passes go false normal = refl
 past_passes go false (jump j) = refl
@@ -678,7 +678,7 @@ past_enters : (go : CaseLabel → Step) (d : Bool) → flat_map entered (past_al
 past_enters go true = refl
 past_enters go false = refl
 
-past_goes : (go : CaseLabel → Step) (d : Bool) (w : How) → flat_map (gone w) (past_all go d) ≡ []
+past_goes : (go : CaseLabel → Step) (d : Bool) (w : Completion) → flat_map (gone w) (past_all go d) ≡ []
 past_goes go true w = refl
 past_goes go false normal = refl
 past_goes go false (jump j) = refl
@@ -708,7 +708,7 @@ any_tree : (go : CaseLabel → Step) (d : Bool) (g : Node) (arms : Arms) (ss : L
 any_tree go d g arms ss a = record { passes = a.passes; enters = a.enters; goes = a.goes; meets = a.meets }
 
 select_ways : (q base : ℕ) (e : Expr) (arms : Arms) (row labels : List Stretch) → AreWays row (arms_row arms)
-    → AreFrom (goes_in base e arms) (list_any (are_alike Default) (entries_of arms)) labels arms → AreWays (selected row labels) (select q base e arms)
+    → AreFrom (goes_in base e arms) (list_any (is_same_case Default) (entries_of arms)) labels arms → AreWays (selected row labels) (select q base e arms)
 select_ways q base e arms row labels a b =
     let tree : Node = arms_row arms in
     let whole : Node = select q base e arms in
@@ -725,7 +725,7 @@ select_ways q base e arms row labels a b =
 mutual
   pub are_ways : (g : Node) → AreWays (stretches g) g
   are_ways empty = empty_ways
-  are_ways (aside here what) = record { passes = empty_passes; enters = refl; goes = empty_goes; meets = refl }
+  are_ways (probe here what) = record { passes = empty_passes; enters = refl; goes = empty_goes; meets = refl }
   are_ways (point q) = record { passes = λ w. refl; enters = refl; goes = point_goes q; meets = refl }
   are_ways (act q op) = record { passes = act_passes q op; enters = refl; goes = act_goes q op; meets = refl }
   are_ways (check q base c) = record { passes = check_passes q base c; enters = refl; goes = check_goes q base c; meets = refl }
@@ -735,7 +735,7 @@ mutual
   are_ways (catch q k g) = catch_ways k q g (stretches g) (are_ways g)
   are_ways (leave n k) = record { passes = leave_passes n k; enters = refl; goes = leave_goes n k; meets = refl }
   are_ways (select q base e arms) = select_ways q base e arms (stretches_of arms) _ (row_ways arms)
-      (label_ways (goes_in base e arms) (list_any (are_alike Default) (entries_of arms)) arms)
+      (label_ways (goes_in base e arms) (list_any (is_same_case Default) (entries_of arms)) arms)
 
   row_ways : (arms : Arms) → AreWays (stretches_of arms) (arms_row arms)
   row_ways no_arms = empty_ways

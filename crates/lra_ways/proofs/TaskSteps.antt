@@ -10,19 +10,19 @@ use Rattle.lra_program.specs.declared.program.Cond.{Cond}
 use Rattle.std.specs.List.{list_any}
 use Rattle.lra_base.specs.declared.case_labels.CaseLabel.{CaseLabel}
 use Rattle.lra_base.specs.declared.case_labels.CaseLabel.TheVariants.{Default}
-use Rattle.lra_base.specs.CaseLabels.{are_alike}
+use Rattle.lra_base.specs.CaseLabels.{is_same_case}
 use Rattle.lra_program.specs.declared.program.Expr.{Expr}
 use Rattle.lra_program.specs.ProgramViews.{expr_view}
-use Rattle.lra_operations.specs.Graph.{Node, Arms, no_arms, entry, arm}
-use Rattle.lra_operations.specs.GraphViews.{arm_view, arms_before, arms_of, node_view, row}
-use Rattle.lra_operations.specs.declared.graph.Arm.{Arm}
-use Rattle.lra_operations.specs.declared.graph.Arm.TheVariants as armed
-use Rattle.lra_operations.specs.declared.graph.Exit as declared_exit
-use Rattle.lra_operations.specs.declared.graph.Node as declared
-use Rattle.lra_operations.specs.declared.graph.Op as declared_op
-use Rattle.lra_operations.specs.declared.asides.Aside.{Aside}
-use Rattle.lra_operations.specs.declared.graph.Node.{the_lemmas as node_lemmas, Node-F, out-Node, roll-Node, roll-out-Node}
-use Rattle.lra_operations.specs.declared.graph.Node.TheVariants as at
+use Rattle.lra_operations.specs.Tree.{Node, Arms, no_arms, entry, arm}
+use Rattle.lra_operations.specs.TreeViews.{arm_view, arms_before, arms_of, node_view, row}
+use Rattle.lra_operations.specs.declared.tree.Arm.{Arm}
+use Rattle.lra_operations.specs.declared.tree.Arm.TheVariants as armed
+use Rattle.lra_operations.specs.declared.tree.Exit as declared_exit
+use Rattle.lra_operations.specs.declared.tree.Node as declared
+use Rattle.lra_operations.specs.declared.tree.Op as declared_op
+use Rattle.lra_operations.specs.declared.probes.Probe.{Probe}
+use Rattle.lra_operations.specs.declared.tree.Node.{the_lemmas as node_lemmas, Node-F, out-Node, roll-Node, roll-out-Node}
+use Rattle.lra_operations.specs.declared.tree.Node.TheVariants as at
 use Rattle.lra_operations.proofs.ArmViews.{entry_view, tree_view}
 use Rattle.lra_forms.proofs.TreeViews.{select_view, seq_view}
 use Rattle.lra_ways.specs.Labels.{labels_in}
@@ -108,7 +108,7 @@ steps_empty = search (rules, node_lemmas)
 steps_point : (q : ℕ) → steps_of (at.Point q) ≡ 1
 steps_point q = search (rules, node_lemmas)
 
-steps_aside : (q : ℕ) (what : Aside) → steps_of (at.Aside q what) ≡ 1
+steps_aside : (q : ℕ) (what : Probe) → steps_of (at.Probe q what) ≡ 1
 steps_aside q what = search (rules, node_lemmas)
 
 steps_act : (q : ℕ) (o : declared_op.Op) → steps_of (at.Act q o) ≡ 1
@@ -174,7 +174,7 @@ more_steps : (n k : ℕ) → n ≡ 1 → n ≡ 2 + k → ⊥
 more_steps n k one is = omega (arith, one, is)
 
 module _ (n : declared.Node) (leaf : steps_of n ≡ 1) (no_empty : n ≡ at.Empty → ⊥) (no_point : (q : ℕ) → n ≡ at.Point q → ⊥)
-    (no_aside : (q : ℕ) (what : Aside) → n ≡ at.Aside q what → ⊥)
+    (no_aside : (q : ℕ) (what : Probe) → n ≡ at.Probe q what → ⊥)
     (no_act : (q : ℕ) (o : declared_op.Op) → n ≡ at.Act q o → ⊥)
     (no_check : (q base : ℕ) (c : Cond) → n ≡ at.Check q base c → ⊥)
     (no_leave : (m : ℕ) (k : declared_exit.Exit) → n ≡ at.Leave m k → ⊥) where
@@ -309,12 +309,12 @@ selection_run (outcome.Err e) ds es fs selection s t u past a b h k = tt
 
 -- past all labels, where none of them is `default`
 module _ {T E : Type 0} (r : outcome.Result T E) (go : CaseLabel → Step) (b : Bool) (arms : List Arm) (s t : List (List Stretch)) where
-  pub past_none : (xs : List declared_stretch.Stretch) → b ≡ list_any (are_alike Default) (labels_in arms) → b ≡ true → xs ≡ []
-      → OnOk r (t ≡ seen xs ∷ s) → OnOk r (t ≡ past_all go (list_any (are_alike Default) (labels_in arms)) ∷ s)
+  pub past_none : (xs : List declared_stretch.Stretch) → b ≡ list_any (is_same_case Default) (labels_in arms) → b ≡ true → xs ≡ []
+      → OnOk r (t ≡ seen xs ∷ s) → OnOk r (t ≡ past_all go (list_any (is_same_case Default) (labels_in arms)) ∷ s)
   past_none xs is so none h = subst (λ u. OnOk r (t ≡ u ∷ s)) (ap seen none ∙ ap (past_all go) (sym so ∙ is)) h
 
-  pub past_one : b ≡ list_any (are_alike Default) (labels_in arms) → b ≡ false → OnOk r (t ≡ past_all go false ∷ s)
-      → OnOk r (t ≡ past_all go (list_any (are_alike Default) (labels_in arms)) ∷ s)
+  pub past_one : b ≡ list_any (is_same_case Default) (labels_in arms) → b ≡ false → OnOk r (t ≡ past_all go false ∷ s)
+      → OnOk r (t ≡ past_all go (list_any (is_same_case Default) (labels_in arms)) ∷ s)
   past_one is so h = subst (λ d. OnOk r (t ≡ past_all go d ∷ s)) (sym so ∙ is) h
 
 -- they are those of the tree
@@ -326,7 +326,7 @@ select_runs r n ds fs s t q base x arms is h = subst (λ m. OnOk r (run fs t ≡
 pub select_shown : {T E : Type 0} (r : outcome.Result T E) (ds fs : List Task) (s t : List (List Stretch)) (q base : ℕ) (x : Expr) (arms : Vec Arm Global)
     → OnOk r (run fs t ≡ run ds (selected (stretches_of (arms_of (map arm_view arms.items)))
     (from_labels (goes_in base (expr_view x) (arms_of (map arm_view arms.items)))
-    (past_all (goes_in base (expr_view x) (arms_of (map arm_view arms.items))) (list_any (are_alike Default) (labels_in arms.items)))
+    (past_all (goes_in base (expr_view x) (arms_of (map arm_view arms.items))) (list_any (is_same_case Default) (labels_in arms.items)))
     (arms_of (map arm_view arms.items))) ∷ s))
     → OnOk r (run fs t ≡ run ds (stretches (node_view (at.Select q base x arms)) ∷ s))
 select_shown r ds fs s t q base x arms h =

@@ -3,8 +3,8 @@ use Rattle.std.specs.Prelude.{List, map}
 use Rattle.lra_base.specs.declared.case_labels.CaseLabel.{CaseLabel}
 use Rattle.lra_program.specs.ProgramViews.{cond_view, expr_view}
 use Rattle.lra_program.specs.Step as step
-use Rattle.lra_operations.specs.Graph as graph
-use Rattle.lra_operations.specs.GraphViews.{arm_view, arms_of, exit_view, op_view}
+use Rattle.lra_operations.specs.Tree as graph
+use Rattle.lra_operations.specs.TreeViews.{arm_view, arms_of, exit_view, op_view}
 use Rattle.lra_ways.specs.Ways as ways
 use Rattle.lra_ways.specs.Stretches as stretches
 use Rattle.lra_ways.specs.declared.stretches.End.{End}
@@ -36,7 +36,7 @@ abbrev pub goal_view : Goal → ways.Goal
 goal_view (goal.ComesTo q) = ways.comes_to q
 goal_view (goal.Denies q) = ways.denies q
 
-abbrev pub how_view : How → graph.How
+abbrev pub how_view : How → graph.Completion
 how_view how.Normal = graph.normal
 how_view (how.Jump k) = graph.jump (exit_view k)
 

@@ -5,18 +5,18 @@ use Rattle.std.specs.Prelude.{Option, None, Some}
 use Rattle.std.specs.List.{flat_map, filter, list_any}
 use Rattle.lra_base.specs.declared.case_labels.CaseLabel.{CaseLabel}
 use Rattle.lra_base.specs.declared.case_labels.CaseLabel.TheVariants.{Default}
-use Rattle.lra_base.specs.CaseLabels.{are_alike}
+use Rattle.lra_base.specs.CaseLabels.{is_same_case}
 use Rattle.lra_program.specs.Program.{Cond}
 use Rattle.lra_program.specs.Step.{test}
-use Rattle.lra_operations.specs.Graph.{Exit, How, normal, jump, Node, empty, aside, point, act}
-use Rattle.lra_operations.specs.Graph.{check, seq, choose, iterate, catch, leave, select}
-use Rattle.lra_operations.specs.Graph.{Arms, no_arms, entry, arm, entries_of}
+use Rattle.lra_operations.specs.Tree.{Exit, Completion, normal, jump, Node, empty, probe, point, act}
+use Rattle.lra_operations.specs.Tree.{check, seq, choose, iterate, catch, leave, select}
+use Rattle.lra_operations.specs.Tree.{Arms, no_arms, entry, arm, entries_of}
 use Rattle.lra_ways.specs.Ways.{Step, does, Goal, comes_to, denies, Way, Segment, Suffix, same_exit, goes_in}
 use Rattle.lra_ways.specs.Ways.{through, enter, outs, inside}
 
 -- where a stretch ends: the tree is left so, or a goal is met
 pub data End : Type 0 where
-  leaves : How → End
+  leaves : Completion → End
   meets : Goal → End
 
 -- from the tree's start where there is no source, else from this point in it
@@ -34,20 +34,20 @@ abbrev pub starts : Option ℕ → Bool
 starts None = true
 starts (Some p) = false
 
-abbrev pub same_how : How → How → Bool
+abbrev pub same_how : Completion → Completion → Bool
 same_how normal normal = true
 same_how normal (jump k) = false
 same_how (jump j) normal = false
 same_how (jump j) (jump k) = same_exit j k
 
-abbrev pub leaves_so : How → End → Bool
+abbrev pub leaves_so : Completion → End → Bool
 leaves_so h (leaves k) = same_how h k
 leaves_so h (meets goal) = false
 
 -- what stretches are told apart by: whether they begin at the tree's start, or whether they leave it so
 pub data Kind : Type 0 where
   starting : Kind
-  leaving : How → Kind
+  leaving : Completion → Kind
 
 abbrev pub is_of : Kind → Stretch → Bool
 is_of starting s = starts s.source
@@ -136,7 +136,7 @@ selected row from_labels = from_labels ++ others starting row
 abbrev mutual
   pub stretches : Node → List Stretch
   stretches empty = nothing_done
-  stretches (aside here what) = nothing_done
+  stretches (probe here what) = nothing_done
   stretches (point q) = stretch None [] (meets (comes_to q)) ∷ stretch (Some q) [] (leaves normal) ∷ []
   stretches (act q op) = stretch None (does op ∷ []) (leaves normal) ∷ []
   stretches (check q base c) = stretch None (does (test base c true) ∷ []) (leaves normal)
@@ -147,7 +147,7 @@ abbrev mutual
   stretches (catch q k a) = caught k (stretches a)
   stretches (leave n k) = stretch None [] (leaves (jump k)) ∷ []
   stretches (select q base e arms) = selected (stretches_of arms) (from_labels (goes_in base e arms)
-      (past_all (goes_in base e arms) (list_any (are_alike Default) (entries_of arms))) arms)
+      (past_all (goes_in base e arms) (list_any (is_same_case Default) (entries_of arms))) arms)
 
   -- of the trees of the arms, one after the other
   pub stretches_of : Arms → List Stretch
@@ -178,13 +178,13 @@ segments_at (Some p) ops (leaves k) = []
 segments_at (Some p) ops (meets goal) = record { source = p; way = record { ops = ops; goal = goal } } ∷ []
 
 -- a stretch as one of each kind of ways
-abbrev pub passed : How → Stretch → List (List Step)
+abbrev pub passed : Completion → Stretch → List (List Step)
 passed h s = if starts s.source then (if leaves_so h s.end then s.ops ∷ [] else []) else []
 
 abbrev pub entered : Stretch → List Way
 entered s = if starts s.source then ways_at s.ops s.end else []
 
-abbrev pub gone : How → Stretch → List Suffix
+abbrev pub gone : Completion → Stretch → List Suffix
 gone h s = if leaves_so h s.end then suffixes_at s.source s.ops else []
 
 abbrev pub met : Stretch → List Segment
@@ -192,9 +192,9 @@ met s = segments_at s.source s.ops s.end
 
 -- the stretches are the tree's ways, each kind in its order
 pub record AreWays (ss : List Stretch) (g : Node) : Type 0 where
-  pub passes : (h : How) → flat_map (passed h) ss ≡ through g h
+  pub passes : (h : Completion) → flat_map (passed h) ss ≡ through g h
   pub enters : flat_map entered ss ≡ enter g
-  pub goes : (h : How) → flat_map (gone h) ss ≡ outs g h
+  pub goes : (h : Completion) → flat_map (gone h) ss ≡ outs g h
   pub meets : flat_map met ss ≡ inside g
 
 abbrev pub StretchesAreWays : Type 0

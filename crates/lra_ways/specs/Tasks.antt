@@ -4,12 +4,12 @@ use Rattle.std.specs.Global.{Global}
 use Rattle.std.specs.List.{sum_by}
 use Rattle.lra_base.specs.declared.case_labels.CaseLabel.{CaseLabel}
 use Rattle.lra_program.specs.ProgramViews.{cond_view}
-use Rattle.lra_operations.specs.Graph.{Node, Arms, no_arms, entry, arm}
-use Rattle.lra_operations.specs.GraphViews.{arm_view, arms_of, exit_view, node_view}
-use Rattle.lra_operations.specs.declared.graph.Arm.{Arm}
-use Rattle.lra_operations.specs.declared.graph.Arm.TheFolds.{fold-Arm, fold-Node}
-use Rattle.lra_operations.specs.declared.graph.Arm.TheOpen.{Arm-F, Node-F}
-use Rattle.lra_operations.specs.declared.graph.Node as declared
+use Rattle.lra_operations.specs.Tree.{Node, Arms, no_arms, entry, arm}
+use Rattle.lra_operations.specs.TreeViews.{arm_view, arms_of, exit_view, node_view}
+use Rattle.lra_operations.specs.declared.tree.Arm.{Arm}
+use Rattle.lra_operations.specs.declared.tree.Arm.TheFolds.{fold-Arm, fold-Node}
+use Rattle.lra_operations.specs.declared.tree.Arm.TheOpen.{Arm-F, Node-F}
+use Rattle.lra_operations.specs.declared.tree.Node as declared
 use Rattle.lra_ways.specs.Ways.{Step}
 use Rattle.lra_ways.specs.Stretches.{Stretch, sequenced, chosen, looped, caught, labelled, selected, stretches}
 use Rattle.lra_ways.specs.StretchViews.{move_view, seen, selection_view}

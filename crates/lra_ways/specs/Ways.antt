@@ -4,13 +4,13 @@ use Rattle.std.specs.Prelude.{◌≡◌, ℕ, ℤ, List, [], ◌∷◌, ◌++◌
 use Rattle.std.specs.List.{flat_map, list_any}
 use Rattle.lra_base.specs.declared.case_labels.CaseLabel.{CaseLabel}
 use Rattle.lra_base.specs.declared.case_labels.CaseLabel.TheVariants.{Default}
-use Rattle.lra_base.specs.CaseLabels.{are_alike, goal_of}
+use Rattle.lra_base.specs.CaseLabels.{is_same_case, goal_of}
 use Rattle.lra_program.specs.Program.{Expr, Cond}
 use Rattle.lra_program.specs.Value.{value_of}
-use Rattle.lra_program.specs.Step.{State, scene_at, Op, run_op, test}
-use Rattle.lra_operations.specs.Graph.{Exit, broken, continued, returned, How, normal, jump, Node, empty, aside, point, act}
-use Rattle.lra_operations.specs.Graph.{check, seq, choose, iterate, catch, leave, select}
-use Rattle.lra_operations.specs.Graph.{Arms, no_arms, entry, arm, entries_of}
+use Rattle.lra_program.specs.Step.{State, environment_at, Op, run_op, test}
+use Rattle.lra_operations.specs.Tree.{Exit, broken, continued, returned, Completion, normal, jump, Node, empty, probe, point, act}
+use Rattle.lra_operations.specs.Tree.{check, seq, choose, iterate, catch, leave, select}
+use Rattle.lra_operations.specs.Tree.{Arms, no_arms, entry, arm, entries_of}
 
 -- what is done on a way
 pub data Step : Type 0 where
@@ -95,7 +95,7 @@ abbrev pub segment_to : ℕ → Suffix → Segment
 segment_to q x = record { source = x.source; way = record { ops = x.ops; goal = comes_to q } }
 
 -- past all labels, where none of them is `default`
-abbrev pub past_labels : (CaseLabel → Step) → Bool → How → List (List Step)
+abbrev pub past_labels : (CaseLabel → Step) → Bool → Completion → List (List Step)
 past_labels go true h = []
 past_labels go false normal = (go Default ∷ []) ∷ []
 past_labels go false (jump j) = []
@@ -106,11 +106,11 @@ goes_in base e arms l = goes base e (entries_of arms) l
 
 abbrev mutual
   -- through the tree past no point, left so
-  pub through : Node → How → List (List Step)
+  pub through : Node → Completion → List (List Step)
   through empty normal = [] ∷ []
-  through (aside here what) normal = [] ∷ []
+  through (probe here what) normal = [] ∷ []
   through empty (jump j) = []
-  through (aside here what) (jump j) = []
+  through (probe here what) (jump j) = []
   through (point q) h = []
   through (act q op) normal = (does op ∷ []) ∷ []
   through (act q op) (jump j) = []
@@ -126,10 +126,10 @@ abbrev mutual
   through (leave n k) normal = []
   through (leave n k) (jump j) = if same_exit j k then [] ∷ [] else []
   through (select q base e arms) h = through_labels (goes_in base e arms) arms h ++
-      past_labels (goes_in base e arms) (list_any (are_alike Default) (entries_of arms)) h
+      past_labels (goes_in base e arms) (list_any (is_same_case Default) (entries_of arms)) h
 
   -- the trees of the arms, one after the other
-  pub through_arms : Arms → How → List (List Step)
+  pub through_arms : Arms → Completion → List (List Step)
   through_arms no_arms normal = [] ∷ []
   through_arms no_arms (jump j) = []
   through_arms (entry l arms) h = through_arms arms h
@@ -137,7 +137,7 @@ abbrev mutual
   through_arms (arm a arms) (jump j) = through a (jump j) ++ each_then (through a normal) (through_arms arms (jump j))
 
   -- from each label those behind it, in text order
-  pub through_labels : (CaseLabel → Step) → Arms → How → List (List Step)
+  pub through_labels : (CaseLabel → Step) → Arms → Completion → List (List Step)
   through_labels go no_arms h = []
   through_labels go (entry l arms) h = map (led (go l)) (through_arms arms h) ++ through_labels go arms h
   through_labels go (arm a arms) h = through_labels go arms h
@@ -146,7 +146,7 @@ abbrev mutual
   -- from the tree's start to a first point, or to where an assertion before that is false
   pub enter : Node → List Way
   enter empty = []
-  enter (aside here what) = []
+  enter (probe here what) = []
   enter (point q) = record { ops = []; goal = comes_to q } ∷ []
   enter (act q op) = []
   enter (check q base c) = record { ops = does (test base c false) ∷ []; goal = denies q } ∷ []
@@ -169,9 +169,9 @@ abbrev mutual
 
 abbrev mutual
   -- from the points of the tree out of it, left so
-  pub outs : Node → How → List Suffix
+  pub outs : Node → Completion → List Suffix
   outs empty h = []
-  outs (aside here what) h = []
+  outs (probe here what) h = []
   outs (point q) normal = record { source = q; ops = [] } ∷ []
   outs (point q) (jump j) = []
   outs (act q op) h = []
@@ -187,7 +187,7 @@ abbrev mutual
   outs (leave n k) h = []
   outs (select q base e arms) h = outs_arms arms h
 
-  pub outs_arms : Arms → How → List Suffix
+  pub outs_arms : Arms → Completion → List Suffix
   outs_arms no_arms h = []
   outs_arms (entry l arms) h = outs_arms arms h
   outs_arms (arm a arms) normal = then_outs (outs a normal) (through_arms arms normal) ++ outs_arms arms normal
@@ -198,7 +198,7 @@ abbrev mutual
   -- from the points of the tree to the next ones
   pub inside : Node → List Segment
   inside empty = []
-  inside (aside here what) = []
+  inside (probe here what) = []
   inside (point q) = []
   inside (act q op) = []
   inside (check q base c) = []
@@ -219,7 +219,7 @@ abbrev mutual
 -- what is done leads from the first state to the second
 abbrev pub RunsStep : Step → State → State → Type 0
 RunsStep (does op) s t = run_op op s ≡ Some t
-RunsStep (goes base e labels l) s t = (z : ℤ) × (value_of e (scene_at base s) s.draws ≡ Some (z, t.draws)) ×
+RunsStep (goes base e labels l) s t = (z : ℤ) × (value_of e (environment_at base s) s.draws ≡ Some (z, t.draws)) ×
     (t ≡ record s { draws = t.draws }) × (l ≡ goal_of z labels)
 
 -- and all of it

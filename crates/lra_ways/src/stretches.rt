@@ -3,8 +3,8 @@
 
 ghost use Rattle.std.specs.Prelude.{◌≡◌, [], ◌∷◌, ◌++◌, cond, map, option_to_list, IfOk, OnOk};
 ghost use Rattle.lra_program.specs.ProgramViews.{cond_view};
-ghost use Rattle.lra_operations.specs.Graph.{normal};
-ghost use Rattle.lra_operations.specs.GraphViews.{exit_view};
+ghost use Rattle.lra_operations.specs.Tree.{normal};
+ghost use Rattle.lra_operations.specs.TreeViews.{exit_view};
 ghost use Rattle.lra_ways.specs.Stretches as ways;
 ghost use Rattle.lra_ways.specs.Stretches.{all_joined, body_order, leaves_so, others, stretch, those};
 ghost use Rattle.lra_ways.specs.StretchViews.{end_view, how_view, kind_view, move_view, seen, stretch_view};

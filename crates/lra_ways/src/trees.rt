@@ -4,10 +4,10 @@
 ghost use Rattle.std.specs.Prelude.{◌≡◌, ◌<◌, ◌+◌, ◌||◌, [], ◌∷◌, IfOk, OnOk, List, None, map, option_to_list};
 ghost use Rattle.std.specs.List.{list_any};
 ghost use Rattle.lra_base.specs.declared.case_labels.CaseLabel.TheVariants.{Default};
-ghost use Rattle.lra_base.specs.CaseLabels.{are_alike};
+ghost use Rattle.lra_base.specs.CaseLabels.{is_same_case};
 ghost use Rattle.lra_program.specs.ProgramViews.{cond_view};
-ghost use Rattle.lra_operations.specs.Graph as graph;
-ghost use Rattle.lra_operations.specs.GraphViews.{arm_view, arms_of, exit_view, node_view};
+ghost use Rattle.lra_operations.specs.Tree as graph;
+ghost use Rattle.lra_operations.specs.TreeViews.{arm_view, arms_of, exit_view, node_view};
 ghost use Rattle.lra_ways.specs.Labels.{label_at, labels_in};
 ghost use Rattle.lra_ways.specs.Tasks.{all_left, below, task_size, effect, row_on, row_size, run, stack, steps_of};
 ghost use Rattle.lra_ways.specs.Tasks.{arm_steps, arms_on, arms_size, labelled_last, top};
@@ -281,7 +281,7 @@ fn put_past<'g>(
     done: &mut Vec<Vec<Stretch<'g>>>,
 ) -> Result<(), AllocError>
     ensures { OnOk result (stack done.new.items ≡ past_all (selection_view selection.entry)
-        (list_any (are_alike Default) (labels_in selection.entry.arms.now)) ∷ stack done.old.items) }
+        (list_any (is_same_case Default) (labels_in selection.entry.arms.now)) ∷ stack done.old.items) }
 {
     if any_default(selection.arms) {
         put_last(done, Vec::new(alloc))
@@ -337,7 +337,7 @@ fn open_selection<'g>(
     ensures runs { OnOk result (run left.new.items (stack done.new.items)
         ≡ run left.old.items (ways.selected (ways.stretches_of (arms_seen selection.entry))
         (ways.from_labels (selection_view selection.entry) (past_all (selection_view selection.entry)
-        (list_any (are_alike Default) (labels_in selection.entry.arms.now))) (arms_seen selection.entry)) ∷
+        (list_any (is_same_case Default) (labels_in selection.entry.arms.now))) (arms_seen selection.entry)) ∷
         stack done.old.items)) }
     ensures size { OnOk result (all_left left.new.items ≡
         all_left left.old.items + (1 + arms_size selection.entry.arms.now)) }
@@ -361,7 +361,7 @@ fn put_leaf<'g>(
     match node {
         Node::Empty => put_short(alloc, None, End::Leaves(How::Normal), done),
         Node::Point(point) => put_point(alloc, *point, done),
-        Node::Aside(_, _) => put_short(alloc, None, End::Leaves(How::Normal), done),
+        Node::Probe(_, _) => put_short(alloc, None, End::Leaves(How::Normal), done),
         Node::Act(_, op) => put_short(
             alloc,
             Some(Move::Change(op)),

@@ -26,7 +26,7 @@ use Rattle.lra_words.specs.CommandLine.{point_option, seed_option, size_option, 
 use Rattle.lra_words.specs.declared.command_line.Subcommand.TheVariants as sub
 use Rattle.lra_options.specs.declared.options.NumberOption.TheVariants.{Parts, Delay, Narrow}
 use Rattle.lra_options.specs.declared.options.FlagOption.TheVariants.{Limited, Thresholds, Fits}
-use Rattle.lra_options.specs.OptionRows.{NumberRow, IsInRange, agree, best_options, number_options, number_row, flag_row, default_options}
+use Rattle.lra_options.specs.OptionRows.{NumberRow, IsInRange, are_compatible, best_options, number_options, number_row, flag_row, default_options}
 use Rattle.lra_options.specs.declared.options.Options.{Options}
 use Rattle.lra_words.specs.declared.chosen.Command.{Command}
 use Rattle.lra_words.specs.declared.chosen.PlainCommand.{PlainCommand}
@@ -150,9 +150,9 @@ chosen_from rows options true json taken is as_json fits within = beside (gives_
       rw (is, best_from rows options.fits fits any, as_json) refl,
       best_within options.fits,
     )
-chosen_from rows options false json taken is as_json fits within = alone (agree options) refl
+chosen_from rows options false json taken is as_json fits within = alone (are_compatible options) refl
   where
-    alone : (so : Bool) → agree options ≡ so → Gives (Some (codes "analyse", rows))
+    alone : (so : Bool) → are_compatible options ≡ so → Gives (Some (codes "analyse", rows))
     alone true agreed = inl (Analyse options (format_of json), rw (is, taken, agreed, as_json) refl, within)
     alone false apart = inr (refl, inr (options, is, taken, apart))
 

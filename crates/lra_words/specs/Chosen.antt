@@ -14,7 +14,7 @@ use Rattle.lra_options.specs.declared.options.NumberOption.TheVariants.{Delay, N
 use Rattle.lra_options.specs.declared.options.FlagOption.{FlagOption}
 use Rattle.lra_options.specs.OptionRows.{IsInRange, number_row, number_value, set_number, number_options}
 use Rattle.lra_options.specs.OptionRows.{flag_row, set_flag, flag_options}
-use Rattle.lra_options.specs.OptionRows.{agree, best_options}
+use Rattle.lra_options.specs.OptionRows.{are_compatible, best_options}
 pub use Rattle.lra_options.specs.OptionRows.{default_options}
 use Rattle.lra_options.specs.declared.options.Domain.{Domain}
 use Rattle.lra_options.specs.declared.options.Options.{Options}
@@ -89,7 +89,7 @@ abbrev pub best_of : List Row → Option Options
 best_of rows = if gives_any rows then None else fold (with_beside rows) (Some best_options) flag_options
 
 abbrev pub agreeing : Options → Option Options
-agreeing o = if agree o then Some o else None
+agreeing o = if are_compatible o then Some o else None
 
 abbrev pub chosen_options : List Row → Option Options
 chosen_options rows =
@@ -159,7 +159,7 @@ IsBesideBest rows = (flag_at (codes "best") rows ≡ Some true) × (gives_any ro
 -- without `--best`, the options that are read can't be given together
 abbrev pub Disagrees : List Row → Type 0
 Disagrees rows = (o : Options) × (flag_at (codes "best") rows ≡ Some false)
-    × (options_of rows ≡ Some o) × (agree o ≡ false)
+    × (options_of rows ≡ Some o) × (are_compatible o ≡ false)
 
 -- the matches are an analysis whose options conflict
 abbrev pub Conflicting : Option (Text × List Row) → Type 0

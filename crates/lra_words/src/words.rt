@@ -233,7 +233,11 @@ fn read_best(matches: &ArgMatches) -> Option<Options>
 fn check_agree(options: Options) -> Option<Options>
     ensures { result ≡ agreeing options }
 {
-    if options.agree() { Some(options) } else { None }
+    if options.are_compatible() {
+        Some(options)
+    } else {
+        None
+    }
 }
 
 fn choose_options(matches: &ArgMatches) -> Option<Options>

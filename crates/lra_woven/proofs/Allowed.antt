@@ -3,11 +3,11 @@ use Rattle.std.proofs.Common.{◌≡◌, ◌∙◌, ◌<◌, ℕ, ℤ, List, len
 use Rattle.lra_interference.specs.Interference as others
 use Rattle.lra_program.specs.Program.{Function, Program}
 use Rattle.lra_program.specs.Step.{State}
-use Rattle.lra_operations.specs.TrailsAgree.{KeepsWidth}
+use Rattle.lra_operations.specs.TracesAgree.{KeepsWidth}
 use Rattle.lra_rounds.specs.Intervals.{Row, Table}
 use Rattle.lra_rounds.specs.Telling.{MayGive, told_to, others_of, as_long}
 use Rattle.lra_among.specs.CoversAmong.{MayBecome}
-use Rattle.lra_interleavings.specs.Woven.{Changes, none, more, OthersGive, AreAllowed}
+use Rattle.lra_interleavings.specs.ThreadModular.{RepeatedWrites, none, more, OthersWrite, AreAllowed}
 use Rattle.lra_woven.specs.Written.{HasNumber, HasWritten}
 use Rattle.lra_woven.proofs.TellsAll.{told_has}
 
@@ -16,7 +16,7 @@ abbrev pub BecomesAmong : ℕ → Table → ℕ → State → State → Type 0
 BecomesAmong globals table k = MayBecome (others_of globals k table).rely
 
 many_given : (n : ℕ) (Gets : ℕ → ℤ → Type 0) (told : Row) (s t : List ℤ)
-    → ((x : ℕ) (z : ℤ) → x < n → Gets x z → HasNumber told x z) → Changes n Gets s t → others.RelyClosure (MayGive told) s t
+    → ((x : ℕ) (z : ℤ) → x < n → Gets x z → HasNumber told x z) → RepeatedWrites n Gets s t → others.RelyClosure (MayGive told) s t
 many_given n Gets told s _ each (none _) = others.none s
 many_given n Gets told s _ each (more _ t x z before low gets) =
     let (i, at, inner) = each x z low gets in
@@ -26,12 +26,12 @@ many_given n Gets told s _ each (more _ t x z before low gets) =
 pub all_allowed : (P : Program) (fs : List Function) (table : Table)
     → AreAllowed P fs (HasWritten table) (BecomesAmong (length P.globals) table)
 all_allowed P fs table k s t change = record {
-  store = many_given (length P.globals) (OthersGive P fs (HasWritten table) k) (told_to (length P.globals) k table) s.store t.store each change.store;
+  store = many_given (length P.globals) (OthersWrite P fs (HasWritten table) k) (told_to (length P.globals) k table) s.store t.store each change.store;
   waiting = change.waiting;
   draws = change.draws;
 }
   where
-    each : (x : ℕ) (z : ℤ) → x < length P.globals → OthersGive P fs (HasWritten table) k x z → HasNumber (told_to (length P.globals) k table) x z
+    each : (x : ℕ) (z : ℤ) → x < length P.globals → OthersWrite P fs (HasWritten table) k x z → HasNumber (told_to (length P.globals) k table) x z
     each x z low gives = let (row, at, has) = gives.within in told_has (length P.globals) k gives.giver table row x z low at gives.is_other has
 
 many_long : (told : Row) (s t : List ℤ) → others.RelyClosure (MayGive told) s t → length t ≡ length s

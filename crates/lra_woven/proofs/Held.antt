@@ -7,9 +7,9 @@ use Rattle.lra_interference.specs.Interference.{Interference}
 use Rattle.lra_program.specs.Program.{Program}
 use Rattle.lra_program.specs.WellFormed.{AreGoodGlobals}
 use Rattle.lra_program.specs.Step.{State}
-use Rattle.lra_program.specs.Trails.{Trail}
-use Rattle.lra_operations.specs.Graph.{Node}
-use Rattle.lra_operations.specs.Trails.{to_point}
+use Rattle.lra_program.specs.Traces.{Trace}
+use Rattle.lra_operations.specs.Tree.{Node}
+use Rattle.lra_operations.specs.Traces.{to_point}
 use Rattle.lra_flow.specs.Plan.{Plan}
 use Rattle.lra_flow.specs.Operations.{dropping}
 use Rattle.lra_flow.specs.Pass.{noted, PassAmong}
@@ -24,7 +24,7 @@ use Rattle.lra_iter.proofs.CoveringAmong.{begun_covers_among}
 module _ {V H : Type 0} (o : Interference V) (m : Abstraction V H) (laws : Laws m) (plan : Plan) (P : Program) (good : AreGoodGlobals P.globals) (g tree : Node)
     (opens : tree ≡ opened (length P.globals) g) where
   pub held_among : (values : List V) (notes : List (ℕ × ℕ × V)) (verdicts : List (ℕ × Bool)) (flagged : Option ℕ)
-      → IsSolvedAmong o m plan P tree values notes verdicts flagged → (q : ℕ) (draws : List ℤ) (a : Trail ℕ) (t : State)
+      → IsSolvedAmong o m plan P tree values notes verdicts flagged → (q : ℕ) (draws : List ℤ) (a : Trace ℕ) (t : State)
       → GoesAmong o P g draws (to_point q) a → MayBecome o.rely a.state t → (v : V) × (slice_get values q ≡ Some v) × Has m v t.store
   held_among values notes verdicts flagged solved q draws a t goes becomes =
       let d = solved.derived in

@@ -12,15 +12,15 @@ use Rattle.lra_box.specs.Abstraction.{box_abstraction}
 use Rattle.lra_program.specs.Program.{Function, Program}
 use Rattle.lra_program.specs.Step.{State}
 use Rattle.lra_program.specs.Run.{Point}
-use Rattle.lra_program.specs.Trails.{Trail, Arrives, Denies}
-use Rattle.lra_program.specs.Accesses.{OpStrays}
+use Rattle.lra_program.specs.Traces.{Trace, Arrives, ViolatesAssertion}
+use Rattle.lra_program.specs.Accesses.{OpOutOfBounds}
 use Rattle.lra_program.specs.Sites.{Site, sites_of}
-use Rattle.lra_operations.specs.GraphViews.{node_view}
-use Rattle.lra_operations.specs.declared.graph.Graph.{Graph}
+use Rattle.lra_operations.specs.TreeViews.{node_view}
+use Rattle.lra_operations.specs.declared.tree.InlinedProgram.{InlinedProgram}
 use Rattle.lra_operations.specs.Agree.{point_of}
-use Rattle.lra_operations.specs.Trails.{Stop, to_point, to_failure, stopped}
-use Rattle.lra_operations.specs.TrailsAgree.{KeepsWidth, point_at, TreeGoes, TrailsAgree}
-use Rattle.lra_operations.proofs.TrailUses.{renamed, goes_named}
+use Rattle.lra_operations.specs.Traces.{Stop, to_point, to_failure, stopped}
+use Rattle.lra_operations.specs.TracesAgree.{KeepsWidth, point_at, TreeRunsUpTo, TracesAgree}
+use Rattle.lra_operations.proofs.TraceUses.{renamed, goes_named}
 use Rattle.lra_agreement.proofs.Agreement.{trails_agree}
 use Rattle.lra_agreement.proofs.Asked.{graphs_access_well}
 use Rattle.lra_agreement.proofs.Asking.{strays}
@@ -30,8 +30,8 @@ use Rattle.lra_rounds.specs.Telling.{others_of}
 use Rattle.lra_rounds.specs.Rounds.{Settled}
 use Rattle.lra_iter.specs.Among.{begins, GoesAmong}
 use Rattle.lra_iter.specs.Tables.{note_view}
-use Rattle.lra_interleavings.specs.Interleavings.{thread_program, AtThread, FailsThread, StraysThread}
-use Rattle.lra_interleavings.specs.Woven.{AsksThere, IsWoven}
+use Rattle.lra_interleavings.specs.Interleavings.{thread_program, AtThread, FailsThread, OutOfBoundsThread}
+use Rattle.lra_interleavings.specs.ThreadModular.{NextOpIsThere, IsThreadModular}
 use Rattle.lra_gifts.specs.GiftsAgree.{TreeGives, TreesGiveWithin}
 use Rattle.lra_gifts.proofs.ByTrees.{woven_by_trees}
 use Rattle.lra_threads.specs.declared.found.ThreadFound.{ThreadFound}
@@ -53,7 +53,7 @@ gift_listed found q x v among =
     subst (λ (g : ℕ × BoxContent). Contains (gifts_in found) g) (ap (λ (n : ℕ × ℕ × BoxContent). (n.1, n.2)) is)
     (map_has gift_in found.noted.notes.items note listed)
 
-module _ (P : Program) (fs : List Function) (graphs : List Graph) (end : Settled ThreadFound) (are : AreThreads P fs graphs)
+module _ (P : Program) (fs : List Function) (graphs : List InlinedProgram) (end : Settled ThreadFound) (are : AreThreads P fs graphs)
     (all : AllHold P.globals graphs end) where
   -- what others may do to the k-th thread's state
   abbrev may : ℕ → State → State → Type 0
@@ -72,13 +72,13 @@ module _ (P : Program) (fs : List Function) (graphs : List Graph) (end : Settled
 
   -- of the k-th thread
   abbrev InRound : ℕ → Function → Type 0
-  InRound k f = (graph : Graph) × (t : IsThread P f graph) × HoldsInRound (thread_program P f) k graph t.tree end
+  InRound k f = (graph : InlinedProgram) × (t : IsThread P f graph) × HoldsInRound (thread_program P f) k graph t.tree end
 
   in_round : (k : ℕ) (f : Function) → slice_get fs k ≡ Some f → InRound k f
   in_round k f at = let (graph, there, t) = are k f at in (graph, t, all.each (thread_program P f) k graph t.tree refl there t.opens)
 
   -- what its tree gives is in its intervals
-  gift_written : (k : ℕ) (f : Function) (r : InRound k f) (draws : List ℤ) (q x : ℕ) (z : ℤ) (a : Trail Point)
+  gift_written : (k : ℕ) (f : Function) (r : InRound k f) (draws : List ℤ) (q x : ℕ) (z : ℤ) (a : Trace Point)
       → TreeGives (may k) (thread_program P f) r.1.tree draws q x a → x < length P.globals → slice_get a.state.store x ≡ Some z → Within k x z
   gift_written k f (graph, t, round) draws q x z a gives low at =
       let own = thread_program P f in
@@ -86,7 +86,7 @@ module _ (P : Program) (fs : List Function) (graphs : List Graph) (end : Settled
       let (d, goes, named) = gives_named (point_at (sites_of own)) (λ n. n) (may k) t.tree (begins own draws) q x a gives in
       let (v, among, has) = round.holds.gives q x draws d low goes in
       let gift = gift_listed found q x v among in
-      let here : slice_get d.state.store x ≡ Some z = subst (λ (b : Trail Point). slice_get b.state.store x ≡ Some z) named at in
+      let here : slice_get d.state.store x ≡ Some z = subst (λ (b : Trace Point). slice_get b.state.store x ≡ Some z) named at in
       notes_written thread_finding (length P.globals) end.found end.table all.within k found round.is_found x v d.state.store z low gift has here
 
   trees : TreesGiveWithin P fs Within may
@@ -95,17 +95,17 @@ module _ (P : Program) (fs : List Function) (graphs : List Graph) (end : Settled
       (r.1.tree, r.1.is_graph, λ draws q x z a. gift_written k f r draws q x z a)
 
   -- so each thread runs as one among others
-  woven : IsWoven P fs Within may
+  woven : IsThreadModular P fs Within may
   woven = woven_by_trees P fs Within may (all_allowed P fs end.table) keeps trees
 
   -- a thread's runs and those of its tree --------------------------------------------------------------------------------
 
   module _ (k q : ℕ) (f : Function) (s : Site) (at : slice_get fs k ≡ Some f) (site : slice_get (sites_of (thread_program P f)) q ≡ Some s)
-      (graph : Graph) (t : IsThread P f graph) where
+      (graph : InlinedProgram) (t : IsThread P f graph) where
     abbrev own : Program
     own = thread_program P f
 
-    trails : TrailsAgree (may k) own t.tree
+    trails : TracesAgree (may k) own t.tree
     trails = trails_agree (may k) (keeps k) own t.tree (distinct_sites own t.well) t.is_graph
 
     -- the function of a run is the thread's
@@ -113,33 +113,33 @@ module _ (P : Program) (fs : List Function) (graphs : List Graph) (end : Settled
     same_function h there = same_Some h f (sym there ∙ at)
 
     -- a run of the tree, by the numbers of points
-    abbrev Followed : List ℤ → Stop → Trail Point → Type 0
-    Followed draws z a = (d : Trail ℕ) × GoesAmong (beside k) own t.tree draws z d × (a ≡ renamed (point_at (sites_of own)) d)
+    abbrev Followed : List ℤ → Stop → Trace Point → Type 0
+    Followed draws z a = (d : Trace ℕ) × GoesAmong (beside k) own t.tree draws z d × (a ≡ renamed (point_at (sites_of own)) d)
 
-    followed : (draws : List ℤ) (z : Stop) (a : Trail Point) → TreeGoes (may k) own t.tree draws z a → Followed draws z a
+    followed : (draws : List ℤ) (z : Stop) (a : Trace Point) → TreeRunsUpTo (may k) own t.tree draws z a → Followed draws z a
     followed draws z a goes = goes_named (point_at (sites_of own)) (λ n. n) (may k) t.tree (begins own draws) (stopped z) a goes
 
-    arrives : (h : Function) (draws : List ℤ) (a : Trail Point) → slice_get fs k ≡ Some h → Arrives (may k) (thread_program P h) draws (point_of s) a
+    arrives : (h : Function) (draws : List ℤ) (a : Trace Point) → slice_get fs k ≡ Some h → Arrives (may k) (thread_program P h) draws (point_of s) a
         → Followed draws (to_point q) a
     arrives h draws a there run =
         followed draws (to_point q) a ((trails.comes q s draws a site).0
         (subst (λ (g : Function). Arrives (may k) (thread_program P g) draws (point_of s) a) (same_function h there) run))
 
-    denies : (h : Function) (draws : List ℤ) (a : Trail Point) → slice_get fs k ≡ Some h → Denies (may k) (thread_program P h) draws (point_of s) a
+    denies : (h : Function) (draws : List ℤ) (a : Trace Point) → slice_get fs k ≡ Some h → ViolatesAssertion (may k) (thread_program P h) draws (point_of s) a
         → Followed draws (to_failure q) a
     denies h draws a there run =
         followed draws (to_failure q) a ((trails.fails q s draws a site).0
-        (subst (λ (g : Function). Denies (may k) (thread_program P g) draws (point_of s) a) (same_function h there) run))
+        (subst (λ (g : Function). ViolatesAssertion (may k) (thread_program P g) draws (point_of s) a) (same_function h there) run))
 
     -- what becomes of where a run stands
     abbrev Stands : State → Type 0
-    Stands u = (draws : List ℤ) × (d : Trail ℕ) × GoesAmong (beside k) own t.tree draws (to_point q) d × may k d.state u
+    Stands u = (draws : List ℤ) × (d : Trace ℕ) × GoesAmong (beside k) own t.tree draws (to_point q) d × may k d.state u
 
-    stands_by : (h : Function) (draws : List ℤ) (a : Trail Point) (u : State) → slice_get fs k ≡ Some h
+    stands_by : (h : Function) (draws : List ℤ) (a : Trace Point) (u : State) → slice_get fs k ≡ Some h
         → Arrives (may k) (thread_program P h) draws (point_of s) a → may k a.state u → Stands u
     stands_by h draws a u there run becomes =
         let (d, goes, named) = arrives h draws a there run in
-        (draws, d, goes, subst (λ (b : Trail Point). may k b.state u) named becomes)
+        (draws, d, goes, subst (λ (b : Trace Point). may k b.state u) named becomes)
 
     stands_at : (store : List ℤ) → AtThread P fs k (point_of s) store → (u : State) × Stands u × (u.store ≡ store)
     stands_at store stands =
@@ -173,16 +173,16 @@ module _ (P : Program) (fs : List Function) (graphs : List Graph) (end : Settled
           round.holds.unreached q v draws d there none goes
 
       -- a run that strays there asks, of the state that others left, what the tree asks there
-      asked_outside : (n : ℕ) (h : Function) (draws : List ℤ) (a : Trail Point) → slice_get fs k ≡ Some h
-          → AsksThere (may k) (λ op u. OpStrays op u n) (thread_program P h) draws (point_of s) a → (js : List (Place × Bool)) (place : Place)
+      asked_outside : (n : ℕ) (h : Function) (draws : List ℤ) (a : Trace Point) → slice_get fs k ≡ Some h
+          → NextOpIsThere (may k) (λ op u. OpOutOfBounds op u n) (thread_program P h) draws (point_of s) a → (js : List (Place × Bool)) (place : Place)
           → Contains (told_in found) (q, js) → slice_get js n ≡ Some (place, true) → ⊥
       asked_outside n h draws a there run js place listed inner =
-          let mine = subst (λ (g : Function). AsksThere (may k) (λ op u. OpStrays op u n) (thread_program P g) draws (point_of s) a)
+          let mine = subst (λ (g : Function). NextOpIsThere (may k) (λ op u. OpOutOfBounds op u n) (thread_program P g) draws (point_of s) a)
           (same_function h there) run in
           let distinct = distinct_sites own t.well in
           let b = asks_among (may k) (keeps k) (λ x y becomes. becomes.draws) (strays n) own t.tree distinct t.is_graph q s draws a site mine in
           let (steps, c, xs, walk, on, becomes, asks, met) = mine in
-          let (drawn, d, goes, left) = stands_by f draws (record { state = c.state; met = xs }) a.state at (steps, c, walk, on, refl) becomes in
+          let (drawn, d, goes, left) = stands_by f draws (record { state = c.state; events = xs }) a.state at (steps, c, walk, on, refl) becomes in
           let (plan, solved) = round.solved in
           let (v, value, held) = held_among (beside k) box_abstraction box_laws plan own t.well.globals t.tree (node_view graph.tree) t.opens
           (values_of found) (notes_of found) (verdicts_of found) found.noted.solution.flagged solved q drawn d a.state goes left in
@@ -190,7 +190,7 @@ module _ (P : Program) (fs : List Function) (graphs : List Graph) (end : Settled
           (told_in found) _ round.inside.1 q js n place listed inner b.asked v a.state b.among b.there value held b.holds
 
       never_strays : (js : List (Place × Bool)) (n : ℕ) (place : Place) → Contains (told_in found) (q, js)
-          → slice_get js n ≡ Some (place, true) → StraysThread P fs k (point_of s) n → ⊥
+          → slice_get js n ≡ Some (place, true) → OutOfBoundsThread P fs k (point_of s) n → ⊥
       never_strays js n place listed inner strays_there =
           let (a, among) = woven.strays k (point_of s) n strays_there in
           asked_outside n among.function among.draws a among.is_thread among.does js place listed inner

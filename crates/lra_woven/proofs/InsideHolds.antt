@@ -8,9 +8,9 @@ use Rattle.lra_base.specs.declared.refusals.Place.{Place}
 use Rattle.lra_domain.specs.Abstraction.{Abstraction}
 use Rattle.lra_domain.specs.Laws.{Laws}
 use Rattle.lra_program.specs.Step.{State}
-use Rattle.lra_program.specs.Accesses.{op_accesses_any, OpStrays}
-use Rattle.lra_operations.specs.Graph.{Node}
-use Rattle.lra_operations.specs.Asked.{Asked, accessed_in, AskedMeets, AreAskedOnce}
+use Rattle.lra_program.specs.Accesses.{op_accesses_any, OpOutOfBounds}
+use Rattle.lra_operations.specs.Tree.{Node}
+use Rattle.lra_operations.specs.CheckedOperations.{OpAtPoint, accessing_ops, HoldsAtPoint, AreOncePerPoint}
 use Rattle.lra_flow.specs.Operations.{dropping}
 use Rattle.lra_flow.specs.Accesses.{AskedInside, JudgesAccesses}
 use Rattle.lra_flow.specs.Judging.{answer_of}
@@ -21,11 +21,11 @@ use Rattle.lra_flow.proofs.Covers.{Has}
 abbrev Told : Type 0
 Told = List (Place × Bool)
 
-module _ (g : Node) (once : AreAskedOnce op_accesses_any g) where
+module _ (g : Node) (once : AreOncePerPoint op_accesses_any g) where
   -- a tree asks of one operation's accesses at a point
-  one_accessed : (a b : Asked) → Contains (accessed_in None g) a → Contains (accessed_in None g) b → a.point ≡ b.point → a ≡ b
+  one_accessed : (a b : OpAtPoint) → Contains (accessing_ops None g) a → Contains (accessing_ops None g) b → a.point ≡ b.point → a ≡ b
   one_accessed a b x y same =
-      let all = accessed_in None g in
+      let all = accessing_ops None g in
       let at = slice_get_read all (length all) x.0 a refl x.1 (sym x.2) in
       let there = slice_get_read all (length all) y.0 b refl y.1 (sym y.2) in
       same_Some a b (sym at ∙ ap (λ (n : ℕ). slice_get all n) (once x.0 y.0 a b at there same) ∙ there)
@@ -33,14 +33,14 @@ module _ (g : Node) (once : AreAskedOnce op_accesses_any g) where
   pub inside_holds : {V H : Type 0} (m : Abstraction V H) → Laws m → (values : List V) (before : Option ℕ) (told : List (ℕ × Told)) (flagged : Option ℕ)
       → JudgesAccesses m (dropping m) g values before told flagged → (q : ℕ) (js : Told) (n : ℕ) (place : Place)
       → Contains told (q, js) → slice_get js n ≡ Some (place, true)
-      → (b : Asked) (v : V) (s : State) → Contains (accessed_in None g) b → b.point ≡ q → slice_get values q ≡ Some v → Has m v s.store
-      → AskedMeets (λ op t. OpStrays op t n) b s → ⊥
+      → (b : OpAtPoint) (v : V) (s : State) → Contains (accessing_ops None g) b → b.point ≡ q → slice_get values q ≡ Some v → Has m v s.store
+      → HoldsAtPoint (λ op t. OpOutOfBounds op t n) b s → ⊥
   inside_holds m laws values before told flagged judges q js n place listed inner b v s among there found held outside =
       let (j, one, is) = map_from answer_of judges.found (q, js) (subst (λ (l : List (ℕ × Told)). Contains l (q, js)) judges.told listed) in
       let (a, own, point, judged) = judges.is_asked j one in
       let same : a ≡ b = one_accessed a b own among (point ∙ ap (λ (p : ℕ × Told). p.0) is ∙ sym there) in
       let here : slice_get values b.point ≡ Some v = ap (λ (k : ℕ). slice_get values k) there ∙ found in
       let so : AskedInside m (dropping m) values b js j.exactness =
-      subst (λ (x : Asked). AskedInside m (dropping m) values x js j.exactness) same
+      subst (λ (x : OpAtPoint). AskedInside m (dropping m) values x js j.exactness) same
       (subst (λ (ks : Told). AskedInside m (dropping m) values a ks j.exactness) (ap (λ (p : ℕ × Told). p.1) is) judged) in
       inside_never_stray m laws values b js j.exactness v s n place here held.0 held.1 so inner outside

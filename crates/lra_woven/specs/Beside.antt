@@ -6,16 +6,17 @@ use Rattle.lra_base.specs.declared.refusals.Place.{Place}
 use Rattle.lra_program.specs.Program.{Function, Program}
 use Rattle.lra_program.specs.Sites.{Site, sites_of}
 use Rattle.lra_program.specs.WellFormed.{IsWellFormed}
-use Rattle.lra_operations.specs.Graph.{Node}
-use Rattle.lra_operations.specs.GraphViews.{node_view}
-use Rattle.lra_operations.specs.declared.graph.Graph.{Graph}
-use Rattle.lra_operations.specs.Agree.{IsGraph, point_of}
+use Rattle.lra_operations.specs.Tree.{Node}
+use Rattle.lra_operations.specs.TreeViews.{node_view}
+use Rattle.lra_operations.specs.declared.tree.InlinedProgram.{InlinedProgram}
+use Rattle.lra_operations.specs.Agree.{IsInlinedTree, point_of}
 use Rattle.lra_flow.specs.Analysis.{IsUnreachable}
 use Rattle.lra_flow.specs.Opened.{opened}
 use Rattle.lra_box.specs.Content.{BoxContent}
 use Rattle.lra_box.specs.Abstraction.{box_abstraction}
 use Rattle.lra_rounds.specs.Rounds.{Settled}
-use Rattle.lra_interleavings.specs.Interleavings.{thread_program, AtThread, FailsThread, StraysThread, Gives}
+use Rattle.lra_interleavings.specs.Interleavings.{thread_program, AtThread, FailsThread, OutOfBoundsThread}
+use Rattle.lra_interleavings.specs.Interleavings.{ThreadWritesValue}
 use Rattle.lra_threads.specs.declared.found.ThreadFound.{ThreadFound}
 use Rattle.lra_threads.specs.Found.{values_of, verdicts_of, told_in}
 use Rattle.lra_threads.specs.Holding.{AllHold}
@@ -43,22 +44,22 @@ module _ (P : Program) (fs : List Function) (end : Settled ThreadFound) where
     pub inside : (k q : ℕ) (f : Function) (s : Site) (found : ThreadFound) (js : List (Place × Bool)) (n : ℕ)
         (place : Place) → slice_get fs k ≡ Some f → slice_get (sites_of (thread_program P f)) q ≡ Some s →
         slice_get end.found k ≡ Some found → Contains (told_in found) (q, js) → slice_get js n ≡ Some (place, true) →
-        StraysThread P fs k (point_of s) n → ⊥
+        OutOfBoundsThread P fs k (point_of s) n → ⊥
     -- each number that a thread gives a global is in the thread's interval for it
-    pub gives : (k x : ℕ) (z : ℤ) → Gives P fs k x z → HasWritten end.table k x z
+    pub gives : (k x : ℕ) (z : ℤ) → ThreadWritesValue P fs k x z → HasWritten end.table k x z
 
 -- the graph is the opened one of a tree of the program with this function in the place of `main`
-pub record IsThread (P : Program) (f : Function) (graph : Graph) : Type 0 where
+pub record IsThread (P : Program) (f : Function) (graph : InlinedProgram) : Type 0 where
   pub well : IsWellFormed (thread_program P f)
   pub tree : Node
-  pub is_graph : IsGraph (thread_program P f) tree
+  pub is_graph : IsInlinedTree (thread_program P f) tree
   pub opens : node_view graph.tree ≡ opened (length P.globals) tree
 
 -- a graph for each function
-abbrev pub AreThreads : Program → List Function → List Graph → Type 0
+abbrev pub AreThreads : Program → List Function → List InlinedProgram → Type 0
 AreThreads P fs graphs = (k : ℕ) (f : Function) → slice_get fs k ≡ Some f →
-    (graph : Graph) × (slice_get graphs k ≡ Some graph) × IsThread P f graph
+    (graph : InlinedProgram) × (slice_get graphs k ≡ Some graph) × IsThread P f graph
 
 abbrev pub ThreadsHold : Type 0
-ThreadsHold = (P : Program) (fs : List Function) (graphs : List Graph) (end : Settled ThreadFound) →
+ThreadsHold = (P : Program) (fs : List Function) (graphs : List InlinedProgram) (end : Settled ThreadFound) →
     AreThreads P fs graphs → AllHold P.globals graphs end → HoldsBeside P fs end

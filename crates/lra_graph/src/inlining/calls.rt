@@ -80,7 +80,7 @@ pub fn end_call(
         end,
         base: around.frame.base,
         live: around.frame.live,
-        receiver: caller.receiver.behind_result(function.result_type),
+        receiver: caller.receiver.result_receiver(function.result_type),
     };
     let alloc = around.alloc;
     let types = &function.parameters;

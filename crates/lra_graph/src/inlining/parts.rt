@@ -7,7 +7,7 @@ ghost use Rattle.lra_program.specs.Sites as points;
 ghost use Rattle.lra_program.specs.Sites.{call_events};
 ghost use Rattle.lra_program.specs.WellFormed.{IsWellFormed};
 ghost use Rattle.lra_program.specs.ProgramViews.{call_view, item_view, items_of};
-ghost use Rattle.lra_operations.specs.GraphViews.{node_view};
+ghost use Rattle.lra_operations.specs.TreeViews.{node_view};
 ghost use Rattle.lra_opening.specs.Building as building;
 ghost use Rattle.lra_opening.specs.Limits.{OnLimit, walk, stopped};
 ghost use Rattle.lra_opening.specs.Inlining.{points_in, program_of};
@@ -90,7 +90,7 @@ fn open_call<'a>(
         frame,
     };
     let function = callee(source.program, call);
-    let receiver = caller.receiver.behind_result(function.result_type);
+    let receiver = caller.receiver.result_receiver(function.result_type);
     let (inside, within) = enter_call(&here, receiver, call)?;
     let callers = mem::replace(path, inside);
     let place = Place::Callee(CalledFrom {

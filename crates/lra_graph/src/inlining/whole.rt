@@ -1,22 +1,22 @@
 //! The tree of a whole program and its points: those of `main`'s items, and the point of its end.
 
 ghost use Rattle.std.specs.Prelude.{◌≡◌, ◌≤◌, ℕ, List, [], ◌++◌, length, map, slice_get, IfOk, None, Some};
-ghost use Rattle.lra_operations.specs.Agree.{IsGraph, Agrees};
-ghost use Rattle.lra_operations.specs.Asked.{AccessesWell};
+ghost use Rattle.lra_operations.specs.Agree.{IsInlinedTree, Agrees};
+ghost use Rattle.lra_operations.specs.CheckedOperations.{AgreesOnAccesses};
 ghost use Rattle.lra_tree.specs.Labels.{Labelled};
 ghost use Rattle.lra_meaning.specs.Refuse.{greatest_live, limit_fault};
 ghost use Rattle.lra_program.specs.Sites as points;
 ghost use Rattle.lra_program.specs.Sites.{events_of, sites_of};
 ghost use Rattle.lra_program.specs.WellFormed.{IsWellFormed};
 ghost use Rattle.lra_program.specs.ProgramViews.{program_view};
-ghost use Rattle.lra_operations.specs.GraphViews.{node_view, site_view};
+ghost use Rattle.lra_operations.specs.TreeViews.{node_view, site_view};
 ghost use Rattle.lra_opening.specs.Limits.{OnLimit, passed, refusal_of, stopped, walk};
 ghost use Rattle.lra_opening.specs.Inlining.{points_in};
 
 use super::inline_items;
 use lra_opening::{Around, Frame, GREATEST_CALLS, GraphError, add_point};
 use lra_operations::forms::put_in_turn;
-use lra_operations::{Graph, Node, Path, Site};
+use lra_operations::{InlinedProgram, Node, Path, Site};
 use lra_program::{Program, Receiver};
 use std::alloc::Global;
 
@@ -31,7 +31,7 @@ fn write_program(
     ensures walked { IfOk result (λ _. walk (points_in sites.old) (events_of (program_view program.now))
         ≡ passed (points_in sites.new)) }
     ensures graph { IfOk result (λ g. points_in sites.old ≡ []
-        → IsGraph (program_view program.now) (node_view g)) }
+        → IsInlinedTree (program_view program.now) (node_view g)) }
     ensures limit { OnLimit result (λ x. walk (points_in sites.old) (events_of (program_view program.now))
         ≡ stopped x) }
 {
@@ -44,7 +44,7 @@ fn write_program(
         calls_left: GREATEST_CALLS,
         breaks: None,
         continues: None,
-        receiver: Receiver::nobody().behind_result(main.result_type),
+        receiver: Receiver::nobody().result_receiver(main.result_type),
         back: None,
     };
     let around = Around {
@@ -60,11 +60,11 @@ fn write_program(
 }
 
 /// The program's tree and its points, or the first limit that it passes.
-pub fn build(alloc: Global, program: &Program) -> Result<Graph, GraphError>
+pub fn build(alloc: Global, program: &Program) -> Result<InlinedProgram, GraphError>
     requires { IsWellFormed (program_view program.now) }
-    ensures graph { IfOk result (λ g. IsGraph (program_view program.now) (node_view g.tree)) }
+    ensures graph { IfOk result (λ g. IsInlinedTree (program_view program.now) (node_view g.tree)) }
     ensures agrees { IfOk result (λ g. Agrees (program_view program.now) (node_view g.tree)) }
-    ensures accesses { IfOk result (λ g. AccessesWell (program_view program.now)
+    ensures accesses { IfOk result (λ g. AgreesOnAccesses (program_view program.now)
         (node_view g.tree)) }
     ensures sites { IfOk result (λ g. map site_view g.sites.items ≡ sites_of (program_view program.now)) }
     ensures few { IfOk result (λ _. (q : ℕ) (s : points.Site)
@@ -76,7 +76,7 @@ pub fn build(alloc: Global, program: &Program) -> Result<Graph, GraphError>
 {
     let mut sites = Vec::new(alloc);
     let tree = write_program(alloc, program, &mut sites)?;
-    Ok(Graph { tree, sites })
+    Ok(InlinedProgram { tree, sites })
 }
 
 /// As [`build`], where the program's points come behind those of other programs: all of them count against the limit.
@@ -86,11 +86,11 @@ pub fn build_thread(
     alloc: Global,
     program: &Program,
     before: &mut Vec<Site>,
-) -> Result<Graph, GraphError>
+) -> Result<InlinedProgram, GraphError>
     requires { IsWellFormed (program_view program.now) }
-    ensures graph { IfOk result (λ g. IsGraph (program_view program.now) (node_view g.tree)) }
+    ensures graph { IfOk result (λ g. IsInlinedTree (program_view program.now) (node_view g.tree)) }
     ensures agrees { IfOk result (λ g. Agrees (program_view program.now) (node_view g.tree)) }
-    ensures accesses { IfOk result (λ g. AccessesWell (program_view program.now)
+    ensures accesses { IfOk result (λ g. AgreesOnAccesses (program_view program.now)
         (node_view g.tree)) }
     ensures sites { IfOk result (λ g. map site_view g.sites.items ≡ sites_of (program_view program.now)) }
     ensures few { IfOk result (λ _. (q : ℕ) (s : points.Site)

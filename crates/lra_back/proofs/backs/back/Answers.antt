@@ -1,6 +1,6 @@
 -- Goals of `back`: going back from the assertion at the point.
 use Rattle.std.proofs.Common.{Err, List, ap, map, refl, subst, sym, ◌∙◌}
-use Rattle.lra_operations.specs.GraphViews.{node_view, site_view}
+use Rattle.lra_operations.specs.TreeViews.{node_view, site_view}
 use Rattle.lra_program.specs.Sites.{Site}
 use Rattle.lra_ways.specs.StretchViews.{seen}
 use Rattle.lra_back.specs.Traced.{AreWide}

@@ -1,6 +1,6 @@
 -- Goals of `finish`: what was met, and whether nothing of it is left where runs start.
 use Rattle.std.proofs.Common.{◌≡◌, ◌↔◌, List, map, subst, true}
-use Rattle.lra_operations.specs.GraphViews.{site_view}
+use Rattle.lra_operations.specs.TreeViews.{site_view}
 use Rattle.lra_back.specs.Traced.{NothingLeftAtStart}
 use Rattle.lra_back.proofs.backs.finish.Goals as goal
 

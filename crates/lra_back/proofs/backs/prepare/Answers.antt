@@ -1,7 +1,7 @@
 -- Goals of `prepare`: what is gone back over from the point.
 use Rattle.std.proofs.Common.{List, ap, arith, map, subst, sym, ◌∙◌}
 use Rattle.std.proofs.lemmas.Option.{none-some}
-use Rattle.lra_operations.specs.GraphViews.{site_view}
+use Rattle.lra_operations.specs.TreeViews.{site_view}
 use Rattle.lra_program.specs.ProgramViews.{cond_view}
 use Rattle.lra_ways.specs.Stretches.{AreWays}
 use Rattle.lra_ways.specs.StretchViews.{seen}

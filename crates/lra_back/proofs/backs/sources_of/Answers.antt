@@ -1,7 +1,7 @@
 -- Goals of `sources_of`: the sources of all points.
 use Rattle.std.proofs.Common.{◌≡◌, ◌<◌, ◌+◌, List, Some, length, map, add-one, ap, arith, slice_get, subst, sym, ◌∙◌}
 use Rattle.std.proofs.lemmas.List.{length-map}
-use Rattle.lra_operations.specs.GraphViews.{site_view}
+use Rattle.lra_operations.specs.TreeViews.{site_view}
 use Rattle.lra_paths.specs.declared.sources.Source.{Source}
 use Rattle.lra_back.specs.Going.{IsSourceOf}
 use Rattle.lra_back.proofs.MeetSteps.{append_cases, one_more}

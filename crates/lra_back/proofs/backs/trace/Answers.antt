@@ -1,7 +1,7 @@
 -- Goals of `trace`: what is found by going back from the point over these paths.
 use Rattle.std.proofs.Common.{◌≡◌, ℕ, List, Option, Some, ap, length, map, slice_get, subst, sym, ◌∙◌}
 use Rattle.std.proofs.lemmas.Result.{IfOk-weaker}
-use Rattle.lra_operations.specs.GraphViews.{site_view}
+use Rattle.lra_operations.specs.TreeViews.{site_view}
 use Rattle.lra_ways.specs.StretchViews.{seen}
 use Rattle.lra_back.specs.Operations.{dropping}
 use Rattle.lra_back.specs.Traced.{AreWide, Backs}

@@ -13,15 +13,15 @@ use Rattle.lra_calc.proofs.OneRefusal.{one_refusal, never_widens}
 use Rattle.lra_calc.proofs.OneEnd.{one_end}
 use Rattle.lra_calc.proofs.calculator.script.Goals as goal
 
-pub slice_bounds-place_behind-end : goal.slice_bounds-place_behind-end
-slice_bounds-place_behind-end c = taken 65536 c.args.bytes.now c.if-bytes-gt-GREATEST_LENGTH.true
+pub slice_bounds-place_after-end : goal.slice_bounds-place_after-end
+slice_bounds-place_after-end c = taken 65536 c.args.bytes.now c.if-bytes-gt-GREATEST_LENGTH.true
 
-pub place_behind-place-requires : goal.place_behind-place-requires
-place_behind-place-requires c = let e = taken 65536 c.args.bytes.now c.if-bytes-gt-GREATEST_LENGTH.true in omega arith
+pub place_after-place-requires : goal.place_after-place-requires
+place_after-place-requires c = let e = taken 65536 c.args.bytes.now c.if-bytes-gt-GREATEST_LENGTH.true in omega arith
 
 pub returns-then-bytes-gt-GREATEST_LENGTH-clause-answer : goal.returns-then-bytes-gt-GREATEST_LENGTH-clause-answer
 returns-then-bytes-gt-GREATEST_LENGTH-clause-answer c =
-    subst (λ (p : Place). AnswersTo c.args.bytes.now (Err (TooLong p))) (sym c.place_behind-place.ensures)
+    subst (λ (p : Place). AnswersTo c.args.bytes.now (Err (TooLong p))) (sym c.place_after-place.ensures)
     (answer_too_long 65536 c.args.bytes.now limit_is c.if-bytes-gt-GREATEST_LENGTH.true)
 
 pub returns-clause-answer : goal.returns-clause-answer

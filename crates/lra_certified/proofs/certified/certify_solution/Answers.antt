@@ -6,7 +6,7 @@ use Rattle.std.specs.List.{AllByRecursion}
 use Rattle.lra_tree.specs.Views.{tree_view}
 use Rattle.lra_meaning.specs.Resolve.{resolve}
 use Rattle.lra_program.specs.ProgramViews.{program_view}
-use Rattle.lra_operations.specs.GraphViews.{node_view, site_view}
+use Rattle.lra_operations.specs.TreeViews.{node_view, site_view}
 use Rattle.lra_verify.specs.PointViews.{state_view}
 use Rattle.lra_certified.specs.Taken.{state_by, dims_by, proved_in}
 use Rattle.lra_program.specs.Sites.{sites_of}

@@ -2,7 +2,7 @@
 use Rattle.std.proofs.Common.{Err, map, ap, sym, string_bytes}
 use Rattle.lra_program.specs.ProgramViews.{program_view}
 use Rattle.lra_program.specs.Sites.{sites_of}
-use Rattle.lra_operations.specs.GraphViews.{node_view, site_view}
+use Rattle.lra_operations.specs.TreeViews.{node_view, site_view}
 use Rattle.lra_verify.specs.PointViews.{state_view}
 use Rattle.lra_verify.proofs.VerifySteps.{few_ready, many_ready}
 use Rattle.lra_certify.specs.Certified.{IsFailure}

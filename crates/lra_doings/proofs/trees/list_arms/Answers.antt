@@ -1,7 +1,7 @@
 -- Goals of `list_arms`: what the first of the arms does comes behind the others.
 use Rattle.std.proofs.Common.{rules, ◌≡◌, ◌∷◌, map}
 use Rattle.std.proofs.lemmas.List.{nil_from_length}
-use Rattle.lra_operations.specs.Sizes.{arm_sizes, arms_size}
+use Rattle.lra_operations.specs.Sizes.{arm_sizes, arms_tree_sizes}
 use Rattle.lra_doings.specs.Doings.{done_view}
 use Rattle.lra_doings.specs.Due.{all_due, all_left}
 use Rattle.lra_doings.proofs.TreeSteps.{entry_asks, entry_falls, no_arms_ask, none_falls, same_way, tree_asks, tree_falls, way_if}
@@ -14,7 +14,7 @@ returns-in_default-clause-way c =
     (no_arms_ask c.args.fresh (all_due c.args.left.now.items) c.args.arms.now none)
 
 pub returns-in_default-clause-falls : goal.returns-in_default-clause-falls
-returns-in_default-clause-falls c = none_falls (all_left c.args.left.now.items) (arms_size (map arm_sizes c.args.arms.now))
+returns-in_default-clause-falls c = none_falls (all_left c.args.left.now.items) (arms_tree_sizes (map arm_sizes c.args.arms.now))
 
 pub returns-in-Entry-clause-way : goal.returns-in-Entry-clause-way
 returns-in-Entry-clause-way c =

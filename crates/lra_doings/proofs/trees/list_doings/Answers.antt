@@ -1,7 +1,7 @@
 -- Goals of `list_doings`: what is done in a tree, along a list of what is due.
 use Rattle.std.proofs.Common.{◌∙◌, ap, map, refl, sym}
 use Rattle.std.proofs.lemmas.List.{nil_from_length}
-use Rattle.lra_operations.specs.GraphViews.{node_view}
+use Rattle.lra_operations.specs.TreeViews.{node_view}
 use Rattle.lra_doings.specs.Doings.{done_view}
 use Rattle.lra_doings.proofs.TreeSteps.{fewer_left, next_way, way_first, way_whole}
 use Rattle.lra_doings.proofs.trees.list_doings.Goals as goal

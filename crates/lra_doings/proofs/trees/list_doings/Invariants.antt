@@ -1,5 +1,5 @@
 use Rattle.std.proofs.Common.{None, map}
-use Rattle.lra_operations.specs.GraphViews.{node_view}
+use Rattle.lra_operations.specs.TreeViews.{node_view}
 use Rattle.lra_doings.specs.Doings.{done_view}
 use Rattle.lra_doings.specs.Due.{IsOnWay, all_due, all_left}
 use Rattle.lra_doings.proofs.trees.list_doings.Given as goal

@@ -1,7 +1,7 @@
 -- Goals of `push_apart`: a tree is due before the others, and behind it no variable is new.
 use Rattle.std.proofs.Common.{◌∙◌, ap, arith}
-use Rattle.lra_operations.specs.Graph.{seq}
-use Rattle.lra_operations.specs.GraphViews.{node_view}
+use Rattle.lra_operations.specs.Tree.{seq}
+use Rattle.lra_operations.specs.TreeViews.{node_view}
 use Rattle.lra_doings.proofs.TreeSteps.{due_push, left_push}
 use Rattle.lra_doings.proofs.trees.push_apart.Goals as goal
 

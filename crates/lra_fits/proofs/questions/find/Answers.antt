@@ -1,6 +1,6 @@
 -- Goals of `find`: what is found of a tree, by the values at its points.
 use Rattle.std.proofs.Common.{map, length}
-use Rattle.lra_operations.specs.GraphViews.{node_view}
+use Rattle.lra_operations.specs.TreeViews.{node_view}
 use Rattle.lra_doings.specs.Doings.{done_view}
 use Rattle.lra_flow.specs.Operations.{dropping}
 use Rattle.lra_fits.proofs.TableSteps.{below_asked, empty_long, table_finds}

@@ -1,7 +1,7 @@
 -- Goals of the functions that call each other around `take_tree`: what each kind of tree gives, trees that stand in a row, and a row's trees.
 use Rattle.std.proofs.Common.{rules, ◌≡◌, ◌∙◌, ◌++◌, ◌∷◌, ap, arith, map}
-use Rattle.lra_operations.specs.Graph as graph
-use Rattle.lra_operations.specs.GraphViews.{exit_view, node_view, op_view, row, arm_view, arms_of}
+use Rattle.lra_operations.specs.Tree as graph
+use Rattle.lra_operations.specs.TreeViews.{exit_view, node_view, op_view, row, arm_view, arms_of}
 use Rattle.lra_program.specs.ProgramViews.{cond_view, expr_view}
 use Rattle.lra_flow.specs.Thresholds.{condition_rows, round_rows, rows_in}
 use Rattle.lra_forms.proofs.TreeSizes.{arm_among, tree_among}

@@ -1,6 +1,6 @@
 use Rattle.std.proofs.Common.{drop, map, suc, take}
 use Rattle.std.specs.List.{flat_map}
-use Rattle.lra_operations.specs.GraphViews.{node_view}
+use Rattle.lra_operations.specs.TreeViews.{node_view}
 use Rattle.lra_flow.specs.Thresholds.{rows_in}
 use Rattle.lra_forms.specs.Thresholds.{HasTaken}
 use Rattle.lra_forms.proofs.TreeSizes.{arm_size, arms_size, tree_size, trees_size}

@@ -1,6 +1,6 @@
 -- Goals of `thresholds_of`: the rows that thresholds give to a loop's head.
 use Rattle.std.proofs.Common.{◌≡◌, ◌++◌, arith}
-use Rattle.lra_operations.specs.GraphViews.{node_view}
+use Rattle.lra_operations.specs.TreeViews.{node_view}
 use Rattle.lra_program.specs.ProgramViews.{cond_view}
 use Rattle.lra_flow.specs.Thresholds.{condition_rows, round_rows, rows_once}
 use Rattle.lra_forms.proofs.ThresholdSteps.{variables_added, whole_is}

@@ -4,7 +4,7 @@ use Rattle.std.proofs.Common.{◌≡◌, List, map, Some, ap}
 use Rattle.lra_tree.specs.Labels.{Labelled}
 use Rattle.lra_tree.specs.Views.{tree_view}
 use Rattle.lra_program.specs.ProgramViews.{program_view}
-use Rattle.lra_operations.specs.GraphViews.{node_view, site_view}
+use Rattle.lra_operations.specs.TreeViews.{node_view, site_view}
 use Rattle.lra_program.specs.Sites.{events_of}
 use Rattle.lra_meaning.specs.Refuse.{limit_fault}
 use Rattle.lra_opening.specs.Limits.{refusal_of}

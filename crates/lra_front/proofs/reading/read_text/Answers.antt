@@ -13,20 +13,20 @@ use Rattle.lra_readers.proofs.Ended.{lexed_end}
 use Rattle.lra_front.proofs.ReadSteps.{long_unread, unread_refused, refused_unread, exit_lexed, exit_parsed, has_constants, has_tree}
 use Rattle.lra_front.proofs.reading.read_text.Goals as goal
 
-pub slice_bounds-place_behind-end : goal.slice_bounds-place_behind-end
-slice_bounds-place_behind-end c = taken 65536 c.args.bytes.now c.if-bytes-gt-GREATEST_LENGTH.true
+pub slice_bounds-place_after-end : goal.slice_bounds-place_after-end
+slice_bounds-place_after-end c = taken 65536 c.args.bytes.now c.if-bytes-gt-GREATEST_LENGTH.true
 
-pub place_behind-place-requires : goal.place_behind-place-requires
-place_behind-place-requires c = let e = taken 65536 c.args.bytes.now c.if-bytes-gt-GREATEST_LENGTH.true in omega arith
+pub place_after-place-requires : goal.place_after-place-requires
+place_after-place-requires c = let e = taken 65536 c.args.bytes.now c.if-bytes-gt-GREATEST_LENGTH.true in omega arith
 
 pub returns-then-bytes-gt-GREATEST_LENGTH-clause-unread : goal.returns-then-bytes-gt-GREATEST_LENGTH-clause-unread
 returns-then-bytes-gt-GREATEST_LENGTH-clause-unread c =
-    subst (λ (p : Place). Unread Spells c.args.bytes.now TooLong p) (sym c.place_behind-place.ensures)
+    subst (λ (p : Place). Unread Spells c.args.bytes.now TooLong p) (sym c.place_after-place.ensures)
     (long_unread c.args.bytes.now 65536 refl c.if-bytes-gt-GREATEST_LENGTH.true)
 
 pub returns-then-bytes-gt-GREATEST_LENGTH-clause-refused : goal.returns-then-bytes-gt-GREATEST_LENGTH-clause-refused
 returns-then-bytes-gt-GREATEST_LENGTH-clause-refused c =
-    unread_refused c.args.bytes.now TooLong c.place_behind-place.result (returns-then-bytes-gt-GREATEST_LENGTH-clause-unread c)
+    unread_refused c.args.bytes.now TooLong c.place_after-place.result (returns-then-bytes-gt-GREATEST_LENGTH-clause-unread c)
 
 pub parse-requires : goal.parse-requires
 parse-requires c = record {

@@ -1,8 +1,8 @@
 -- Goals of `inline_items`: what is written out is the items, on the path as it was copied.
 use Rattle.std.proofs.Common.{◌≡◌, map}
-use Rattle.lra_program.specs.Sites.{live_behind}
+use Rattle.lra_program.specs.Sites.{live_after_items}
 use Rattle.lra_program.specs.ProgramViews.{item_view, items_of}
-use Rattle.lra_operations.specs.GraphViews.{node_view}
+use Rattle.lra_operations.specs.TreeViews.{node_view}
 use Rattle.lra_opening.specs.Inlining.{points_in, program_around, StopsItems, AreItems}
 use Rattle.lra_opening.specs.Open.{due, all_items, Stops, IsWritten}
 use Rattle.lra_opening.proofs.Stopping.{ok_through, limit_through}
@@ -13,7 +13,7 @@ returns-clause-last c =
     let here = c.args.around.now in
     let all = items_of (map item_view c.args.items.now) in
     let whole = due (all_items all) c.in_ok-path.path here.frame (points_in c.args.sites.now) in
-    ok_through c.write_out.result (λ w. IsWritten (program_around here) whole (node_view w.node) w.live (points_in c.write_out.new.sites)) (λ w. w.live ≡ live_behind here.frame.live all)
+    ok_through c.write_out.result (λ w. IsWritten (program_around here) whole (node_view w.node) w.live (points_in c.write_out.new.sites)) (λ w. w.live ≡ live_after_items here.frame.live all)
     (λ w h. h.1) (c.write_out.ensures.written whole c.in_ok-first.ensures.leads)
 
 pub returns-clause-written : goal.returns-clause-written

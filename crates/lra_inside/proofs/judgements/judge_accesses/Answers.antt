@@ -1,7 +1,7 @@
 -- Goals of `judge_accesses`: which accesses of a tree are inside.
 use Rattle.std.proofs.Common.{None}
-use Rattle.lra_operations.specs.Asked.{accessed_in}
-use Rattle.lra_operations.specs.GraphViews.{node_view}
+use Rattle.lra_operations.specs.CheckedOperations.{accessing_ops}
+use Rattle.lra_operations.specs.TreeViews.{node_view}
 use Rattle.lra_flow.specs.Accesses.{OpInside}
 use Rattle.lra_flow.specs.Operations.{dropping}
 use Rattle.lra_inside.proofs.ShownSteps.{finds_shown}
@@ -11,5 +11,5 @@ pub returns : goal.returns
 returns g c =
     let m = g.D.Domain.abstraction in
     finds_shown (dropping m) (λ op v js e. OpInside m (dropping m) op v js.items e) (OpInside m (dropping m)) (λ js. js.items) (λ op v js e told. told)
-    (accessed_in None (node_view c.args.tree.now)) c.args.values.now c.args.flagged c.in_ok-found.found.flagged c.in_ok-found.found.answers.items
+    (accessing_ops None (node_view c.args.tree.now)) c.args.values.now c.args.flagged c.in_ok-found.found.flagged c.in_ok-found.found.answers.items
     c.in_ok-found.ensures

@@ -1,6 +1,6 @@
 -- Goals of `catch_continues`: `continue` comes out here.
 use Rattle.std.proofs.Common.{ap, ◌∙◌}
-use Rattle.lra_operations.specs.Graph.{continued}
+use Rattle.lra_operations.specs.Tree.{continued}
 use Rattle.lra_flow.specs.Operations.{dropping}
 use Rattle.lra_flow.specs.Pass.{AreJoined, behind}
 use Rattle.lra_outcomes.specs.Outcome.{seen}

@@ -1,6 +1,6 @@
 -- Goals of `catch_returns`: `return` comes out here.
 use Rattle.std.proofs.Common.{rules, ◌≡◌, ◌++◌, ◌∷◌, [], ap, ◌∙◌}
-use Rattle.lra_operations.specs.Graph.{returned}
+use Rattle.lra_operations.specs.Tree.{returned}
 use Rattle.lra_flow.specs.Operations.{dropping}
 use Rattle.lra_flow.specs.Pass.{behind}
 use Rattle.lra_outcomes.specs.Outcome.{seen, AllHave}

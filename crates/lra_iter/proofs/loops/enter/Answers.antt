@@ -5,7 +5,7 @@ use Rattle.lra_program.specs.ProgramViews.{cond_view}
 use Rattle.lra_flow.specs.MovesOf.{guard}
 use Rattle.lra_flow.specs.Operations.{dropping}
 use Rattle.lra_flow.proofs.Takes.{takes_made}
-use Rattle.lra_operations.specs.GraphViews.{node_view}
+use Rattle.lra_operations.specs.TreeViews.{node_view}
 use Rattle.lra_outcomes.specs.Outcome.{EntersWith, IsEntered}
 use Rattle.lra_outcomes.proofs.Again.{entered_with, kept_inside}
 use Rattle.lra_iter.proofs.loops.enter.Goals as goal

@@ -1,7 +1,7 @@
 -- Goals of `turn_growing`: once round a loop whose head grows, from its value.
 use Rattle.std.proofs.Common.{refl, subst}
 use Rattle.lra_program.specs.ProgramViews.{cond_view}
-use Rattle.lra_operations.specs.GraphViews.{node_view}
+use Rattle.lra_operations.specs.TreeViews.{node_view}
 use Rattle.lra_outcomes.specs.declared.heads.Growing.{Growing}
 use Rattle.lra_places.specs.declared.places.GrowingPlace.{GrowingPlace}
 use Rattle.lra_outcomes.specs.declared.shapes.Loop.{Loop}

@@ -1,7 +1,7 @@
 -- Goals of `turn_narrowing`: once round a loop that is narrowed, from the value at its head.
 use Rattle.std.proofs.Common.{refl, subst}
 use Rattle.lra_program.specs.ProgramViews.{cond_view}
-use Rattle.lra_operations.specs.GraphViews.{node_view}
+use Rattle.lra_operations.specs.TreeViews.{node_view}
 use Rattle.lra_outcomes.specs.Outcome.{IsEntered}
 use Rattle.lra_iter.proofs.LoopPlaces.{waiting_few, waiting_kept, narrowing_again, narrowing_opens}
 use Rattle.lra_iter.proofs.BoxedPlaces.{narrowing_again_less, narrowing_leads, narrowing_less, narrowing_made}

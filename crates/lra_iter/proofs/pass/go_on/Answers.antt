@@ -2,7 +2,7 @@
 use Rattle.std.proofs.Common.{◌≡◌, ◌+◌, ◌<◌, ◌^◌, sym, subst, arith}
 use Rattle.std.specs.Prelude.{IfOk}
 use Rattle.std.proofs.lemmas.Result.{IfOk-weaker}
-use Rattle.lra_operations.specs.GraphViews.{exit_view}
+use Rattle.lra_operations.specs.TreeViews.{exit_view}
 use Rattle.lra_places.specs.declared.places.GrowingPlace.{GrowingPlace}
 use Rattle.lra_places.specs.declared.places.NarrowingPlace.{NarrowingPlace}
 use Rattle.lra_places.specs.Open.{IsBranch, IsGrowing, IsMade, IsNarrowing, IsOpen, IsSelect}

@@ -1,7 +1,7 @@
 -- Goals of `open_tree`: the first step into a tree.
 use Rattle.std.proofs.Common.{◌<◌, ◌≤◌, ◌^◌, refl, sym, subst, arith}
 use Rattle.std.specs.Prelude.{IfOk}
-use Rattle.lra_operations.specs.Graph.{aside}
+use Rattle.lra_operations.specs.Tree.{probe}
 use Rattle.lra_flow.specs.Plan.{Plan}
 use Rattle.lra_outcomes.specs.declared.shapes.Shape.{Shape}
 use Rattle.lra_outcomes.specs.declared.shapes.Shape.TheVariants.{Aside, Leaf, Row, Choice, Loop, Catch, Select}
@@ -65,7 +65,7 @@ returns-in-Aside-clause-leads g c =
     let set = c.args.plan.now in
     let tree = c.args.tree in
     let whole = due tree c.args.memory.now in
-    let here = aside c.in-Aside.point c.in-Aside.what in
+    let here = probe c.in-Aside.point c.in-Aside.what in
     let shape : IsShape set tree.node.now (Aside c.in-Aside.point c.in-Aside.what) =
     subst (λ (x : Shape). IsShape set tree.node.now x) c.in-Aside.is c.of.ensures in
     c.passed-in-Aside.ensures.leads c.args.others.now set whole c.args.memory.now (IfOk-weaker c.pass_aside.result

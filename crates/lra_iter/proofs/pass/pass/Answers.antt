@@ -1,6 +1,6 @@
 -- Goals of `pass`: the pass over a tree, step by step.
 use Rattle.std.proofs.Common.{◌^◌, subst}
-use Rattle.lra_operations.specs.GraphViews.{node_view}
+use Rattle.lra_operations.specs.TreeViews.{node_view}
 use Rattle.lra_places.specs.Open.{Due, Reaches}
 use Rattle.lra_places.specs.StepsLeft.{all_left, TakesFewer}
 use Rattle.lra_places.proofs.OpenPlaces.{begins}

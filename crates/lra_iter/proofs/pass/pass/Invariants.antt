@@ -1,5 +1,5 @@
 use Rattle.std.proofs.Common.{◌^◌}
-use Rattle.lra_operations.specs.GraphViews.{node_view}
+use Rattle.lra_operations.specs.TreeViews.{node_view}
 use Rattle.lra_places.specs.Open.{AreUnderWay}
 use Rattle.lra_places.specs.StepsLeft.{all_left}
 use Rattle.lra_iter.proofs.pass.pass.Given as goal

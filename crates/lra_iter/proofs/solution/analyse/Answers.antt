@@ -2,7 +2,7 @@
 use Rattle.std.proofs.Common.{List, map, sym, subst}
 use Rattle.lra_program.specs.declared.program.GlobalVariable.{GlobalVariable}
 use Rattle.lra_program.specs.WellFormed.{AreGoodGlobals}
-use Rattle.lra_operations.specs.GraphViews.{node_view, site_view}
+use Rattle.lra_operations.specs.TreeViews.{node_view, site_view}
 use Rattle.lra_flow.specs.Operations.{dropping}
 use Rattle.lra_flow.specs.Pass.{nothing_admitted}
 use Rattle.lra_flow.proofs.Unflagged.{derived_among_nobody}

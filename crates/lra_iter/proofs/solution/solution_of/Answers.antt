@@ -1,7 +1,7 @@
 -- Goals of `solution_of`: what a pass found, in the order of the points.
 use Rattle.std.proofs.Common.{map, length, refl, sym}
 use Rattle.std.proofs.lemmas.List.{length-map}
-use Rattle.lra_operations.specs.GraphViews.{site_view}
+use Rattle.lra_operations.specs.TreeViews.{site_view}
 use Rattle.lra_outcomes.specs.Outcome.{seen}
 use Rattle.lra_iter.proofs.Tabled.{apart, tables_solve, values_count, verdicts_count}
 use Rattle.lra_iter.proofs.solution.solution_of.Goals as goal

@@ -1,7 +1,7 @@
 -- Goals of `list`: the report of what an analysis found in a source, whose points are numbered from 0 here.
 use Rattle.std.proofs.Common.{List, map, ◌++◌, refl, subst}
 use Rattle.std.specs.List.{flat_map}
-use Rattle.lra_operations.specs.GraphViews.{site_view}
+use Rattle.lra_operations.specs.TreeViews.{site_view}
 use Rattle.lra_tree.specs.Views.{tree_view}
 use Rattle.lra_meaning.specs.Resolve.{resolve}
 use Rattle.lra_program.specs.Sites.{Site, sites_of}

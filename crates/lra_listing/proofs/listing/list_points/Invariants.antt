@@ -1,6 +1,6 @@
 -- So far the points of the first sites are there, with the first states.
 use Rattle.std.proofs.Common.{◌≡◌, length, map, take, vec_len, Vec, Global}
-use Rattle.lra_operations.specs.GraphViews.{site_view}
+use Rattle.lra_operations.specs.TreeViews.{site_view}
 use Rattle.lra_show.specs.Part.{Part}
 use Rattle.lra_report.specs.Listing.{AreListed}
 use Rattle.lra_report.specs.View.{point_report_of}

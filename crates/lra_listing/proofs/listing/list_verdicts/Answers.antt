@@ -1,7 +1,7 @@
 -- Goals of `list_verdicts`: all verdicts, as a report lists them.
 use Rattle.std.proofs.Common.{◌∙◌, map, ap, ◌++◌, append_assoc}
 use Rattle.std.specs.List.{flat_map}
-use Rattle.lra_operations.specs.GraphViews.{site_view}
+use Rattle.lra_operations.specs.TreeViews.{site_view}
 use Rattle.lra_report.specs.declared.verdict_kinds.VerdictKind.TheVariants.{Assertion, Fit}
 use Rattle.lra_report.specs.View.{verdict_of}
 use Rattle.lra_listing.specs.Given.{accesses_told, verdict_at}

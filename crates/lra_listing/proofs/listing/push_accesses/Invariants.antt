@@ -1,7 +1,7 @@
 -- So far those of the first points are added.
 use Rattle.std.proofs.Common.{◌≡◌, ◌++◌, map, take}
 use Rattle.std.specs.List.{flat_map}
-use Rattle.lra_operations.specs.GraphViews.{site_view}
+use Rattle.lra_operations.specs.TreeViews.{site_view}
 use Rattle.lra_report.specs.View.{verdict_of}
 use Rattle.lra_listing.specs.Given.{accesses_told}
 use Rattle.lra_listing.specs.Views.{told_view}

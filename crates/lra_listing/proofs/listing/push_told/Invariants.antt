@@ -1,6 +1,6 @@
 -- The verdicts so far and those on what is left are all.
 use Rattle.std.proofs.Common.{◌≡◌, ◌++◌, map, drop}
-use Rattle.lra_operations.specs.GraphViews.{site_view}
+use Rattle.lra_operations.specs.TreeViews.{site_view}
 use Rattle.lra_report.specs.View.{verdict_of}
 use Rattle.lra_listing.specs.Given.{access_verdicts}
 use Rattle.lra_listing.proofs.listing.push_told.Given as goal

@@ -2,7 +2,7 @@
 use Rattle.std.proofs.Common.{◌∙◌, ap, sym, arith}
 use Rattle.lra_operations.specs.Parts.{whole_arm_of}
 use Rattle.lra_opened.specs.declared.places.Next.TheVariants.{Gives}
-use Rattle.lra_operations.specs.declared.graph.Node.TheVariants as at
+use Rattle.lra_operations.specs.declared.tree.Node.TheVariants as at
 use Rattle.lra_opened.proofs.OpenPlaces.{arms_end, entry_falls, entry_stands, leads_on, stands, tree_fewer, tree_stands}
 use Rattle.lra_opened.proofs.trees.go_on_arms.Goals as goal
 

@@ -1,9 +1,9 @@
 -- Goals of `open_parts`: a tree with none in it is opened; of any other a place opens.
 use Rattle.std.proofs.Common.{◌∙◌, ap, sym, arith, refl}
-use Rattle.lra_operations.specs.declared.graph.Node.{Node}
-use Rattle.lra_operations.specs.declared.graph.Node.TheVariants as at
-use Rattle.lra_operations.specs.declared.graph.Parts.TheVariants as parts
-use Rattle.lra_operations.specs.GraphViews.{node_view}
+use Rattle.lra_operations.specs.declared.tree.Node.{Node}
+use Rattle.lra_operations.specs.declared.tree.Node.TheVariants as at
+use Rattle.lra_operations.specs.declared.tree.Parts.TheVariants as parts
+use Rattle.lra_operations.specs.TreeViews.{node_view}
 use Rattle.lra_operations.specs.Parts.{whole_of}
 use Rattle.lra_operations.specs.Sizes.{whole_size}
 use Rattle.lra_flow.specs.Opened.{opened}
@@ -17,10 +17,10 @@ pub returns-in-Empty : goal.returns-in-Empty
 returns-in-Empty c = leaf_leads c.args.globals c.args.places.now.items parts.Empty c.args.tree at.Empty
     (ap whole_of (sym c.in-Empty.is) ∙ c.into_parts.ensures) (view_of parts.Empty)
 
-pub returns-in-Aside : goal.returns-in-Aside
-returns-in-Aside c =
-    let p = parts.Aside c.in-Aside.point c.in-Aside.what in
-    leaf_leads c.args.globals c.args.places.now.items p c.args.tree (whole_of p) (ap whole_of (sym c.in-Aside.is) ∙ c.into_parts.ensures) (view_of p)
+pub returns-in-Probe : goal.returns-in-Probe
+returns-in-Probe c =
+    let p = parts.Aside c.in-Probe.point c.in-Probe.what in
+    leaf_leads c.args.globals c.args.places.now.items p c.args.tree (whole_of p) (ap whole_of (sym c.in-Probe.is) ∙ c.into_parts.ensures) (view_of p)
 
 pub returns-in-Check : goal.returns-in-Check
 returns-in-Check c =

@@ -1,6 +1,6 @@
 -- Goals of `open_tree`: what is next, in the places that are open, becomes the whole tree.
 use Rattle.std.proofs.Common.{◌∙◌, ap, subst}
-use Rattle.lra_operations.specs.GraphViews.{node_view}
+use Rattle.lra_operations.specs.TreeViews.{node_view}
 use Rattle.lra_flow.specs.Opened.{opened}
 use Rattle.lra_opened.specs.Opening.{all_around}
 use Rattle.lra_opened.specs.StepsLeft.{Reaches}

@@ -1,5 +1,5 @@
 use Rattle.std.proofs.Common.{◌≡◌, ◌+◌}
-use Rattle.lra_operations.specs.GraphViews.{node_view}
+use Rattle.lra_operations.specs.TreeViews.{node_view}
 use Rattle.lra_flow.specs.Opened.{opened}
 use Rattle.lra_opened.specs.Opening.{all_around, standing}
 use Rattle.lra_opened.specs.StepsLeft.{all_left, next_left}

@@ -1,6 +1,6 @@
 -- Goals of `open_array`: an array's declarator, at whose point the elements get any values.
 use Rattle.std.proofs.Common.{refl}
-use Rattle.lra_operations.specs.GraphViews.{node_view}
+use Rattle.lra_operations.specs.TreeViews.{node_view}
 use Rattle.lra_opening.specs.Inlining.{points_in, program_around}
 use Rattle.lra_opening.proofs.ItemRows.{filled_item, array_stops}
 use Rattle.lra_opening.proofs.OpenPlaces.{closed_ok}

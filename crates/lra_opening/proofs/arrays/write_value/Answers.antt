@@ -1,9 +1,9 @@
 -- Goals of `write_value`: an element gets a value which no call gives.
 use Rattle.std.proofs.Common.{refl, ap, ap₂, ◌∙◌}
-use Rattle.lra_program.specs.Step.{give_element}
-use Rattle.lra_operations.specs.Graph.{act}
+use Rattle.lra_program.specs.Step.{store_element}
+use Rattle.lra_operations.specs.Tree.{act}
 use Rattle.lra_program.specs.ProgramViews.{expr_view, element_view}
-use Rattle.lra_operations.specs.GraphViews.{node_view}
+use Rattle.lra_operations.specs.TreeViews.{node_view}
 use Rattle.lra_opening.specs.Inlining.{points_in, program_around}
 use Rattle.lra_opening.proofs.OpenPlaces.{closed_ok}
 use Rattle.lra_opening.proofs.Shown.{shown_act}
@@ -19,7 +19,7 @@ returns-clause-leads c =
       (
         write_written (program_around here) here.path.now here.frame (points_in c.args.sites.now) (points_in c.open_point.new.sites) q c.args.label
             (element_view c.args.element.now) (expr_view c.args.value.now) _ (node_view g) c.in_ok-point.ensures.number c.in_ok-point.ensures.walked
-            (shown_act q _ ∙ ap₂ (λ x e. act q (give_element here.frame.base x e)) c.in_ok-element.ensures c.in_ok-value.ensures) a,
+            (shown_act q _ ∙ ap₂ (λ x e. act q (store_element here.frame.base x e)) c.in_ok-element.ensures c.in_ok-value.ensures) a,
         refl,
       ),
       refl,

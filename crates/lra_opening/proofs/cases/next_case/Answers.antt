@@ -1,7 +1,7 @@
 -- Goals of `next_case`: past the labels, the next statement of a `switch`, or all of it.
 use Rattle.std.proofs.Common.{◌<◌, map, refl, ap, subst}
 use Rattle.lra_program.specs.ProgramViews.{expr_view, stmt_view, case_view, cases_of}
-use Rattle.lra_operations.specs.GraphViews.{arm_view}
+use Rattle.lra_operations.specs.TreeViews.{arm_view}
 use Rattle.lra_opening.specs.Open.{SwitchLoop, from_next}
 use Rattle.lra_opening.specs.Steps.{call_steps, next_left, cases_left}
 use Rattle.lra_opening.proofs.CaseRows.{passed_on, cases_end, case_next, none_steps, fewer_steps}

@@ -1,9 +1,9 @@
 -- Goals of `assumption_of`: an assumption.
 use Rattle.std.proofs.Common.{◌∙◌, ap, true}
 use Rattle.lra_program.specs.Step.{test}
-use Rattle.lra_operations.specs.Graph.{Node, seq, point, act}
+use Rattle.lra_operations.specs.Tree.{Node, seq, point, act}
 use Rattle.lra_opening.proofs.Shown.{shown_act}
-use Rattle.lra_operations.specs.GraphViews.{node_view}
+use Rattle.lra_operations.specs.TreeViews.{node_view}
 use Rattle.lra_opening.proofs.Stopping.{made_ok, made_limit}
 use Rattle.lra_opening.proofs.Writing.{assume_written}
 use Rattle.lra_opening.proofs.lone.assumption_of.Goals as goal

@@ -1,8 +1,8 @@
 -- Goals of `inline_assertion`: an assertion.
 use Rattle.std.proofs.Common.{◌∙◌, ap}
-use Rattle.lra_operations.specs.Graph.{Node, seq, point, check}
+use Rattle.lra_operations.specs.Tree.{Node, seq, point, check}
 use Rattle.lra_opening.proofs.Shown.{shown_check}
-use Rattle.lra_operations.specs.GraphViews.{node_view}
+use Rattle.lra_operations.specs.TreeViews.{node_view}
 use Rattle.lra_opening.proofs.Stopping.{made_ok, made_limit}
 use Rattle.lra_opening.proofs.Writing.{assert_written}
 use Rattle.lra_opening.proofs.lone.inline_assertion.Goals as goal

@@ -2,7 +2,7 @@
 use Rattle.std.proofs.Common.{ap, ◌∙◌, subst}
 use Rattle.lra_program.specs.Program.{nothing, break, continue, assert, assume}
 use Rattle.lra_program.specs.ProgramViews.{cond_view, stmt_view}
-use Rattle.lra_operations.specs.GraphViews.{node_view}
+use Rattle.lra_operations.specs.TreeViews.{node_view}
 use Rattle.lra_opening.specs.Building.{StmtStands}
 use Rattle.lra_opening.specs.Inlining.{points_in, program_around}
 use Rattle.lra_opening.proofs.Handed.{stmt_limit, break_handed, continue_handed, any_handed}

@@ -1,6 +1,6 @@
 -- Goals of `leave_loop`: out of a loop or a `switch`, or on to a loop's next round.
 use Rattle.std.proofs.Common.{sym, ◌∙◌}
-use Rattle.lra_operations.specs.GraphViews.{node_view}
+use Rattle.lra_operations.specs.TreeViews.{node_view}
 use Rattle.lra_opening.proofs.Stopping.{made_ok, made_limit}
 use Rattle.lra_opening.proofs.Writing.{leaves_written}
 use Rattle.lra_opening.proofs.lone.leave_loop.Goals as goal

@@ -1,9 +1,9 @@
 -- Goals of `open_assign`: an assignment, and what the variable gets.
 use Rattle.std.proofs.Common.{refl, ap, ◌∙◌}
-use Rattle.lra_program.specs.Step.{give}
-use Rattle.lra_operations.specs.Graph.{act}
+use Rattle.lra_program.specs.Step.{store_value}
+use Rattle.lra_operations.specs.Tree.{act}
 use Rattle.lra_program.specs.ProgramViews.{variable_view, expr_view, call_view}
-use Rattle.lra_operations.specs.GraphViews.{node_view}
+use Rattle.lra_operations.specs.TreeViews.{node_view}
 use Rattle.lra_opening.specs.Inlining.{points_in, program_around}
 use Rattle.lra_opening.proofs.FirstSteps.{value_assigned, assign_opens}
 use Rattle.lra_opening.proofs.OpenPlaces.{closed_ok}
@@ -19,7 +19,7 @@ returns-in_ok-value-in-Value-clause-leads c =
         value_assigned (program_around here) here.path.now here.frame (points_in c.args.sites.now) (points_in c.open_point.new.sites) c.args.label c.in_ok-point.point
             c.in_ok-point.ensures.number c.in_ok-point.ensures.walked (variable_view c.args.variable) (expr_view c.in-Value.value) c.store_index-place.result c.variable-receiver.result c.store_index-place.ensures
             c.variable-receiver.ensures _ (node_view g)
-            (shown_act c.in_ok-point.point _ ∙ ap (λ z. act c.in_ok-point.point (give here.frame.base c.variable-receiver.result z)) c.in_ok-value-in-Value.ensures) a,
+            (shown_act c.in_ok-point.point _ ∙ ap (λ z. act c.in_ok-point.point (store_value here.frame.base c.variable-receiver.result z)) c.in_ok-value-in-Value.ensures) a,
         refl,
       ),
       refl,

@@ -1,9 +1,9 @@
 -- Goals of `open_declaration`: a declarator, and what its variable gets.
 use Rattle.std.proofs.Common.{◌+◌, ap, refl, ◌∙◌, arith}
-use Rattle.lra_program.specs.Step.{give}
-use Rattle.lra_operations.specs.Graph.{act}
+use Rattle.lra_program.specs.Step.{store_value}
+use Rattle.lra_operations.specs.Tree.{act}
 use Rattle.lra_program.specs.ProgramViews.{given_view, expr_view, call_view, declarator_view}
-use Rattle.lra_operations.specs.GraphViews.{node_view}
+use Rattle.lra_operations.specs.TreeViews.{node_view}
 use Rattle.lra_opening.specs.Inlining.{points_in, program_around}
 use Rattle.lra_opening.proofs.FirstSteps.{fresh_declared, value_declared, declaration_opens}
 use Rattle.lra_opening.proofs.OpenPlaces.{closed_ok}
@@ -31,7 +31,7 @@ returns-in_ok-value-in-Some-Value-clause-leads c =
       value_declared (program_around here) here.path.now here.frame (points_in c.args.sites.now) d (points_in c.open_point.new.sites) c.in_ok-point.point (here.frame.live + 1)
           (expr_view c.in-Some-Value.value) c.variable-receiver.result _ (node_view g) c.variable-receiver.ensures c.in_ok-point.ensures.number
           c.in_ok-point.ensures.walked (omega arith) is
-          (shown_act c.in_ok-point.point _ ∙ ap (λ z. act c.in_ok-point.point (give here.frame.base c.variable-receiver.result z))
+          (shown_act c.in_ok-point.point _ ∙ ap (λ z. act c.in_ok-point.point (store_value here.frame.base c.variable-receiver.result z))
           c.in_ok-value-in-Some-Value.ensures) a,
       refl,
     ))

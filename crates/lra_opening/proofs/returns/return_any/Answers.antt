@@ -1,6 +1,6 @@
 -- Goals of `return_any`: a `return` without a value.
 use Rattle.std.proofs.Common.{refl}
-use Rattle.lra_operations.specs.GraphViews.{node_view}
+use Rattle.lra_operations.specs.TreeViews.{node_view}
 use Rattle.lra_opening.specs.Inlining.{points_in, program_around}
 use Rattle.lra_opening.proofs.OpenPlaces.{closed_ok}
 use Rattle.lra_opening.proofs.Writing.{any_returned}

@@ -1,7 +1,7 @@
 -- Goals of `return_value`: a `return` with a value that no call gives.
 use Rattle.std.proofs.Common.{refl}
 use Rattle.lra_program.specs.ProgramViews.{expr_view}
-use Rattle.lra_operations.specs.GraphViews.{node_view}
+use Rattle.lra_operations.specs.TreeViews.{node_view}
 use Rattle.lra_opening.specs.Inlining.{points_in, program_around}
 use Rattle.lra_opening.proofs.OpenPlaces.{closed_ok}
 use Rattle.lra_opening.proofs.Writing.{value_returned}

@@ -1,5 +1,5 @@
 use Rattle.std.proofs.Common.{◌≡◌, length, map}
-use Rattle.lra_operations.specs.GraphViews.{arm_view, arms_of}
+use Rattle.lra_operations.specs.TreeViews.{arm_view, arms_of}
 use Rattle.lra_operations.proofs.ArmViews.{default_in}
 use Rattle.lra_operations.proofs.arms.any_default.Given as goal
 

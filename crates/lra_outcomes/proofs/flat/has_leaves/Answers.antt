@@ -1,7 +1,7 @@
 -- Goals of `has_leaves`: one tree more has none in it.
 use Rattle.std.proofs.Common.{rules, ◌≡◌, ◌∷◌, List, true, sym, subst}
 use Rattle.std.proofs.lemmas.List.{nil_from_length}
-use Rattle.lra_operations.specs.declared.graph.Node.{Node}
+use Rattle.lra_operations.specs.declared.tree.Node.{Node}
 use Rattle.lra_outcomes.specs.Flat.{AllLeaves}
 use Rattle.lra_outcomes.proofs.flat.has_leaves.Goals as goal
 

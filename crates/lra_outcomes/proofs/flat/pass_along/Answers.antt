@@ -2,8 +2,8 @@
 use Rattle.std.proofs.Common.{rules, ◌≡◌, ◌∷◌, map, ap, ◌∙◌}
 use Rattle.std.proofs.lemmas.List.{nil_from_length}
 use Rattle.lra_interference.specs.Interference.{no_interference}
-use Rattle.lra_operations.specs.Graph.{seq}
-use Rattle.lra_operations.specs.GraphViews.{node_view, row}
+use Rattle.lra_operations.specs.Tree.{seq}
+use Rattle.lra_operations.specs.TreeViews.{node_view, row}
 use Rattle.lra_outcomes.specs.Shapes.{leaf_view}
 use Rattle.lra_outcomes.proofs.FlatRows.{first_leaf, flat_ends, flat_next}
 use Rattle.lra_outcomes.proofs.PassRows.{row_first, row_last}

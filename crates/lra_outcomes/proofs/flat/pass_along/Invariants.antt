@@ -1,6 +1,6 @@
 use Rattle.std.proofs.Common.{map, length}
 use Rattle.lra_interference.specs.Interference.{no_interference}
-use Rattle.lra_operations.specs.GraphViews.{node_view, row}
+use Rattle.lra_operations.specs.TreeViews.{node_view, row}
 use Rattle.lra_outcomes.specs.Flat.{AllLeaves}
 use Rattle.lra_outcomes.proofs.FlatRows.{FlatLoop}
 use Rattle.lra_outcomes.proofs.flat.pass_along.Given as goal

@@ -2,8 +2,8 @@
 use Rattle.std.proofs.Common.{[], map, sym}
 use Rattle.std.proofs.lemmas.List.{append-nil}
 use Rattle.lra_interference.specs.Interference.{no_interference}
-use Rattle.lra_operations.specs.Graph.{act}
-use Rattle.lra_operations.specs.GraphViews.{op_view}
+use Rattle.lra_operations.specs.Tree.{act}
+use Rattle.lra_operations.specs.TreeViews.{op_view}
 use Rattle.lra_flow.specs.Pass.{noted}
 use Rattle.lra_outcomes.specs.Outcome.{entry_view}
 use Rattle.lra_outcomes.proofs.LeafSteps.{flagged_so, goes_further}

@@ -7,7 +7,7 @@ use Rattle.lra_change.specs.Sides.{SplitsBy}
 use Rattle.lra_flow.specs.MovesOf.{guard}
 use Rattle.lra_flow.specs.Operations.{dropping}
 use Rattle.lra_flow.proofs.Takes.{takes_made}
-use Rattle.lra_operations.specs.Graph.{check}
+use Rattle.lra_operations.specs.Tree.{check}
 use Rattle.lra_flow.specs.Pass.{failing, noted}
 use Rattle.lra_outcomes.proofs.LeafSteps.{entry_more, flagged_so, flagged_twice, goes_further}
 use Rattle.lra_outcomes.proofs.leaves.pass_check.Goals as goal

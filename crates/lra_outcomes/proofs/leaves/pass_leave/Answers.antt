@@ -1,6 +1,6 @@
 -- Goals of `pass_leave`: a jump.
 use Rattle.lra_interference.specs.Interference.{no_interference}
-use Rattle.lra_operations.specs.GraphViews.{exit_view}
+use Rattle.lra_operations.specs.TreeViews.{exit_view}
 use Rattle.lra_outcomes.proofs.LeafSteps.{jumps_further}
 use Rattle.lra_outcomes.proofs.leaves.pass_leave.Goals as goal
 

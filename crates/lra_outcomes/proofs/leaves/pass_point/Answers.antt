@@ -2,7 +2,7 @@
 use Rattle.std.proofs.Common.{[], ◌∷◌, ap, refl}
 use Rattle.lra_interference.specs.Interference.{no_interference}
 use Rattle.lra_flow.specs.Pass.{value}
-use Rattle.lra_operations.specs.Graph.{point}
+use Rattle.lra_operations.specs.Tree.{point}
 use Rattle.lra_outcomes.proofs.LeafSteps.{entry_more, goes_further}
 use Rattle.lra_outcomes.proofs.leaves.pass_point.Goals as goal
 

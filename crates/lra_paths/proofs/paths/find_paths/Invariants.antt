@@ -1,5 +1,5 @@
 use Rattle.std.proofs.Common.{◌<◌, ℕ, map}
-use Rattle.lra_operations.specs.GraphViews.{node_view, site_view}
+use Rattle.lra_operations.specs.TreeViews.{node_view, site_view}
 use Rattle.lra_paths.specs.Paths.{AreFewFrom}
 use Rattle.lra_paths.proofs.paths.find_paths.Given as goal
 

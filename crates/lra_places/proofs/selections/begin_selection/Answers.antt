@@ -1,6 +1,6 @@
 -- Goals of `begin_selection`: what is seen of the value, and what no label matches.
 use Rattle.std.proofs.Common.{◌≡◌, ◌∙◌, ap, arith, map, refl}
-use Rattle.lra_operations.specs.GraphViews.{arm_view, arms_of}
+use Rattle.lra_operations.specs.TreeViews.{arm_view, arms_of}
 use Rattle.lra_program.specs.ProgramViews.{expr_view}
 use Rattle.lra_flow.specs.Seen.{seen_of}
 use Rattle.lra_places.specs.declared.places.Selecting.{Selecting}

@@ -1,6 +1,6 @@
 -- Goals of `go_on_selection`: what the tree of an arm gave comes behind what was found before it, and runs on.
 use Rattle.std.proofs.Common.{◌≤◌, map, sym, subst}
-use Rattle.lra_operations.specs.GraphViews.{arm_view, arms_of}
+use Rattle.lra_operations.specs.TreeViews.{arm_view, arms_of}
 use Rattle.lra_flow.specs.Plan.{Plan}
 use Rattle.lra_places.proofs.SelectPlaces.{arms_way, followed_on}
 use Rattle.lra_places.proofs.selections.go_on_selection.Goals as goal

@@ -1,5 +1,5 @@
 -- Goals of `leave_arm`: what is left of the value behind an arm, where no label matches.
-use Rattle.lra_operations.specs.Graph.{entries_of}
+use Rattle.lra_operations.specs.Tree.{entries_of}
 use Rattle.lra_places.proofs.SelectPlaces.{entry_left, tree_left}
 use Rattle.lra_places.proofs.selections.leave_arm.Goals as goal
 

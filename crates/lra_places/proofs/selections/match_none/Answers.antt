@@ -1,7 +1,7 @@
 -- Goals of `match_none`: what is left of a copy of the value where no label names what is seen.
 use Rattle.std.proofs.Common.{◌≤◌, ◌∙◌, ap, map, subst, sym}
-use Rattle.lra_operations.specs.Graph.{entries_of}
-use Rattle.lra_operations.specs.GraphViews.{arm_view, arms_of}
+use Rattle.lra_operations.specs.Tree.{entries_of}
+use Rattle.lra_operations.specs.TreeViews.{arm_view, arms_of}
 use Rattle.lra_flow.specs.Operations.{dropping}
 use Rattle.lra_flow.specs.Pass.{MatchesNone}
 use Rattle.lra_flow.specs.Room.{most_live}

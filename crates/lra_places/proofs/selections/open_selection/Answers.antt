@@ -1,6 +1,6 @@
 -- Goals of `open_selection`: first comes the value of no match, then the labels before the first tree.
 use Rattle.std.proofs.Common.{◌≤◌, map, refl, sym, subst}
-use Rattle.lra_operations.specs.GraphViews.{arm_view, arms_of}
+use Rattle.lra_operations.specs.TreeViews.{arm_view, arms_of}
 use Rattle.lra_flow.specs.Plan.{Plan}
 use Rattle.lra_flow.specs.Room.{most_live}
 use Rattle.lra_places.proofs.SelectPlaces.{arms_way}

@@ -2,7 +2,7 @@
 use Rattle.std.proofs.Common.{length, map, ap, arith}
 use Rattle.std.proofs.lemmas.List.{length-map}
 use Rattle.lra_tree.specs.Views.{tree_view}
-use Rattle.lra_operations.specs.GraphViews.{node_view, site_view}
+use Rattle.lra_operations.specs.TreeViews.{node_view, site_view}
 use Rattle.lra_report.specs.View.{point_report_of}
 use Rattle.lra_source.proofs.ReportSteps.{few_points}
 use Rattle.lra_retraced.proofs.Showing.{shows_points, states_listed}

@@ -2,7 +2,7 @@
 use Rattle.std.proofs.Common.{◌≡◌, map, length, ap, ◌∙◌, arith}
 use Rattle.std.proofs.lemmas.List.{length-map}
 use Rattle.lra_tree.specs.Views.{tree_view}
-use Rattle.lra_operations.specs.GraphViews.{node_view, site_view}
+use Rattle.lra_operations.specs.TreeViews.{node_view, site_view}
 use Rattle.lra_flow.specs.Plan.{plan_of}
 use Rattle.lra_report.specs.View.{report_of}
 use Rattle.lra_listing.specs.Views.{told_view}

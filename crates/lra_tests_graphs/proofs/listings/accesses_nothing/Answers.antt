@@ -1,7 +1,7 @@
 -- Goals of `accesses_nothing`.
 use Rattle.std.proofs.Common.{◌≡◌, ◌∙◌, length, map, ap, arith}
 use Rattle.std.proofs.lemmas.Grind.{common_steps}
-use Rattle.lra_operations.specs.GraphViews.{node_view}
+use Rattle.lra_operations.specs.TreeViews.{node_view}
 use Rattle.lra_doings.specs.Doings.{done_view}
 use Rattle.lra_tests_graphs.proofs.Silent.{silent_more, silent_tree, none_listed}
 use Rattle.lra_tests_graphs.proofs.listings.accesses_nothing.Goals as goal

@@ -1,5 +1,5 @@
 -- Goals of `report_of`.
-use Rattle.lra_operations.specs.GraphViews.{site_view}
+use Rattle.lra_operations.specs.TreeViews.{site_view}
 use Rattle.std.proofs.Common.{map}
 use Rattle.lra_tests_graphs.proofs.Silent.{none_inside}
 use Rattle.lra_tests_graphs.proofs.listings.report_of.Goals as goal

@@ -1,7 +1,7 @@
 -- Goals of `writes_report`.
 use Rattle.lra_tree.specs.Views.{tree_view}
 use Rattle.lra_program.specs.ProgramViews.{program_view}
-use Rattle.lra_operations.specs.GraphViews.{node_view}
+use Rattle.lra_operations.specs.TreeViews.{node_view}
 use Rattle.lra_tests_graphs.proofs.Given.{graph_there, sites_there}
 use Rattle.lra_tests_graphs.proofs.Silent.{silent_trees}
 use Rattle.lra_tests_graphs.proofs.listings.writes_report.Goals as goal

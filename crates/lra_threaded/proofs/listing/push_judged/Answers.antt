@@ -3,8 +3,8 @@ use Rattle.std.proofs.Common.{◌≡◌, ◌∙◌, ◌++◌, ℕ, suc, length, 
 use Rattle.std.specs.List.{AllByRecursion}
 use Rattle.std.proofs.lemmas.Option.{slice_get_read}
 use Rattle.lra_tree.specs.Views.{tree_view}
-use Rattle.lra_operations.specs.GraphViews.{site_view}
-use Rattle.lra_operations.specs.declared.graph.Graph.{Graph}
+use Rattle.lra_operations.specs.TreeViews.{site_view}
+use Rattle.lra_operations.specs.declared.tree.InlinedProgram.{InlinedProgram}
 use Rattle.lra_report.specs.Report as report
 use Rattle.lra_report.specs.View.{verdict_of}
 use Rattle.lra_threaded.specs.Listed.{points_before, verdict_in_thread}
@@ -33,7 +33,8 @@ returns c =
     let graph = c.index-outline-k.result in
     let there = slice_get_read graphs (length graphs) c.args.k graph refl c.requires.there c.index-outline-k.is in
     let same = c.in_ok-verdicts.ensures ∙ verdicts_alone t graphs c.requires.graphs c.args.k graph there _ (map site_view c.as_slice-sites.result.now)
-    c.args.judged.now c.requires.labels (ap (map site_view) (c.as_slice-sites.ensures.value ∙ ap (λ (g : Graph). g.sites.items) (sym c.index-outline-k.is))) in
+    c.args.judged.now c.requires.labels
+    (ap (map site_view) (c.as_slice-sites.ensures.value ∙ ap (λ (g : InlinedProgram). g.sites.items) (sym c.index-outline-k.is))) in
     let told = map verdict_of c.in_ok-verdicts.verdicts.items in
     let old = map verdict_of c.args.listed.now.items in
     let new = map verdict_of c.push_verdicts.new.listed.items in

@@ -3,8 +3,8 @@ use Rattle.std.proofs.Common.{◌∙◌, length, map, refl, sym, ap, arith}
 use Rattle.std.proofs.lemmas.List.{length-map}
 use Rattle.std.proofs.lemmas.Option.{slice_get_read}
 use Rattle.lra_tree.specs.Views.{tree_view}
-use Rattle.lra_operations.specs.GraphViews.{site_view}
-use Rattle.lra_operations.specs.declared.graph.Graph.{Graph}
+use Rattle.lra_operations.specs.TreeViews.{site_view}
+use Rattle.lra_operations.specs.declared.tree.InlinedProgram.{InlinedProgram}
 use Rattle.lra_report.specs.Report as report
 use Rattle.lra_report.specs.View.{point_report_of}
 use Rattle.lra_threads.specs.Found.{sites_in, values_of}
@@ -20,7 +20,7 @@ list_points-requires-clause-states c =
     let graph = c.index-outline-k.result in
     let there = slice_get_read graphs (length graphs) c.args.k graph refl c.requires.there c.index-outline-k.is in
     let of = c.requires.found graph there in
-    rw (c.as_slice-sites.ensures.value ∙ ap (λ (g : Graph). g.sites.items) (sym c.index-outline-k.is)) (states_listed (sites_in graph) (values_of c.args.found.now) (map (λ x. x.items) c.in_ok-states.states.items) of.wide of.points
+    rw (c.as_slice-sites.ensures.value ∙ ap (λ (g : InlinedProgram). g.sites.items) (sym c.index-outline-k.is)) (states_listed (sites_in graph) (values_of c.args.found.now) (map (λ x. x.items) c.in_ok-states.states.items) of.wide of.points
     (rw c.deref.ensures.value at c.in_ok-states.ensures.told) (rw c.deref.ensures.value at c.in_ok-states.ensures.shown))
 
 pub push_points-requires : goal.push_points-requires
@@ -29,7 +29,7 @@ push_points-requires c =
     let graph = c.index-outline-k.result in
     let there = slice_get_read graphs (length graphs) c.args.k graph refl c.requires.there c.index-outline-k.is in
     let sites = map site_view c.as_slice-sites.result.now in
-    let many = length-map c.as_slice-sites.result.now site_view ∙ ap length (c.as_slice-sites.ensures.value ∙ ap (λ (g : Graph). g.sites.items) (sym c.index-outline-k.is)) in
+    let many = length-map c.as_slice-sites.result.now site_view ∙ ap length (c.as_slice-sites.ensures.value ∙ ap (λ (g : InlinedProgram). g.sites.items) (sym c.index-outline-k.is)) in
     let few = room (tree_view c.args.outline.now.tree.now) graphs c.requires.graphs c.args.k graph there c.turn_of.result.before (length sites)
     c.turn_of.ensures.before many in
     all_viewed (λ (p : report.PointReport). CanFollow c.turn_of.result.before p.number p.path) point_report_of c.in_ok-points.points.items
@@ -43,7 +43,7 @@ returns c =
     let there = slice_get_read graphs (length graphs) c.args.k graph refl c.requires.there c.index-outline-k.is in
     let points = map point_report_of c.in_ok-points.points.items in
     let alone = listed_alone t graphs c.requires.graphs c.args.k graph there c.args.found.now _ _ (map site_view c.as_slice-sites.result.now) points _
-    c.requires.globals c.requires.labels (ap (map site_view) (c.as_slice-sites.ensures.value ∙ ap (λ (g : Graph). g.sites.items) (sym c.index-outline-k.is))) c.in_ok-points.ensures.listed c.in_ok-points.ensures.states
+    c.requires.globals c.requires.labels (ap (map site_view) (c.as_slice-sites.ensures.value ∙ ap (λ (g : InlinedProgram). g.sites.items) (sym c.index-outline-k.is))) c.in_ok-points.ensures.listed c.in_ok-points.ensures.states
     (rw c.deref.ensures.value at c.in_ok-states.ensures.shown) (rw c.deref.ensures.value at c.in_ok-states.ensures.told) in
     if_ok _ _ (λ x all. (
       points,

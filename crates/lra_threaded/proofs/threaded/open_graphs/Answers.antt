@@ -2,12 +2,12 @@
 use Rattle.std.proofs.Common.{◌++◌, ◌∷◌, [], List, sym, subst}
 use Rattle.std.specs.List.{AllZip}
 use Rattle.std.proofs.lemmas.List.Elements.{AllZip-push}
-use Rattle.lra_operations.specs.declared.graph.Graph.{Graph}
+use Rattle.lra_operations.specs.declared.tree.InlinedProgram.{InlinedProgram}
 use Rattle.lra_threaded.specs.Stages.{IsOpened}
 use Rattle.lra_threaded.proofs.threaded.open_graphs.Goals as goal
 
 pub graphs-preserved : goal.graphs-preserved
 graphs-preserved c =
-    subst (λ (hs : List Graph). AllZip (IsOpened c.args.globals) (c.graphs.yielded ++ c.in-Some.graph ∷ []) hs) (sym c.in_ok-push.ensures.items)
+    subst (λ (hs : List InlinedProgram). AllZip (IsOpened c.args.globals) (c.graphs.yielded ++ c.in-Some.graph ∷ []) hs) (sym c.in_ok-push.ensures.items)
     (AllZip-push (IsOpened c.args.globals) c.graphs.yielded c.graphs.opened.items c.in-Some.graph c.in_ok-opened_graph.field-0 c.graphs.invariant
     (c.in_ok-opened_graph.ensures.tree, c.in_ok-opened_graph.ensures.sites))

@@ -3,7 +3,7 @@ use Rattle.std.proofs.Common.{◌≡◌, ℕ, List, length, sym, subst}
 use Rattle.std.specs.List.{AllZip}
 use Rattle.lra_tree.specs.Views.{tree_view}
 use Rattle.lra_program.specs.declared.program.GlobalVariable.{GlobalVariable}
-use Rattle.lra_operations.specs.declared.graph.Graph.{Graph}
+use Rattle.lra_operations.specs.declared.tree.InlinedProgram.{InlinedProgram}
 use Rattle.lra_threads_front.specs.declared.front.ThreadsFront.{ThreadsFront}
 use Rattle.lra_rounds.specs.Found.{settled_view}
 use Rattle.lra_threaded.specs.Stages.{AreThreadsOpened, IsOpened, IsReadOf}
@@ -18,10 +18,10 @@ is_read source front other o = subst (IsReadOf source) o.rest
 
 -- the graphs, as they are handed on
 are_opened : (front other : ThreadsFront) → AreThreadsOpened front other → (globals : List GlobalVariable) → globals ≡ other.resolution.program.globals.items
-    → (graphs : List Graph) → graphs ≡ other.graphs.items → AllZip (IsOpened (length globals)) front.graphs.items graphs
+    → (graphs : List InlinedProgram) → graphs ≡ other.graphs.items → AllZip (IsOpened (length globals)) front.graphs.items graphs
 are_opened front other o globals same graphs also =
     subst (λ (gs : List GlobalVariable). AllZip (IsOpened (length gs)) front.graphs.items graphs) (sym same)
-    (subst (λ (hs : List Graph). AllZip (IsOpened (length other.resolution.program.globals.items)) front.graphs.items hs) (sym also) o.graphs)
+    (subst (λ (hs : List InlinedProgram). AllZip (IsOpened (length other.resolution.program.globals.items)) front.graphs.items hs) (sym also) o.graphs)
 
 pub analyse_threads-requires : goal.analyse_threads-requires
 analyse_threads-requires c =

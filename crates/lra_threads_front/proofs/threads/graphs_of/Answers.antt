@@ -8,7 +8,7 @@ use Rattle.lra_tree.specs.Labels.{labels_of}
 use Rattle.lra_program.specs.Program.{Program}
 use Rattle.lra_program.specs.Sites.{events_of, sites_of}
 use Rattle.lra_program.specs.WellFormed.{IsWellFormed}
-use Rattle.lra_operations.specs.GraphViews.{site_view}
+use Rattle.lra_operations.specs.TreeViews.{site_view}
 use Rattle.lra_meaning.specs.LabelTable.{Listed}
 use Rattle.lra_meaning.specs.Refuse.{limit_fault}
 use Rattle.lra_meaning.specs.Threads.{thread_program}

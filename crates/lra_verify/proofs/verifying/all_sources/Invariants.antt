@@ -1,7 +1,7 @@
 use Rattle.std.proofs.Common.{◌≡◌, ◌≤◌, ◌<◌, ◌+◌, ℕ, length, map, slice_get}
 use Rattle.std.specs.List.{All}
-use Rattle.lra_operations.specs.Graph.{Node}
-use Rattle.lra_operations.specs.GraphViews.{site_view}
+use Rattle.lra_operations.specs.Tree.{Node}
+use Rattle.lra_operations.specs.TreeViews.{site_view}
 use Rattle.lra_paths.specs.Paths.{leading_in}
 use Rattle.lra_ways.specs.Stretches.{AreWays}
 use Rattle.lra_ways.specs.StretchViews.{seen}

@@ -1,8 +1,8 @@
 -- Goals of `judge`: the paths of a program, and the lines behind its source.
 use Rattle.std.proofs.Common.{List, Err, map, ap, sym, ◌∙◌}
 use Rattle.lra_program.specs.ProgramViews.{program_view}
-use Rattle.lra_operations.specs.declared.graph.Site.{Site}
-use Rattle.lra_operations.specs.GraphViews.{node_view, site_view}
+use Rattle.lra_operations.specs.declared.tree.Site.{Site}
+use Rattle.lra_operations.specs.TreeViews.{node_view, site_view}
 use Rattle.lra_verify.proofs.VerifySteps.{sources_ready, lead_ready, few_ready, many_ready}
 use Rattle.lra_verify.proofs.Deserved.{lines_answer}
 use Rattle.lra_verify.proofs.verifying.judge.Goals as goal

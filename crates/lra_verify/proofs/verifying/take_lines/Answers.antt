@@ -2,7 +2,7 @@
 use Rattle.std.proofs.Common.{◌≡◌, List, Option, Ok, map, sym, subst}
 use Rattle.lra_linear_spec.specs.declared.ConKind.{ConKind}
 use Rattle.lra_systems.specs.LinearSystems.{LinearSystem}
-use Rattle.lra_operations.specs.GraphViews.{site_view}
+use Rattle.lra_operations.specs.TreeViews.{site_view}
 use Rattle.lra_certificate.specs.Judged.{judged, judged_states}
 use Rattle.lra_certificate.specs.Lines.{left_at}
 use Rattle.lra_verify.specs.PointViews.{state_view}

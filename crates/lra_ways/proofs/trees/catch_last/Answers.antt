@@ -1,5 +1,5 @@
 -- The goal of `catch_last`: jumps come out behind the last.
-use Rattle.lra_operations.specs.GraphViews.{exit_view}
+use Rattle.lra_operations.specs.TreeViews.{exit_view}
 use Rattle.lra_ways.specs.Tasks.{stack}
 use Rattle.lra_ways.specs.Stretches.{caught}
 use Rattle.lra_ways.specs.StretchViews.{seen}

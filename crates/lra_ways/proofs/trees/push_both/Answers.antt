@@ -1,5 +1,5 @@
 -- The goal of `push_both`: the tree, and then this, are due.
-use Rattle.lra_operations.specs.GraphViews.{node_view}
+use Rattle.lra_operations.specs.TreeViews.{node_view}
 use Rattle.lra_ways.specs.Tasks.{effect}
 use Rattle.lra_ways.specs.Stretches.{stretches}
 use Rattle.lra_ways.proofs.TaskSteps.{both_run}

@@ -4,8 +4,8 @@ use Rattle.lra_ways.proofs.trees.put_leaf.Goals as goal
 
 pub unreachable-requires : goal.unreachable-requires
 unreachable-requires c =
-    no_leaf c.args.node.now c.requires c.in_default.not-Empty c.in_default.not-Point c.in_default.not-Aside c.in_default.not-Act c.in_default.not-Check c.in_default.not-Leave
+    no_leaf c.args.node.now c.requires c.in_default.not-Empty c.in_default.not-Point c.in_default.not-Probe c.in_default.not-Act c.in_default.not-Check c.in_default.not-Leave
 
 pub unreachable-unreachable : goal.unreachable-unreachable
 unreachable-unreachable c =
-    no_leaf c.args.node.now c.requires c.in_default.not-Empty c.in_default.not-Point c.in_default.not-Aside c.in_default.not-Act c.in_default.not-Check c.in_default.not-Leave
+    no_leaf c.args.node.now c.requires c.in_default.not-Empty c.in_default.not-Point c.in_default.not-Probe c.in_default.not-Act c.in_default.not-Check c.in_default.not-Leave

@@ -1,6 +1,6 @@
 -- Goals of `ways_of`: the ways of a tree, along a list of what is due.
 use Rattle.std.proofs.Common.{◌∙◌, refl, sym}
-use Rattle.lra_operations.specs.GraphViews.{node_view}
+use Rattle.lra_operations.specs.TreeViews.{node_view}
 use Rattle.lra_ways.specs.Tasks.{stack}
 use Rattle.lra_ways.specs.Stretches.{stretches}
 use Rattle.lra_ways.proofs.TaskSteps.{run_first, run_last, step_falls, step_runs, ways_made}

@@ -1,5 +1,5 @@
 use Rattle.std.proofs.Common.{◌≡◌, [], ◌∷◌}
-use Rattle.lra_operations.specs.GraphViews.{node_view}
+use Rattle.lra_operations.specs.TreeViews.{node_view}
 use Rattle.lra_ways.specs.Tasks.{all_left, run, stack}
 use Rattle.lra_ways.specs.Stretches.{stretches}
 use Rattle.lra_ways.proofs.trees.ways_of.Given as goal

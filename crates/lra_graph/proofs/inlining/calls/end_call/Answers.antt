@@ -3,7 +3,7 @@ use Rattle.std.proofs.Common.{◌∷◌, [], ◌≡◌}
 use Rattle.lra_program.specs.Sites.{plain_site}
 use Rattle.lra_program.specs.Step.{push, push_for}
 use Rattle.lra_program.specs.ProgramViews.{element_view, call_view, function_view}
-use Rattle.lra_operations.specs.GraphViews.{node_view}
+use Rattle.lra_operations.specs.TreeViews.{node_view}
 use Rattle.lra_opening.specs.Limits.{walk, stopped}
 use Rattle.lra_opening.specs.Inlining.{points_in, program_around, StopsBehind}
 use Rattle.lra_opening.proofs.Stopping.{err_stopped, made_ok, made_limit}
@@ -40,7 +40,7 @@ returns-in-None-clause-written c =
     (points_in c.add_point.new.sites) c.args.caller.point c.in_ok-end.end
     (push here.frame.base) (node_view g)
     (called_fits here.program.now here.frame c.args.call.now c.requires.stands fn c.callee-function.ensures)
-    c.in_ok-end.ensures.number c.in_ok-end.ensures.walked (rw (c.deref.ensures.value, c.deref-in-None.ensures.value, c.behind_result.ensures) at a)))
+    c.in_ok-end.ensures.number c.in_ok-end.ensures.walked (rw (c.deref.ensures.value, c.deref-in-None.ensures.value, c.result_receiver.ensures) at a)))
 
 pub returns-in-None-clause-limit : goal.returns-in-None-clause-limit
 returns-in-None-clause-limit c = made_limit c.finish.result _ c.finish.ensures.memory
@@ -56,7 +56,8 @@ returns-in-Some-clause-written c =
     (points_in c.add_point.new.sites) c.args.caller.point c.in_ok-end.end
     (push_for here.frame.base (element_view c.in-Some.element.now)) (node_view g)
     (called_fits here.program.now here.frame c.args.call.now c.requires.stands fn c.callee-function.ensures)
-    c.in_ok-end.ensures.number c.in_ok-end.ensures.walked (rw (c.deref-in-Some.ensures.value, c.deref-in-Some-2.ensures.value, c.behind_result.ensures) at a)))
+    c.in_ok-end.ensures.number c.in_ok-end.ensures.walked
+    (rw (c.deref-in-Some.ensures.value, c.deref-in-Some-2.ensures.value, c.result_receiver.ensures) at a)))
 
 pub returns-in-Some-clause-limit : goal.returns-in-Some-clause-limit
 returns-in-Some-clause-limit c = made_limit c.finish-in-Some.result _ c.finish-in-Some.ensures.memory

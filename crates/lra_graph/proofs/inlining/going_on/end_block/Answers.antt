@@ -1,7 +1,7 @@
 -- Goals of `end_block`: the point of a block's end.
 use Rattle.std.proofs.Common.{[], ◌∷◌, ◌≡◌}
 use Rattle.lra_program.specs.Sites.{plain_site}
-use Rattle.lra_operations.specs.GraphViews.{node_view}
+use Rattle.lra_operations.specs.TreeViews.{node_view}
 use Rattle.lra_opening.specs.Limits.{walk, stopped}
 use Rattle.lra_opening.specs.Inlining.{points_in}
 use Rattle.lra_opening.specs.Open.{Stops}

@@ -1,7 +1,7 @@
 -- Goals of `end_callee`: the call behind its callee's body, on the caller's path.
 use Rattle.std.proofs.Common.{◌∷◌, ap, sym, ◌∙◌}
 use Rattle.lra_program.specs.ProgramViews.{program_view}
-use Rattle.lra_operations.specs.GraphViews.{node_view}
+use Rattle.lra_operations.specs.TreeViews.{node_view}
 use Rattle.lra_opening.specs.Inlining.{points_in}
 use Rattle.lra_opening.specs.Open.{Stops}
 use Rattle.lra_opening.proofs.OpenPlaces.{callee_few, callee_stands, callee_within, callee_closes, callee_stops}

@@ -1,9 +1,9 @@
 -- Goals of `go_on`: whichever place it is.
 use Rattle.std.proofs.Common.{◌∙◌}
-use Rattle.lra_program.specs.Step.{keep}
+use Rattle.lra_program.specs.Step.{truncate_to}
 use Rattle.lra_program.specs.ProgramViews.{program_view}
-use Rattle.lra_operations.specs.Graph.{point, act, seq}
-use Rattle.lra_operations.specs.GraphViews.{node_view}
+use Rattle.lra_operations.specs.Tree.{point, act, seq}
+use Rattle.lra_operations.specs.TreeViews.{node_view}
 use Rattle.lra_opening.specs.declared.frame.Frame.{Frame}
 use Rattle.lra_opening.specs.Building.{call_left}
 use Rattle.lra_opening.specs.Inlining.{points_in}
@@ -77,7 +77,7 @@ returns-in-Around-clause-leads c = λ whole under b.
     let k = opened P whole under f _ _ c.in-Around.is b.0 in
     closed_ok P c.close.result _ _ c.enclose_for-all.result f.live c.close.ensures.written c.enclose_for-all.ensures
     (λ g a. closed P whole under f c.args.path.now c.args.part.live (points_in c.args.sites.now)
-    (λ (r : Frame) h. seq (node_view c.in-Around.init) (seq h (act c.in-Around.point (keep r.live))))
+    (λ (r : Frame) h. seq (node_view c.in-Around.init) (seq h (act c.in-Around.point (truncate_to r.live))))
     (λ (r : Frame). r.live) (node_view c.args.part.node) g k.frame k.path b.2 k.continues b.1 a)
 
 pub returns-in-Given-clause-leads : goal.returns-in-Given-clause-leads

@@ -1,8 +1,8 @@
 -- Goals of `go_on_forked`: behind a part of a choice or a loop.
 use Rattle.lra_program.specs.ProgramViews.{cond_view}
-use Rattle.lra_operations.specs.Graph.{point, seq, choose}
+use Rattle.lra_operations.specs.Tree.{point, seq, choose}
 use Rattle.lra_operations.specs.Inlined.{loop_node}
-use Rattle.lra_operations.specs.GraphViews.{node_view}
+use Rattle.lra_operations.specs.TreeViews.{node_view}
 use Rattle.lra_opening.specs.declared.frame.Frame.{Frame}
 use Rattle.lra_opening.proofs.OpenPlaces.{forked_seen, false_next, body_next, closed, closed_ok}
 use Rattle.lra_graph.proofs.inlining.going_on.go_on_forked.Goals as goal

@@ -12,8 +12,9 @@ pub returns-clause-leads : goal.returns-clause-leads
 returns-clause-leads c =
     let items = items_of (map item_view c.deref.result.now) in
     let is = callee_is c.args.source.program.now c.args.frame c.args.call.now c.requires.stands c.callee-function.result.now c.callee-function.ensures c.args.path.now c.args.caller.receiver
-    c.behind_result-receiver.result c.replace-callers.new.dest c.in_ok-inside.within c.deref.result.now c.in_ok-inside.ensures.some_left (c.replace-callers.ensures.after ∙ c.in_ok-inside.ensures.path)
-    c.behind_result-receiver.ensures c.in_ok-inside.ensures.frame c.deref.ensures.value in
+    c.result_receiver-receiver.result c.replace-callers.new.dest c.in_ok-inside.within c.deref.result.now c.in_ok-inside.ensures.some_left
+    (c.replace-callers.ensures.after ∙ c.in_ok-inside.ensures.path)
+    c.result_receiver-receiver.ensures c.in_ok-inside.ensures.frame c.deref.ensures.value in
     λ S. body_opens (program_view c.args.source.program.now) c.args.path.now c.args.frame S c.replace-callers.new.dest c.in_ok-inside.within items
     (record { path = c.replace-callers.result; caller = c.args.caller; call = c.args.call }) is c.replace-callers.ensures.value c.requires.well c.requires.stands c.requires.few
 
@@ -21,6 +22,7 @@ pub returns-clause-falls : goal.returns-clause-falls
 returns-clause-falls c =
     let items = items_of (map item_view c.deref.result.now) in
     let is = callee_is c.args.source.program.now c.args.frame c.args.call.now c.requires.stands c.callee-function.result.now c.callee-function.ensures c.args.path.now c.args.caller.receiver
-    c.behind_result-receiver.result c.replace-callers.new.dest c.in_ok-inside.within c.deref.result.now c.in_ok-inside.ensures.some_left (c.replace-callers.ensures.after ∙ c.in_ok-inside.ensures.path)
-    c.behind_result-receiver.ensures c.in_ok-inside.ensures.frame c.deref.ensures.value in
+    c.result_receiver-receiver.result c.replace-callers.new.dest c.in_ok-inside.within c.deref.result.now c.in_ok-inside.ensures.some_left
+    (c.replace-callers.ensures.after ∙ c.in_ok-inside.ensures.path)
+    c.result_receiver-receiver.ensures c.in_ok-inside.ensures.frame c.deref.ensures.value in
     callee_falls (program_view c.args.source.program.now) c.args.path.now c.args.frame c.args.caller.receiver (call_view c.args.call.now) c.replace-callers.new.dest c.in_ok-inside.within items is

@@ -4,7 +4,7 @@ use Rattle.lra_tree.specs.Labels.{Labelled}
 use Rattle.lra_meaning.specs.Refuse.{limit_fault}
 use Rattle.lra_program.specs.Sites.{events_of}
 use Rattle.lra_program.specs.ProgramViews.{program_view}
-use Rattle.lra_operations.specs.GraphViews.{node_view, site_view}
+use Rattle.lra_operations.specs.TreeViews.{node_view, site_view}
 use Rattle.lra_agreement.proofs.Agreement.{graphs_agree}
 use Rattle.lra_agreement.proofs.Asked.{graphs_access_well}
 use Rattle.lra_agreement.proofs.DistinctSites.{distinct_sites}

@@ -5,8 +5,8 @@ use Rattle.lra_tree.specs.Labels.{Labelled}
 use Rattle.lra_meaning.specs.Refuse.{limit_fault}
 use Rattle.lra_program.specs.Sites.{events_of, sites_of}
 use Rattle.lra_program.specs.ProgramViews.{program_view}
-use Rattle.lra_operations.specs.Agree.{IsGraph}
-use Rattle.lra_operations.specs.GraphViews.{node_view, site_view}
+use Rattle.lra_operations.specs.Agree.{IsInlinedTree}
+use Rattle.lra_operations.specs.TreeViews.{node_view, site_view}
 use Rattle.lra_opening.specs.Limits.{walk, stopped, refusal_of}
 use Rattle.lra_opening.proofs.Stopping.{err_stopped, ok_through, limit_through}
 use Rattle.lra_graph.proofs.Totals.{walk_sites, made_within, made_refused, fewer_within}
@@ -25,14 +25,14 @@ returns-clause-behind c =
     let P = program_view c.args.program.now in
     let S = map site_view c.args.before.now.items in
     let U = map site_view c.write_program.new.sites.items in
-    ok_through c.build.result (λ g. IsGraph P (node_view g.tree)) (λ _. U ≡ S ++ sites_of P)
+    ok_through c.build.result (λ g. IsInlinedTree P (node_view g.tree)) (λ _. U ≡ S ++ sites_of P)
     (λ g h. walk_sites S (events_of P) U c.in_ok-write_program.ensures.walked) c.build.ensures.graph
 
 pub returns-clause-within : goal.returns-clause-within
 returns-clause-within c =
     let P = program_view c.args.program.now in
     let S = map site_view c.args.before.now.items in
-    ok_through c.build.result (λ g. IsGraph P (node_view g.tree)) (λ _. (ls : List Labelled) → limit_fault ls (length S) (events_of P) ≡ None)
+    ok_through c.build.result (λ g. IsInlinedTree P (node_view g.tree)) (λ _. (ls : List Labelled) → limit_fault ls (length S) (events_of P) ≡ None)
     (λ g h. made_within P S (map site_view c.write_program.new.sites.items) c.in_ok-write_program.ensures.walked) c.build.ensures.graph
 
 -- alone it passes no limit that it doesn't pass behind others

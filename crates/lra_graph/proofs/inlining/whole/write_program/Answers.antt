@@ -1,10 +1,10 @@
 -- Goals of `write_program`: the items of `main` and the point of its end are the whole program's.
 use Rattle.std.proofs.Common.{◌≡◌, [], ◌∷◌, map, refl, sym, ap, ◌∙◌, arith}
 use Rattle.std.proofs.lemmas.Result.{err_from_is_err_and}
-use Rattle.lra_operations.specs.Graph.{seq}
+use Rattle.lra_operations.specs.Tree.{seq}
 use Rattle.lra_program.specs.Sites.{plain_site, items_events, call_events, events_of}
 use Rattle.lra_program.specs.ProgramViews.{item_view, items_of, program_view}
-use Rattle.lra_operations.specs.GraphViews.{node_view, site_view}
+use Rattle.lra_operations.specs.TreeViews.{node_view, site_view}
 use Rattle.lra_opening.specs.Limits.{walk, stopped}
 use Rattle.lra_opening.proofs.Items.{items_stand_as}
 use Rattle.lra_opening.proofs.Shown.{shown_point}
@@ -19,10 +19,10 @@ index-main-requires c = main_below c.args.program.now c.requires
 
 pub inline_items-requires-clause-stands : goal.inline_items-requires-clause-stands
 inline_items-requires-clause-stands c = items_stand_as (program_view c.args.program.now)
-    (begun_at c.len-globals.result c.behind_result.result) _ _
+    (begun_at c.len-globals.result c.result_receiver.result) _ _
     (main_body c.args.program.now c.index-main.result.now (main_read c.args.program.now c.index-main.result.now c.requires c.index-main.ensures)
     ∙ sym (ap (λ z. items_of (map item_view z)) c.deref.ensures.value))
-    (main_stands (program_view c.args.program.now) (begun_at c.len-globals.result c.behind_result.result) c.requires
+    (main_stands (program_view c.args.program.now) (begun_at c.len-globals.result c.result_receiver.result) c.requires
     (omega arith) refl refl refl)
 
 pub returns-in_err-body-clause-limit : goal.returns-in_err-body-clause-limit
@@ -32,11 +32,11 @@ returns-in_err-body-clause-limit c = let p = err_from_is_err_and c.from_residual
     stopped x)
     (λ x. walk (map site_view c.args.sites.now.items) (events_of (program_view c.args.program.now)) ≡ stopped x) p.1 p.2
     (stopped_in_items (program_view c.args.program.now) c.requires c.empty-path.result
-    (begun_at c.len-globals.result c.behind_result.result) (map site_view c.args.sites.now.items)
+    (begun_at c.len-globals.result c.result_receiver.result) (map site_view c.args.sites.now.items)
     (items_of (map item_view c.deref.result.now)) c.index-main.result.now.end c.empty-path.ensures
-    (frame_first c.args.program.now c.len-globals.result c.behind_result.result c.len-globals.ensures
+    (frame_first c.args.program.now c.len-globals.result c.result_receiver.result c.len-globals.ensures
     (main_receives c.args.program.now c.index-main.result.now (main_read c.args.program.now c.index-main.result.now c.requires c.index-main.ensures)
-    c.nobody.result c.behind_result.result c.nobody.ensures c.behind_result.ensures))
+    c.nobody.result c.result_receiver.result c.nobody.ensures c.result_receiver.ensures))
     (main_body c.args.program.now c.index-main.result.now (main_read c.args.program.now c.index-main.result.now c.requires c.index-main.ensures)
     ∙ sym (ap (λ z. items_of (map item_view z)) c.deref.ensures.value))
     (main_end c.args.program.now c.index-main.result.now (main_read c.args.program.now c.index-main.result.now c.requires c.index-main.ensures)))
@@ -49,11 +49,11 @@ returns-in_err-end-clause-limit c = let p = err_from_is_err_and c.from_residual-
     (plain_site c.empty-path.result c.index-main.result.now.end c.in_ok-body.body.live ∷ []) ≡ stopped x)
     (λ x. walk (map site_view c.args.sites.now.items) (events_of (program_view c.args.program.now)) ≡ stopped x) p.1 p.2
     (λ x h. stopped_at_end (program_view c.args.program.now) c.requires c.empty-path.result
-    (begun_at c.len-globals.result c.behind_result.result) (map site_view c.args.sites.now.items)
+    (begun_at c.len-globals.result c.result_receiver.result) (map site_view c.args.sites.now.items)
     (items_of (map item_view c.deref.result.now)) c.index-main.result.now.end c.empty-path.ensures
-    (frame_first c.args.program.now c.len-globals.result c.behind_result.result c.len-globals.ensures
+    (frame_first c.args.program.now c.len-globals.result c.result_receiver.result c.len-globals.ensures
     (main_receives c.args.program.now c.index-main.result.now (main_read c.args.program.now c.index-main.result.now c.requires c.index-main.ensures)
-    c.nobody.result c.behind_result.result c.nobody.ensures c.behind_result.ensures))
+    c.nobody.result c.result_receiver.result c.nobody.ensures c.result_receiver.ensures))
     (main_body c.args.program.now c.index-main.result.now (main_read c.args.program.now c.index-main.result.now c.requires c.index-main.ensures)
     ∙ sym (ap (λ z. items_of (map item_view z)) c.deref.ensures.value))
     (main_end c.args.program.now c.index-main.result.now (main_read c.args.program.now c.index-main.result.now c.requires c.index-main.ensures))
@@ -62,11 +62,11 @@ returns-in_err-end-clause-limit c = let p = err_from_is_err_and c.from_residual-
 
 pub returns-clause-walked : goal.returns-clause-walked
 returns-clause-walked c = made_walk (program_view c.args.program.now) c.requires c.empty-path.result
-    (begun_at c.len-globals.result c.behind_result.result) (map site_view c.args.sites.now.items)
+    (begun_at c.len-globals.result c.result_receiver.result) (map site_view c.args.sites.now.items)
     (items_of (map item_view c.deref.result.now)) c.index-main.result.now.end c.empty-path.ensures
-    (frame_first c.args.program.now c.len-globals.result c.behind_result.result c.len-globals.ensures
+    (frame_first c.args.program.now c.len-globals.result c.result_receiver.result c.len-globals.ensures
     (main_receives c.args.program.now c.index-main.result.now (main_read c.args.program.now c.index-main.result.now c.requires c.index-main.ensures)
-    c.nobody.result c.behind_result.result c.nobody.ensures c.behind_result.ensures))
+    c.nobody.result c.result_receiver.result c.nobody.ensures c.result_receiver.ensures))
     (main_body c.args.program.now c.index-main.result.now (main_read c.args.program.now c.index-main.result.now c.requires c.index-main.ensures)
     ∙ sym (ap (λ z. items_of (map item_view z)) c.deref.ensures.value))
     (main_end c.args.program.now c.index-main.result.now (main_read c.args.program.now c.index-main.result.now c.requires c.index-main.ensures))
@@ -76,11 +76,11 @@ returns-clause-walked c = made_walk (program_view c.args.program.now) c.requires
 
 pub returns-clause-graph : goal.returns-clause-graph
 returns-clause-graph c = made_graph (program_view c.args.program.now) c.requires c.empty-path.result
-    (begun_at c.len-globals.result c.behind_result.result) (map site_view c.args.sites.now.items)
+    (begun_at c.len-globals.result c.result_receiver.result) (map site_view c.args.sites.now.items)
     (items_of (map item_view c.deref.result.now)) c.index-main.result.now.end c.empty-path.ensures
-    (frame_first c.args.program.now c.len-globals.result c.behind_result.result c.len-globals.ensures
+    (frame_first c.args.program.now c.len-globals.result c.result_receiver.result c.len-globals.ensures
     (main_receives c.args.program.now c.index-main.result.now (main_read c.args.program.now c.index-main.result.now c.requires c.index-main.ensures)
-    c.nobody.result c.behind_result.result c.nobody.ensures c.behind_result.ensures))
+    c.nobody.result c.result_receiver.result c.nobody.ensures c.result_receiver.ensures))
     (main_body c.args.program.now c.index-main.result.now (main_read c.args.program.now c.index-main.result.now c.requires c.index-main.ensures)
     ∙ sym (ap (λ z. items_of (map item_view z)) c.deref.ensures.value))
     (main_end c.args.program.now c.index-main.result.now (main_read c.args.program.now c.index-main.result.now c.requires c.index-main.ensures))

@@ -1,6 +1,6 @@
 -- Goals of `Shape::of`: the shape of a tree.
 use Rattle.std.proofs.Common.{refl, ap, ◌∙◌}
-use Rattle.lra_operations.specs.GraphViews.{node_view}
+use Rattle.lra_operations.specs.TreeViews.{node_view}
 use Rattle.lra_outcomes.specs.Steps.{node_steps}
 use Rattle.lra_forms.proofs.TreeViews.{act_view, aside_view, check_view, empty_view, leave_view, point_view}
 use Rattle.lra_outcomes.proofs.PassSteps.{aside_steps, empty_steps, point_steps}
@@ -16,9 +16,9 @@ pub returns-in-Point : goal.returns-in-Point
 returns-in-Point c =
     (ap node_view c.in-Point.is ∙ point_view c.in-Point.point, λ n. ap (node_steps n) c.in-Point.is ∙ point_steps n c.in-Point.point)
 
-pub returns-in-Aside : goal.returns-in-Aside
-returns-in-Aside c =
-    let k = c.in-Aside in
+pub returns-in-Probe : goal.returns-in-Probe
+returns-in-Probe c =
+    let k = c.in-Probe in
     (ap node_view k.is ∙ aside_view k.point k.what, λ n. ap (node_steps n) k.is ∙ aside_steps n k.point k.what)
 
 pub returns-in-Act : goal.returns-in-Act

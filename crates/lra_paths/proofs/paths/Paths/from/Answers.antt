@@ -1,6 +1,6 @@
 -- Goals of `from`: all ways from the source have come.
 use Rattle.std.proofs.Common.{map}
-use Rattle.lra_operations.specs.GraphViews.{site_view}
+use Rattle.lra_operations.specs.TreeViews.{site_view}
 use Rattle.lra_paths.specs.Sources.{first_from}
 use Rattle.lra_sides.proofs.TableSteps.{within}
 use Rattle.lra_paths.proofs.DepartureSteps.{from_leads}

@@ -1,8 +1,8 @@
 -- Goals of `analyse`: the graph is ready, and so is what the iteration leaves; what both find is found of the thread.
 use Rattle.std.proofs.Common.{get_or, None}
 use Rattle.std.proofs.lemmas.Option.{slice_get-get_or}
-use Rattle.lra_operations.specs.Asked.{accessed_in}
-use Rattle.lra_operations.specs.GraphViews.{node_view}
+use Rattle.lra_operations.specs.CheckedOperations.{accessing_ops}
+use Rattle.lra_operations.specs.TreeViews.{node_view}
 use Rattle.lra_threads.proofs.ReadyValues.{all_below, few_dims}
 use Rattle.lra_threads.proofs.graphs.GraphsThreads.analyse.Goals as goal
 
@@ -26,7 +26,7 @@ judge_accesses-requires-clause-below c =
     let graph = get_or graphs c.args.k c.index-self-k.result in
     let ready = c.requires.ready.each c.args.k graph (slice_get-get_or graphs c.args.k c.index-self-k.result c.requires.thread) in
     rw c.deref.ensures.value (all_below graph c.in_ok-noted.noted.solution.values.items c.in_ok-noted.ensures.points
-    (accessed_in None (node_view graph.tree)) ready.below)
+    (accessing_ops None (node_view graph.tree)) ready.below)
 
 pub returns : goal.returns
 returns c =

@@ -1,6 +1,6 @@
 -- Goals of `take_listed`: how many assertions are listed.
 use Rattle.std.proofs.Common.{◌+◌, map, drop, arith}
-use Rattle.lra_operations.specs.GraphViews.{site_view}
+use Rattle.lra_operations.specs.TreeViews.{site_view}
 use Rattle.lra_certificate.specs.Lines.{left_at}
 use Rattle.lra_verify.specs.EdgeViews.{denials_by, listed_by, sites_in}
 use Rattle.lra_verify.proofs.PointSteps.{sites_next, sites_end}

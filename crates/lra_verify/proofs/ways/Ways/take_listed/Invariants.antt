@@ -1,5 +1,5 @@
 use Rattle.std.proofs.Common.{◌≡◌, ◌≤◌, length, map, drop}
-use Rattle.lra_operations.specs.GraphViews.{site_view}
+use Rattle.lra_operations.specs.TreeViews.{site_view}
 use Rattle.lra_verify.specs.EdgeViews.{denials_by, listed_by, sites_in}
 use Rattle.lra_certificate.specs.Lines.{left_at}
 use Rattle.lra_verify.proofs.ListedSteps.{listed_after}

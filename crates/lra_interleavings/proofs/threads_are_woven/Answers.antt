@@ -1,6 +1,0 @@
--- Goals of `threads_are_woven`: does nothing.
-use Rattle.lra_interleavings.proofs.Weaving.{tested_threads_are_woven}
-use Rattle.lra_interleavings.proofs.threads_are_woven.Goals as goal
-
-pub returns : goal.returns
-returns c = record { theorem = tested_threads_are_woven }
