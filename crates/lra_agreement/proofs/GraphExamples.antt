@@ -17,12 +17,12 @@ use Rattle.lra_operations.specs.Inlined.{as_continue, as_switch, as_no_cases, as
 use Rattle.lra_operations.specs.Inlined.{as_assert, as_return_value, as_none, as_array, as_statement, as_value, as_result, is_call, as_write_call}
 use Rattle.lra_operations.specs.Inlined.{main_inline_state}
 use Rattle.lra_program.specs.Program as program
-use Rattle.lra_tree.specs.Trees.{FileTree, function, statement, declaration, no_items, if_only, return, value, expression, result}
-use Rattle.lra_tree.specs.Trees.{set_element, element, array, assign}
-use Rattle.lra_tree.specs.declared.trees.Identifier.{Identifier}
-use Rattle.lra_tree.specs.Trees.{block, while, break, continue, switch, no_cases, labelled, stated}
-use Rattle.lra_tree.proofs.TreeSamples.{at, x_at, name_at, number, alone, use_of, tested, call_of, declared_as, long_parameter, function_of, main_function, main_of}
-use Rattle.lra_tree.proofs.TreeSamples.{called_twice}
+use Rattle.lra_syntax.specs.Trees.{FileTree, function, statement, declaration, no_items, if_only, return, value, expression, result}
+use Rattle.lra_syntax.specs.Trees.{set_element, element, array, assign}
+use Rattle.lra_syntax.specs.declared.trees.Identifier.{Identifier}
+use Rattle.lra_syntax.specs.Trees.{block, while, break, continue, switch, no_cases, labelled, stated}
+use Rattle.lra_syntax.proofs.TreeSamples.{at, x_at, name_at, literal_text, alone, use_of, tested, call_of, declared_as, long_parameter, function_of, main_function, main_of}
+use Rattle.lra_syntax.proofs.TreeSamples.{called_twice}
 use Rattle.lra_program.proofs.RunExamples as run
 
 -- the length to which a store is cut is at most that from which it is cut
@@ -54,9 +54,9 @@ called_twice_graph = (
 abbrev two_returns : FileTree
 two_returns = record {
   parts = function (function_of (codes "f") 6 (long_parameter (name_at (codes "a") 13) ∷ [])
-      (statement (if_only (at 17) (tested (value (use_of (name_at (codes "a") 20)))) (return (at 23) (Some (expression (number 1)))))
-      (statement (return (at 33) (Some (expression (number 2)))) no_items)) 43)
-      ∷ function (main_function 49 (declaration (declared_as (x_at 66) (Some (result (call_of (name_at (codes "f") 68) (number 0 ∷ []))))) no_items) 74)
+      (statement (if_only (at 17) (tested (value (use_of (name_at (codes "a") 20)))) (return (at 23) (Some (expression (literal_text 1)))))
+      (statement (return (at 33) (Some (expression (literal_text 2)))) no_items)) 43)
+      ∷ function (main_function 49 (declaration (declared_as (x_at 66) (Some (result (call_of (name_at (codes "f") 68) (literal_text 0 ∷ []))))) no_items) 74)
       ∷ [];
   end = at 75;
 }
@@ -112,10 +112,10 @@ a_at c = name_at (codes "a") c
 
 abbrev element_called : FileTree
 element_called = record {
-  parts = function (function_of (codes "f") 6 [] (statement (return (at 15) (Some (expression (number 1)))) no_items) 25)
+  parts = function (function_of (codes "f") 6 [] (statement (return (at 15) (Some (expression (literal_text 1)))) no_items) 25)
       ∷ function (main_function 31
       (declaration (record { number_type = Long; first = record { name = a_at 48; shape = array (record { value = 2; place = at 50 }) }; rest = [] })
-      (statement (assign (set_element (a_at 54) (alone (element (a_at 56) (number 0))) (result (call_of (name_at (codes "f") 62) [])))) no_items)) 67)
+      (statement (assign (set_element (a_at 54) (alone (element (a_at 56) (literal_text 0))) (result (call_of (name_at (codes "f") 62) [])))) no_items)) 67)
       ∷ [];
   end = at 68;
 }

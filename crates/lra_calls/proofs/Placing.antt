@@ -6,9 +6,9 @@ use Rattle.std.specs.List.{Contains}
 use Rattle.std.proofs.lemmas.Bool.{both_ways, eqb-true, eq-eqb}
 use Rattle.std.proofs.lemmas.Slice.Eq.{bytes_eq-Decides}
 use Rattle.std.proofs.lemmas.Option.{none-some, same_Some, slice_get_within}
-use Rattle.lra_tree.specs.declared.trees.Identifier.{Identifier}
-use Rattle.lra_tree.specs.Trees.{FunctionTree}
-use Rattle.lra_tree.specs.Functions.{is_named, function_named}
+use Rattle.lra_syntax.specs.declared.trees.Identifier.{Identifier}
+use Rattle.lra_syntax.specs.Trees.{FunctionTree}
+use Rattle.lra_syntax.specs.Functions.{is_named, function_named}
 use Rattle.lra_meaning.specs.Resolve.{function_place}
 use Rattle.lra_calls.specs.declared.calls.Call.{Call}
 use Rattle.lra_calls.specs.Calls.{call_of, calls_among, first_places, row_by}

@@ -6,18 +6,18 @@ use Rattle.std.specs.List.{Contains, AllByRecursion}
 use Rattle.std.proofs.lemmas.List.{length-map}
 use Rattle.std.proofs.lemmas.Option.{slice_get-get_or, get_or_from_slice_get, slice_get_within}
 use Rattle.lra_base.specs.declared.refusals.Place.{Place}
-use Rattle.lra_tree.specs.declared.trees.Identifier.{Identifier}
-use Rattle.lra_tree.specs.declared.trees.Item.{Item}
-use Rattle.lra_tree.specs.declared.trees.Tree.{Tree}
-use Rattle.lra_tree.specs.Trees.{FileTree}
-use Rattle.lra_tree.specs.Views.{tree_view}
-use Rattle.lra_tree.specs.Labels.{Labelled, labels_of}
+use Rattle.lra_syntax.specs.declared.trees.Identifier.{Identifier}
+use Rattle.lra_syntax.specs.declared.trees.ExternalDeclaration.{ExternalDeclaration}
+use Rattle.lra_syntax.specs.declared.trees.TranslationUnit.{TranslationUnit}
+use Rattle.lra_syntax.specs.Trees.{FileTree}
+use Rattle.lra_syntax.specs.Views.{tree_view}
+use Rattle.lra_syntax.specs.Labels.{Labelled, labels_of}
 use Rattle.lra_program.specs.declared.program.Function.{Function}
 use Rattle.lra_program.specs.declared.program.Program.{Program}
 use Rattle.lra_program.specs.ProgramViews.{function_view, program_view}
 use Rattle.lra_scopes.specs.Calls.{functions_at}
-use Rattle.lra_tree.specs.Functions.{functions_of}
-use Rattle.lra_tree.specs.Reach.{IsCalling, ReachesByCalls, there, by_call, calls_in, IsRecursive, IsFirstRecursive, NotRecursive}
+use Rattle.lra_syntax.specs.Functions.{functions_of}
+use Rattle.lra_syntax.specs.Reach.{IsCalling, ReachesByCalls, there, by_call, calls_in, IsRecursive, IsFirstRecursive, NotRecursive}
 use Rattle.lra_meaning.specs.Resolve.{function_place, resolved_functions}
 use Rattle.lra_calls.specs.declared.calls.Call.{Call}
 use Rattle.lra_calls.specs.Calls.{call_of, calls_among, first_places, calls_behind, row_by}
@@ -203,7 +203,8 @@ found t rows calls None has is h = none_found t rows has calls is h
 found t rows calls (Some place) has is h = found_first t rows has calls place is h
 
 -- the same of the code's values
-pub resolved_first : {E : Type 0} (r : Result (Option Place) E) (tree : Tree) (program : Program) (labels : List Labelled) (index parts : List Item) (functions : List Function)
+pub resolved_first : {E : Type 0} (r : Result (Option Place) E) (tree : TranslationUnit) (program : Program) (labels : List Labelled) (index parts : List ExternalDeclaration)
+    (functions : List Function)
     (calls taken asked : List Call) (rows given : List (Vec ℕ Global)) (n : ℕ) → index ≡ parts → parts ≡ tree.items.items → functions ≡ program.functions.items → taken ≡ calls
     → asked ≡ calls → given ≡ rows → n ≡ length program.functions.items
     → calls ≡ calls_behind (functions_at index) labels 0 (first_places (functions_at index) (functions_at index)) (map function_view functions)
@@ -216,7 +217,7 @@ resolved_first (Ok o) tree program labels index parts functions calls taken aske
     let t = tree_view tree in
     let lists : List (List ℕ) = map (λ (row : Vec ℕ Global). row.items) rows in
     let of_tree : calls ≡ calls_behind (functions_of t) labels 0 (first_places (functions_of t) (functions_of t)) (program_view program).functions =
-    read ∙ ap (λ (items : List Item). calls_behind (functions_at items) labels 0 (first_places (functions_at items) (functions_at items)) (map function_view functions)) (indexed ∙ are)
+    read ∙ ap (λ (items : List ExternalDeclaration). calls_behind (functions_at items) labels 0 (first_places (functions_at items) (functions_at items)) (map function_view functions)) (indexed ∙ are)
     ∙ ap (λ (fs : List Function). calls_behind (functions_of t) labels 0 (first_places (functions_of t) (functions_of t)) (map function_view fs)) same in
     let whole = calls_read t (program_view program).functions labels calls resolved labelled of_tree in
     let views = length-map program.functions.items function_view in

@@ -4,11 +4,11 @@ use Rattle.std.proofs.Common.{append_assoc, append-nil, length-append}
 use Rattle.std.specs.Prelude.{option_to_list, flat_map}
 use Rattle.std.proofs.lemmas.Option.{none-some, same_Some}
 use Rattle.std.proofs.Math.Seq.{take-append_seam, drop-append_seam}
-use Rattle.lra_tree.specs.declared.trees.Identifier.{Identifier}
-use Rattle.lra_tree.specs.Trees.{FunctionTree, PartTree, prototype, globals, function, FileTree}
-use Rattle.lra_tree.specs.Functions.{functions_in, functions_of}
-use Rattle.lra_tree.specs.Labels.{Labelled, function_labels, labels_of, label_at}
-use Rattle.lra_tree.specs.Reach.{called_names, calls_of, calls_in}
+use Rattle.lra_syntax.specs.declared.trees.Identifier.{Identifier}
+use Rattle.lra_syntax.specs.Trees.{FunctionTree, ExternalTree, prototype, globals, function, FileTree}
+use Rattle.lra_syntax.specs.Functions.{functions_in, functions_of}
+use Rattle.lra_syntax.specs.Labels.{Labelled, function_labels, labels_of, label_at}
+use Rattle.lra_syntax.specs.Reach.{called_names, calls_of, calls_in}
 use Rattle.lra_program.specs.declared.program.Function.{Function}
 use Rattle.lra_program.specs.Program as program
 use Rattle.lra_program.specs.ProgramViews.{function_view}
@@ -117,7 +117,7 @@ one_function F f (x ∷ xs) cs =
 abbrev place_in : List FunctionTree → FunctionTree → ℕ
 place_in F f = function_place F f.name.word
 
-read_from : (F : List FunctionTree) (outside : List Entry) (front : List Labelled) (ps : List PartTree)
+read_from : (F : List FunctionTree) (outside : List Entry) (front : List Labelled) (ps : List ExternalTree)
     → calls_behind F (front ++ flat_map function_labels (functions_in ps)) (length front) (map (place_in F) (functions_in ps)) (resolve_parts F outside (suc (length front)) ps)
     ≡ calls_among F (calls_in (functions_in ps))
 read_from F outside front [] = refl
@@ -153,7 +153,8 @@ calls_read t functions labels calls resolved labelled read =
     ∙ read_from (functions_of t) [] [] t.parts
 
 -- as many functions of the program as of the source
-functions_count : (F : List FunctionTree) (outside : List Entry) (n : ℕ) (ps : List PartTree) → length (resolve_parts F outside n ps) ≡ length (functions_in ps)
+functions_count : (F : List FunctionTree) (outside : List Entry) (n : ℕ) (ps : List ExternalTree) →
+    length (resolve_parts F outside n ps) ≡ length (functions_in ps)
 functions_count F outside n [] = refl
 functions_count F outside n (prototype ∷ ps) = functions_count F outside n ps
 functions_count F outside n (globals g ∷ ps) = functions_count F _ n ps

@@ -2,11 +2,11 @@
 -- and so does what is called by that name.
 use Rattle.std.specs.Prelude.{ℕ, List, [], ◌∷◌, ◌++◌, ◌-◌, take, drop, Option, Some, None, option_map}
 use Rattle.std.specs.Prelude.{option_to_list, if◌then◌else◌, nat_eq}
-use Rattle.lra_tree.specs.declared.trees.Identifier.{Identifier}
-use Rattle.lra_tree.specs.Trees.{FunctionTree}
-use Rattle.lra_tree.specs.Functions.{function_named}
-use Rattle.lra_tree.specs.Labels.{Labelled}
-use Rattle.lra_tree.specs.Reach.{called_names}
+use Rattle.lra_syntax.specs.declared.trees.Identifier.{Identifier}
+use Rattle.lra_syntax.specs.Trees.{FunctionTree}
+use Rattle.lra_syntax.specs.Functions.{function_named}
+use Rattle.lra_syntax.specs.Labels.{Labelled}
+use Rattle.lra_syntax.specs.Reach.{called_names}
 use Rattle.lra_program.specs.Program.{Function}
 use Rattle.lra_meaning.specs.Resolve.{function_place}
 use Rattle.lra_calls.specs.declared.calls.Call.{Call}

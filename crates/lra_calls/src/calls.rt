@@ -1,11 +1,11 @@
 //! The calls of a source in text order, from the table of its labels.
 
 ghost use Rattle.std.specs.Prelude.{◌≡◌, ◌++◌, ◌∷◌, List, map, option_to_list, IfOk};
-ghost use Rattle.lra_tree.specs.Trees.{PartTree};
-ghost use Rattle.lra_tree.specs.Views.{part_view};
-ghost use Rattle.lra_tree.specs.Functions.{functions_in};
-ghost use Rattle.lra_tree.specs.Labels.{label_at};
-ghost use Rattle.lra_tree.specs.Reach.{called_names};
+ghost use Rattle.lra_syntax.specs.Trees.{ExternalTree};
+ghost use Rattle.lra_syntax.specs.Views.{external_view};
+ghost use Rattle.lra_syntax.specs.Functions.{functions_in};
+ghost use Rattle.lra_syntax.specs.Labels.{label_at};
+ghost use Rattle.lra_syntax.specs.Reach.{called_names};
 ghost use Rattle.lra_program.specs.ProgramViews.{function_view};
 ghost use Rattle.lra_scopes.specs.Calls.{functions_at};
 ghost use Rattle.lra_calls.specs.Calls.{first_places, called_at, calls_by, labels_between, calls_behind};
@@ -14,7 +14,7 @@ use lra_base::Place;
 use lra_meaning::Labels;
 use lra_program::Function;
 use lra_scopes::Functions;
-use lra_tree::Item;
+use lra_syntax::ExternalDeclaration;
 use std::alloc::{AllocError, Global};
 
 /// A call: the place of the first function that has the name of the one that holds it, that of the called function,
@@ -70,17 +70,17 @@ fn add_calls(
 /// Adds the place of the first function of its name, where the part is a function.
 fn add_first_place(
     index: &Functions<'_>,
-    item: &Item,
+    item: &ExternalDeclaration,
     places: &mut Vec<usize>,
 ) -> Result<(), AllocError>
-    ensures { IfOk result (λ _. (rest : List PartTree) →
+    ensures { IfOk result (λ _. (rest : List ExternalTree) →
         places.new.items ++ first_places (functions_at index.now) (functions_in rest) ≡
-        places.old.items ++ first_places (functions_at index.now) (functions_in (part_view item.now ∷ rest))) }
+        places.old.items ++ first_places (functions_at index.now) (functions_in (external_view item.now ∷ rest))) }
 {
     match item {
-        Item::Prototype => Ok(()),
-        Item::Globals(_) => Ok(()),
-        Item::Function(function) => match index.find(&function.name.word) {
+        ExternalDeclaration::Prototype => Ok(()),
+        ExternalDeclaration::Globals(_) => Ok(()),
+        ExternalDeclaration::Function(function) => match index.find(&function.name.word) {
             None => Ok(()),
             Some(signature) => {
                 places.push(signature.place)?;

@@ -2,9 +2,9 @@
 
 ghost use Rattle.std.specs.Prelude.{◌≡◌, ◌↔◌, map, IsTrue, IfOk, MatchOption};
 ghost use Rattle.std.specs.List.{AllByRecursion};
-ghost use Rattle.lra_tree.specs.Views.{tree_view};
-ghost use Rattle.lra_tree.specs.Labels.{labels_of};
-ghost use Rattle.lra_tree.specs.Reach.{IsFirstRecursive, NotRecursive};
+ghost use Rattle.lra_syntax.specs.Views.{tree_view};
+ghost use Rattle.lra_syntax.specs.Labels.{labels_of};
+ghost use Rattle.lra_syntax.specs.Reach.{IsFirstRecursive, NotRecursive};
 ghost use Rattle.lra_program.specs.ProgramViews.{program_view};
 ghost use Rattle.lra_meaning.specs.Resolve.{resolved_functions};
 ghost use Rattle.lra_calls.specs.Recursion.{IsBack, IsFirstBack};
@@ -16,7 +16,7 @@ use lra_base::Place;
 use lra_meaning::Labels;
 use lra_program::Program;
 use lra_scopes::Functions;
-use lra_tree::Tree;
+use lra_syntax::TranslationUnit;
 use std::alloc::{AllocError, Global};
 
 /// Whether the callee comes to the caller.
@@ -49,7 +49,7 @@ fn first_back(
 /// by the labels of the source's program.
 pub fn first_recursive(
     alloc: Global,
-    tree: &Tree,
+    tree: &TranslationUnit,
     program: &Program,
     labels: &Labels,
 ) -> Result<Option<Place>, AllocError>

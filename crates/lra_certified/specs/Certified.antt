@@ -1,7 +1,7 @@
 -- What a source deserves that is to be certified: a certificate with the rows, the empty points and the proved
 -- assertions of its report; or why it has none.
 use Rattle.std.specs.Prelude.{◌≡◌, ◌<◌, ◌^◌, ℕ, suc, ⊤, List, [], ◌∷◌, ◌++◌, map, Option, None, Some, option_map}
-use Rattle.lra_tree.specs.Grammar.{Spells}
+use Rattle.lra_syntax.specs.Grammar.{Spells}
 use Rattle.lra_meaning.specs.Refuse.{Refuse}
 use Rattle.lra_show.specs.Rows.{Row}
 use Rattle.lra_show.specs.ShownDescriptions.{shown_constraint}

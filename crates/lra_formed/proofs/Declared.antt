@@ -2,10 +2,10 @@
 use Rattle.std.proofs.Common.{◌≡◌, ℕ, suc, ◌+◌, List, [], ◌∷◌, length, map, refl, arith, length-append}
 use Rattle.std.specs.List.{flat_map}
 use Rattle.lra_base.specs.declared.number_types.NumberType.{NumberType}
-use Rattle.lra_tree.specs.declared.trees.Identifier.{Identifier}
-use Rattle.lra_tree.specs.declared.trees.SignedLiteral.{SignedLiteral}
-use Rattle.lra_tree.specs.Trees.{RvalueTree, ShapeTree, scalar, array, FunctionTree, GlobalTree}
-use Rattle.lra_tree.specs.Labels.{name_in}
+use Rattle.lra_syntax.specs.declared.trees.Identifier.{Identifier}
+use Rattle.lra_syntax.specs.declared.trees.SignedLiteral.{SignedLiteral}
+use Rattle.lra_syntax.specs.Trees.{RvalueTree, ScalarOrArrayTree, scalar, array, FunctionTree, GlobalTree}
+use Rattle.lra_syntax.specs.Labels.{name_in}
 use Rattle.lra_program.specs.Program.{BlockItems}
 use Rattle.lra_program.specs.Sites.{live_after_items}
 use Rattle.lra_program.specs.WellFormed.{items_numbers}
@@ -22,16 +22,17 @@ pub wider_is : (m : Meaning) (live : ℕ) → wider m live ≡ width_of m + live
 wider_is (scope.scalar t) live = omega arith
 wider_is (scope.array a) live = omega arith
 
-pub name_width : {A : Type 0} (t : NumberType) (x : Identifier) (shape : ShapeTree A) → length (name_in x.word shape) ≡ width_of (meaning_of t x shape)
+pub name_width : {A : Type 0} (t : NumberType) (x : Identifier) (shape : ScalarOrArrayTree A) → length (name_in x.word shape) ≡ width_of (meaning_of t x shape)
 name_width t x (scalar e) = refl
 name_width t x (array n) = refl
 
-pub behind_declared : (F : List FunctionTree) (n live : ℕ) (s : Scope) (t : NumberType) (x : Identifier) (shape : ShapeTree RvalueTree) (items : BlockItems)
+pub behind_declared : (F : List FunctionTree) (n live : ℕ) (s : Scope) (t : NumberType) (x : Identifier) (shape : ScalarOrArrayTree RvalueTree)
+    (items : BlockItems)
     → live_after_items live (resolve_declared F s n t x shape items) ≡ live_after_items (wider (meaning_of t x shape) live) items
 behind_declared F n live s t x (scalar e) items = refl
 behind_declared F n live s t x (array c) items = refl
 
-pub declared_numbers : (F : List FunctionTree) (n : ℕ) (s : Scope) (t : NumberType) (x : Identifier) (shape : ShapeTree RvalueTree) (items : BlockItems)
+pub declared_numbers : (F : List FunctionTree) (n : ℕ) (s : Scope) (t : NumberType) (x : Identifier) (shape : ScalarOrArrayTree RvalueTree) (items : BlockItems)
     → items_numbers (resolve_declared F s n t x shape items) ≡ n ∷ items_numbers items
 declared_numbers F n s t x (scalar e) items = refl
 declared_numbers F n s t x (array c) items = refl
@@ -44,7 +45,7 @@ names_width t (g ∷ gs) =
     let b = name_width t g.name g.shape in
     let c = names_width t gs in omega arith
 
-variable_width : (t : NumberType) (x : Identifier) (shape : ShapeTree SignedLiteral) → length (variables_by t shape) ≡ width_of (meaning_of t x shape)
+variable_width : (t : NumberType) (x : Identifier) (shape : ScalarOrArrayTree SignedLiteral) → length (variables_by t shape) ≡ width_of (meaning_of t x shape)
 variable_width t x (scalar e) = refl
 variable_width t x (array n) = refl
 

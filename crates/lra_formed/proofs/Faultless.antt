@@ -9,8 +9,8 @@ use Rattle.std.proofs.lemmas.Option.{same_Some, none-some}
 use Rattle.lra_base.specs.declared.refusals.Place.{Place}
 use Rattle.lra_base.specs.declared.refusals.Cause.{Cause}
 use Rattle.lra_base.specs.declared.refusals.Cause.TheVariants.{NotArray}
-use Rattle.lra_tree.specs.declared.trees.Identifier.{Identifier}
-use Rattle.lra_tree.specs.Trees.{FunctionTree}
+use Rattle.lra_syntax.specs.declared.trees.Identifier.{Identifier}
+use Rattle.lra_syntax.specs.Trees.{FunctionTree}
 use Rattle.lra_program.specs.Program.{Slot, global, local, Program}
 use Rattle.lra_meaning.specs.Scope.{Meaning, scalar, array, Entry, names_in, Scope, newest, width_of, width_of_all, Found, found_at, found_among, found_in, found_of}
 use Rattle.lra_meaning.specs.Scope.{is_array, with_local, inner}

@@ -5,12 +5,12 @@ use Rattle.std.specs.List.{AllByRecursion, flat_map}
 use Rattle.std.proofs.lemmas.List.{length-map}
 use Rattle.lra_base.specs.declared.number_types.NumberType.{NumberType}
 use Rattle.lra_base.specs.declared.refusals.Place.{Place}
-use Rattle.lra_tree.specs.declared.trees.Identifier.{Identifier}
-use Rattle.lra_tree.specs.Trees as tree
+use Rattle.lra_syntax.specs.declared.trees.Identifier.{Identifier}
+use Rattle.lra_syntax.specs.Trees as tree
 use Rattle.lra_program.specs.Program.{Cond, BlockItems, no_more, Function, Program}
 use Rattle.lra_program.specs.Sites.{live_after_items}
 use Rattle.lra_meaning.specs.Scope.{Scope, meaning_of, with_local, declarator_entry, with_declarators, inner, for_scope}
-use Rattle.lra_tree.specs.Functions.{function_named}
+use Rattle.lra_syntax.specs.Functions.{function_named}
 use Rattle.lra_meaning.specs.NameFaults.{use_faults, named_faults, unary_faults, term_faults, expr_faults, negation_faults, test_faults, conjunction_faults}
 use Rattle.lra_meaning.specs.NameFaults.{cond_faults, called_faults, call_faults, rvalue_faults}
 use Rattle.lra_meaning.specs.NameFaults.{assign_faults, given_faults, shape_faults, declarators_faults, init_faults, test_of_for_faults, step_faults, Around}
@@ -134,7 +134,7 @@ module _ (P : Program) where
     good_assign b at live s (tree.after x step) sees small none = let lives = variable_lives P live s x sees none in (lives, (lives, refl))
     good_assign b at live s (tree.before p step x) sees small none = let lives = variable_lives P live s x sees none in (lives, (lives, refl))
 
-    good_declared : (b : Jumps) (n live : ℕ) (s : Scope) (t : NumberType) (x : Identifier) (shape : tree.ShapeTree tree.RvalueTree) (items : BlockItems)
+    good_declared : (b : Jumps) (n live : ℕ) (s : Scope) (t : NumberType) (x : Identifier) (shape : tree.ScalarOrArrayTree tree.RvalueTree) (items : BlockItems)
         → Sees P (wider (meaning_of t x shape) live) s → IsSmallShape shape → shape_faults (given_faults F s) shape ≡ []
         → AreGoodItems P b (wider (meaning_of t x shape) live) items → AreGoodItems P b live (resolve_declared F s n t x shape items)
     good_declared b n live s t x (tree.scalar e) items sees small none good = (good_given n (suc live) s e sees small none, good)

@@ -7,11 +7,11 @@ use Rattle.lra_base.specs.declared.number_types.NumberType.{NumberType}
 use Rattle.lra_base.specs.declared.refusals.Place.{Place}
 use Rattle.lra_base.specs.declared.refusals.Cause.TheVariants.{NotArray}
 use Rattle.lra_base.specs.declared.case_labels.CaseLabel.{CaseLabel}
-use Rattle.lra_tree.specs.declared.trees.Identifier.{Identifier}
-use Rattle.lra_tree.specs.declared.trees.Parameter.{Parameter}
-use Rattle.lra_tree.specs.declared.trees.SignedLiteral.{SignedLiteral}
-use Rattle.lra_tree.specs.Trees as tree
-use Rattle.lra_tree.specs.Functions.{functions_of, function_named}
+use Rattle.lra_syntax.specs.declared.trees.Identifier.{Identifier}
+use Rattle.lra_syntax.specs.declared.trees.Parameter.{Parameter}
+use Rattle.lra_syntax.specs.declared.trees.SignedLiteral.{SignedLiteral}
+use Rattle.lra_syntax.specs.Trees as tree
+use Rattle.lra_syntax.specs.Functions.{functions_of, function_named}
 use Rattle.lra_program.specs.declared.arrays.Array.{Array}
 use Rattle.lra_program.specs.Program.{Cond, BlockItems, no_more, Function}
 use Rattle.lra_program.specs.WellFormed.{Jumps, no_jumps, in_loop, in_switch}
@@ -186,13 +186,15 @@ module _ (F : List tree.FunctionTree) where
     step_knows None e = tt
     step_knows (Some a) e = assign_knows a e
 
-  declared_know : (known : List Array) (n : ℕ) (s : Scope) (t : NumberType) (x : Identifier) (shape : tree.ShapeTree tree.RvalueTree) (items : BlockItems)
+  declared_know : (known : List Array) (n : ℕ) (s : Scope) (t : NumberType) (x : Identifier) (shape : tree.ScalarOrArrayTree tree.RvalueTree)
+      (items : BlockItems)
       → Shows (known_with (meaning_of t x shape) known) s → shape_faults (given_faults F s) shape ≡ []
       → ItemsKnow (known_with (meaning_of t x shape) known) items → ItemsKnow known (resolve_declared F s n t x shape items)
   declared_know known n s t x (tree.scalar e) items shows none rest = (given_knows known s shows n e none, rest)
   declared_know known n s t x (tree.array c) items shows none rest = rest
 
-  behind_declared : (known : List Array) (n : ℕ) (s : Scope) (t : NumberType) (x : Identifier) (shape : tree.ShapeTree tree.RvalueTree) (items : BlockItems)
+  behind_declared : (known : List Array) (n : ℕ) (s : Scope) (t : NumberType) (x : Identifier) (shape : tree.ScalarOrArrayTree tree.RvalueTree)
+      (items : BlockItems)
       → known_behind known (resolve_declared F s n t x shape items) ≡ known_behind (known_with (meaning_of t x shape) known) items
   behind_declared known n s t x (tree.scalar e) items = refl
   behind_declared known n s t x (tree.array c) items = refl
@@ -304,7 +306,8 @@ module _ (known : List Array) where
   abbrev Within : List Array → Type 0
   Within more = (a : Array) → Contains more a → Contains known a
 
-  global_known : (t : NumberType) (x : Identifier) (shape : tree.ShapeTree SignedLiteral) → Within (arrays_by t x shape) → IsKnown known (meaning_of t x shape)
+  global_known : (t : NumberType) (x : Identifier) (shape : tree.ScalarOrArrayTree SignedLiteral) → Within (arrays_by t x shape) →
+      IsKnown known (meaning_of t x shape)
   global_known t x (tree.scalar v) within = tt
   global_known t x (tree.array n) within = within (array_of t x n) (last_one [] (array_of t x n))
 
@@ -322,7 +325,7 @@ module _ (known : List Array) where
   parameters_known [] = tt
   parameters_known (p ∷ ps) = (tt, parameters_known ps)
 
-  parts_know : (F : List tree.FunctionTree) (n : ℕ) (names : List (List ℕ)) (outside : List Entry) (ps : List tree.PartTree) → AreKnown known outside
+  parts_know : (F : List tree.FunctionTree) (n : ℕ) (names : List (List ℕ)) (outside : List Entry) (ps : List tree.ExternalTree) → AreKnown known outside
       → Within (arrays_in ps) → parts_faults F names outside ps ≡ [] → AllByRecursion (λ (f : Function). ItemsKnow known f.body) (resolve_parts F outside n ps)
   parts_know F n names outside [] shown within e = tt
   parts_know F n names outside (tree.prototype ∷ ps) shown within e = parts_know F n names outside ps shown within e

@@ -5,15 +5,15 @@ use Rattle.std.specs.List.{AllByRecursion, flat_map}
 use Rattle.std.proofs.lemmas.List.{length-map}
 use Rattle.lra_base.specs.declared.number_types.NumberType.{NumberType}
 use Rattle.lra_base.specs.declared.refusals.Place.{Place}
-use Rattle.lra_tree.specs.declared.trees.Parameter.{Parameter}
-use Rattle.lra_tree.specs.declared.trees.Identifier.{Identifier}
-use Rattle.lra_tree.specs.Trees as tree
+use Rattle.lra_syntax.specs.declared.trees.Parameter.{Parameter}
+use Rattle.lra_syntax.specs.declared.trees.Identifier.{Identifier}
+use Rattle.lra_syntax.specs.Trees as tree
 use Rattle.lra_program.specs.Program.{Call, BlockItems, no_more, Function, Program}
 use Rattle.lra_meaning.specs.Scope.{Entry, Scope, meaning_of, with_local, declarator_entry, with_declarators, inner, for_scope, function_scope}
-use Rattle.lra_tree.specs.Functions.{functions_in, functions_of, is_main}
-use Rattle.lra_tree.specs.Labels.{Labelled, plain_label, label_with, called_of, called_for, assign_label, name_in, names_of, with_names, declarator_labels}
-use Rattle.lra_tree.specs.Labels.{init_labels, step_labels, stmt_labels}
-use Rattle.lra_tree.specs.Labels.{cases_labels, items_labels, live_in_for, function_labels, labels_of, label_at}
+use Rattle.lra_syntax.specs.Functions.{functions_in, functions_of, is_main}
+use Rattle.lra_syntax.specs.Labels.{Labelled, plain_label, label_with, called_of, called_for, assign_label, name_in, names_of, with_names, declarator_labels}
+use Rattle.lra_syntax.specs.Labels.{init_labels, step_labels, stmt_labels}
+use Rattle.lra_syntax.specs.Labels.{cases_labels, items_labels, live_in_for, function_labels, labels_of, label_at}
 use Rattle.lra_meaning.specs.Resolve.{resolve_call, resolve_rvalue, resolve_given, resolve_assign, resolve_declared, resolve_declarators, resolve_init}
 use Rattle.lra_meaning.specs.Resolve.{resolve_step, init_count, step_count, stmt_count}
 use Rattle.lra_meaning.specs.Resolve.{items_count, declarator_count, resolve_stmt, resolve_cases, resolve_items, resolve_function, variables_by, globals_in}
@@ -134,7 +134,8 @@ module _ (outside : List (List ℕ)) (ls : List Labelled) where
     assign_has n live s (tree.after x step) names h at = (point_has n live false (assign_label names (tree.after x step)) h at, tt)
     assign_has n live s (tree.before p step x) names h at = (point_has n live false (assign_label names (tree.before p step x)) h at, tt)
 
-    declared_has : (n live : ℕ) (s : Scope) (t : NumberType) (x : Identifier) (shape : tree.ShapeTree tree.RvalueTree) (rest : BlockItems) (l : Labelled)
+    declared_has : (n live : ℕ) (s : Scope) (t : NumberType) (x : Identifier) (shape : tree.ScalarOrArrayTree tree.RvalueTree) (rest : BlockItems)
+        (l : Labelled)
         → width_of path + length l.live ≡ live → width_of path + length l.live_in_call ≡ wider (meaning_of t x shape) live → label_at ls n ≡ Some l
         → EachPoint HasAsMany (items_events inside path (wider (meaning_of t x shape) live) rest)
         → EachPoint HasAsMany (items_events inside path live (resolve_declared F s n t x shape rest))
@@ -321,7 +322,7 @@ module _ (outside : List (List ℕ)) (ls : List Labelled) where
     abbrev IsLabelled : Function → Type 0
     IsLabelled g = (f : tree.FunctionTree) × (n : ℕ) × (scope : List Entry) × (g ≡ resolve_function F scope n f) × StandFrom ls n (function_labels f)
 
-    parts_labelled : (n : ℕ) (scope : List Entry) (ps : List tree.PartTree) → StandFrom ls n (flat_map function_labels (functions_in ps)) → AllByRecursion IsLabelled (resolve_parts F scope n ps)
+    parts_labelled : (n : ℕ) (scope : List Entry) (ps : List tree.ExternalTree) → StandFrom ls n (flat_map function_labels (functions_in ps)) → AllByRecursion IsLabelled (resolve_parts F scope n ps)
     parts_labelled n scope [] stand = tt
     parts_labelled n scope (tree.prototype ∷ ps) stand = parts_labelled n scope ps stand
     parts_labelled n scope (tree.globals g ∷ ps) stand = parts_labelled n _ ps stand
@@ -378,7 +379,7 @@ module _ (outside : List (List ℕ)) (ls : List Labelled) where
 
 -- the whole --------------------------------------------------------------------------------------------------------
 
-pub globals_as_many : (ps : List tree.PartTree) → length (globals_named ps) ≡ length (globals_in ps)
+pub globals_as_many : (ps : List tree.ExternalTree) → length (globals_named ps) ≡ length (globals_in ps)
 globals_as_many [] = refl
 globals_as_many (tree.prototype ∷ ps) = globals_as_many ps
 globals_as_many (tree.globals g ∷ ps) =

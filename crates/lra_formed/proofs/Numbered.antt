@@ -3,10 +3,10 @@ use Rattle.std.proofs.Common.{◌≡◌, ℕ, suc, ◌+◌, List, [], ◌∷◌,
 use Rattle.std.specs.List.{range_with_len, flat_map}
 use Rattle.lra_base.specs.declared.number_types.NumberType.{NumberType}
 use Rattle.lra_base.specs.declared.refusals.Place.{Place}
-use Rattle.lra_tree.specs.Trees as tree
+use Rattle.lra_syntax.specs.Trees as tree
 use Rattle.lra_program.specs.Program.{BlockItems, no_more}
 use Rattle.lra_meaning.specs.Scope.{Entry, Scope, with_local, declarator_entry, with_declarators, inner, for_scope}
-use Rattle.lra_tree.specs.Labels.{init_labels, step_labels, stmt_labels, cases_labels, live_in_for}
+use Rattle.lra_syntax.specs.Labels.{init_labels, step_labels, stmt_labels, cases_labels, live_in_for}
 use Rattle.lra_meaning.specs.Resolve.{resolve_assign, resolve_declarators, resolve_init, resolve_step, init_count, step_count, stmt_count, items_count, declarator_count, resolve_stmt, resolve_cases, resolve_items}
 use Rattle.lra_meaning.specs.Resolve.{resolve_function, resolve_parts}
 use Rattle.lra_program.specs.WellFormed.{stmt_numbers, cases_numbers, items_numbers, function_numbers}
@@ -160,7 +160,7 @@ module _ (F : List tree.FunctionTree) where
       run_then n m (n + suc (items_count f.body)) (items_numbers (resolve_function F outside n f).body) (m ∷ []) (items_run n _ f.body) (refl, omega arith)
 
   -- the labels of a source's functions
-  pub parts_run : (n : ℕ) (outside : List Entry) (ps : List tree.PartTree) → (m : ℕ) × IsRun n (flat_map function_numbers (resolve_parts F outside n ps)) m
+  pub parts_run : (n : ℕ) (outside : List Entry) (ps : List tree.ExternalTree) → (m : ℕ) × IsRun n (flat_map function_numbers (resolve_parts F outside n ps)) m
   parts_run n outside [] = (n, refl)
   parts_run n outside (tree.prototype ∷ ps) = parts_run n outside ps
   parts_run n outside (tree.globals g ∷ ps) = parts_run n _ ps

@@ -5,33 +5,33 @@ use Rattle.std.specs.Prelude.{◌≤◌}
 use Rattle.lra_base.specs.declared.refusals.Place.{Place}
 use Rattle.lra_base.specs.declared.refusals.Cause.{Cause}
 use Rattle.lra_base.specs.declared.refusals.Cause.TheVariants.{UnknownName, DuplicateName, Misplaced, BadCall, Recursive, NotArray}
-use Rattle.lra_tree.specs.declared.tokens.Mark.TheVariants as mark
-use Rattle.lra_tree.specs.declared.trees.Identifier.{Identifier}
-use Rattle.lra_tree.specs.Trees.{no_items, declaration, statement, FileTree, assign, break, set, set_element, expression}
+use Rattle.lra_syntax.specs.declared.tokens.Mark.TheVariants as mark
+use Rattle.lra_syntax.specs.declared.trees.Identifier.{Identifier}
+use Rattle.lra_syntax.specs.Trees.{no_items, declaration, statement, FileTree, assign, break, set, set_element, expression}
 use Rattle.lra_base.specs.Places.{greatest_length}
-use Rattle.lra_tree.specs.Tokens.{tokens_of, end_token}
-use Rattle.lra_tree.specs.Grammar.{Spells}
-use Rattle.lra_tree.proofs.TreeSamples.{at, x_at, main_of, declared_as, number}
-use Rattle.lra_tree.proofs.Lexemes.{Item, written, reading, all_lexed}
-use Rattle.lra_tree.proofs.LexedByTest.{space, sign, word_of, one, is_written, are_read_by}
+use Rattle.lra_syntax.specs.Tokens.{tokens_of, end_token}
+use Rattle.lra_syntax.specs.Grammar.{Spells}
+use Rattle.lra_syntax.proofs.TreeSamples.{at, x_at, main_of, declared_as, literal_text}
+use Rattle.lra_syntax.proofs.Lexemes.{ExternalDeclaration, written, reading, all_lexed}
+use Rattle.lra_syntax.proofs.LexedByTest.{space, sign, word_of, one, is_written, are_read_by}
 use Rattle.lra_meaning.specs.Refuse.{Refuse, RefusesTree, bad_tree, bad_name, recursive, Accepts}
 use Rattle.lra_meaning.proofs.NameExamples.{calls_with_one, itself, is_recursive}
-use Rattle.lra_readers.specs.Reading.{Text, loop}
-use Rattle.lra_readers.specs.Expressions.{unary_at, tests}
-use Rattle.lra_readers.specs.Statements.{levels}
-use Rattle.lra_readers.specs.Files.{file_at}
-use Rattle.lra_readers.proofs.Answered.{tree_found}
-use Rattle.lra_readers.proofs.FaultExamples.{all_inner, no_end}
+use Rattle.lra_parser_spec.specs.Reading.{Text, loop}
+use Rattle.lra_parser_spec.specs.Expressions.{unary_at, tests}
+use Rattle.lra_parser_spec.specs.Statements.{levels}
+use Rattle.lra_parser_spec.specs.Files.{file_at}
+use Rattle.lra_parser_spec.proofs.Answered.{tree_found}
+use Rattle.lra_parser_spec.proofs.FaultExamples.{all_inner, no_end}
 
 -- reading a source that is written out -----------------------------------------------------------------------------
 
-abbrev inner_tokens : List Item → Text
+abbrev inner_tokens : List ExternalDeclaration → Text
 inner_tokens xs = tokens_of (reading [] xs)
 
-abbrev all_tokens : List ℕ → List Item → Text
+abbrev all_tokens : List ℕ → List ExternalDeclaration → Text
 all_tokens source xs = inner_tokens xs ++ end_token source ∷ []
 
-refused : (source : List ℕ) (xs : List Item) (t : FileTree) (c : Cause) (p : Place) → source ≡ written xs → is_written [] xs ≡ true → length source ≤ greatest_length
+refused : (source : List ℕ) (xs : List ExternalDeclaration) (t : FileTree) (c : Cause) (p : Place) → source ≡ written xs → is_written [] xs ≡ true → length source ≤ greatest_length
     → all_inner (inner_tokens xs) ≡ true → file_at 63 (all_tokens source xs) ≡ Ok (t, []) → RefusesTree t c p → Refuse Spells source c p
 refused source xs t c p is so few inner parsed refuses =
     bad_tree (all_tokens source xs) t c p few (all_lexed source xs is (are_read_by [] xs so))
@@ -40,13 +40,13 @@ refused source xs t c p is so few inner parsed refuses =
     refuses
 
 -- `int main(void){`, and what stands behind it
-abbrev main_head : List Item → List Item
+abbrev main_head : List ExternalDeclaration → List ExternalDeclaration
 main_head xs =
     sign mark.Int ∷ space ∷ word_of (codes "main") ∷ sign mark.OpenParen ∷ sign mark.Void ∷ sign mark.CloseParen ∷ sign mark.OpenBrace ∷ xs
 
 -- an accepted source -----------------------------------------------------------------------------------------------
 
-abbrev empty_main : List Item
+abbrev empty_main : List ExternalDeclaration
 empty_main = main_head (sign mark.CloseBrace ∷ [])
 
 abbrev empty_tree : FileTree
@@ -83,12 +83,12 @@ empty_accepted = record {
 
 -- faults of names --------------------------------------------------------------------------------------------------
 
-abbrev sets_unknown : List Item
+abbrev sets_unknown : List ExternalDeclaration
 sets_unknown =
     main_head (space ∷ word_of (codes "x") ∷ space ∷ sign mark.Assign ∷ space ∷ one ∷ sign mark.Semicolon ∷ space ∷ sign mark.CloseBrace ∷ [])
 
 abbrev unknown_tree : FileTree
-unknown_tree = main_of (statement (assign (set (x_at 17) (expression (number 1)))) no_items) 24
+unknown_tree = main_of (statement (assign (set (x_at 17) (expression (literal_text 1)))) no_items) 24
 
 unknown_read : file_at 63 (all_tokens (codes "int main(void){ x = 1; }") sets_unknown) ≡ Ok (unknown_tree, [])
 unfolding loop unary_at tests levels
@@ -100,7 +100,7 @@ unknown_name_refused =
     refused (codes "int main(void){ x = 1; }") sets_unknown unknown_tree UnknownName (at 17) refl refl (omega arith) refl unknown_read
     (bad_name (record { cause = UnknownName; place = at 17 }) [] refl)
 
-abbrev breaks_alone : List Item
+abbrev breaks_alone : List ExternalDeclaration
 breaks_alone = main_head (space ∷ sign mark.Break ∷ sign mark.Semicolon ∷ space ∷ sign mark.CloseBrace ∷ [])
 
 abbrev misplaced_tree : FileTree
@@ -116,7 +116,7 @@ misplaced_refused =
     refused (codes "int main(void){ break; }") breaks_alone misplaced_tree Misplaced (at 17) refl refl (omega arith) refl misplaced_read
     (bad_name (record { cause = Misplaced; place = at 17 }) [] refl)
 
-abbrev declares_twice : List Item
+abbrev declares_twice : List ExternalDeclaration
 declares_twice =
     main_head (space ∷ sign mark.Long ∷ space ∷ word_of (codes "x") ∷ sign mark.Semicolon ∷ space ∷ sign mark.Long ∷ space ∷ word_of (codes "x") ∷ sign mark.Semicolon ∷ space
     ∷ sign mark.CloseBrace ∷ [])
@@ -135,14 +135,14 @@ duplicate_name_refused =
     refused (codes "int main(void){ long x; long x; }") declares_twice duplicate_tree DuplicateName (at 30) refl refl (omega arith) refl duplicate_read
     (bad_name (record { cause = DuplicateName; place = at 30 }) [] refl)
 
-abbrev indexes_scalar : List Item
+abbrev indexes_scalar : List ExternalDeclaration
 indexes_scalar =
     main_head (space ∷ sign mark.Long ∷ space ∷ word_of (codes "x") ∷ sign mark.Semicolon ∷ space ∷ word_of (codes "x") ∷ sign mark.OpenBracket ∷ one
     ∷ sign mark.CloseBracket ∷ sign mark.Assign ∷ one ∷ sign mark.Semicolon ∷ space ∷ sign mark.CloseBrace ∷ [])
 
 abbrev indexed_tree : FileTree
 indexed_tree =
-    main_of (declaration (declared_as (x_at 22) None) (statement (assign (set_element (x_at 25) (number 1) (expression (number 1)))) no_items)) 33
+    main_of (declaration (declared_as (x_at 22) None) (statement (assign (set_element (x_at 25) (literal_text 1) (expression (literal_text 1)))) no_items)) 33
 
 indexed_read : file_at 63 (all_tokens (codes "int main(void){ long x; x[1]=1; }") indexes_scalar) ≡ Ok (indexed_tree, [])
 unfolding loop unary_at tests levels
@@ -158,10 +158,10 @@ not_array_refused =
 -- calls ------------------------------------------------------------------------------------------------------------
 
 -- `void f(void){`, and what stands behind it
-abbrev f_head : List Item → List Item
+abbrev f_head : List ExternalDeclaration → List ExternalDeclaration
 f_head xs = sign mark.Void ∷ space ∷ word_of (codes "f") ∷ sign mark.OpenParen ∷ sign mark.Void ∷ sign mark.CloseParen ∷ sign mark.OpenBrace ∷ xs
 
-abbrev one_too_many : List Item
+abbrev one_too_many : List ExternalDeclaration
 one_too_many =
     f_head (sign mark.CloseBrace ∷ space
     ∷ main_head (space ∷ word_of (codes "f") ∷ sign mark.OpenParen ∷ one ∷ sign mark.CloseParen ∷ sign mark.Semicolon ∷ space ∷ sign mark.CloseBrace ∷ []))
@@ -176,7 +176,7 @@ bad_call_refused =
     refused (codes "void f(void){} int main(void){ f(1); }") one_too_many calls_with_one BadCall (at 32) refl refl (omega arith) refl bad_call_read
     (bad_name (record { cause = BadCall; place = at 32 }) [] refl)
 
-abbrev calls_itself : List Item
+abbrev calls_itself : List ExternalDeclaration
 calls_itself =
     f_head (space ∷ word_of (codes "f") ∷ sign mark.OpenParen ∷ sign mark.CloseParen ∷ sign mark.Semicolon ∷ space ∷ sign mark.CloseBrace ∷ space
     ∷ main_head (sign mark.CloseBrace ∷ []))

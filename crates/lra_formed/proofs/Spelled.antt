@@ -4,18 +4,19 @@ use Rattle.std.specs.Prelude.{pos, IsTrue}
 use Rattle.std.specs.List.{AllByRecursion}
 use Rattle.lra_base.specs.declared.number_types.NumberType.{NumberType}
 use Rattle.lra_base.specs.NumberTypes.{fits}
-use Rattle.lra_tree.specs.declared.tokens.Token.{Token}
-use Rattle.lra_tree.specs.declared.tokens.Kind.TheVariants.{Number}
-use Rattle.lra_tree.specs.Trees as tree
-use Rattle.lra_readers.specs.Files.{IsSmallKind}
-use Rattle.lra_readers.proofs.Ended.{lexed_small}
-use Rattle.lra_tree.specs.Tokens as lexical
-use Rattle.lra_tree.specs.Texts.{Piece, Pieces, plain, Texts, ◌⋅◌, further, separated}
-use Rattle.lra_tree.specs.Texts as text
-use Rattle.lra_tree.specs.Grammar.{IsUnary, IsTerm, IsExpr, IsNegation, IsTest, IsConjunction, IsCond, InParens, IsCall, IsRvalue, IsAssign, IsGiven, IsShape}
-use Rattle.lra_tree.specs.Grammar.{IsDeclarator, IsDeclaration, IsInit}
-use Rattle.lra_tree.specs.Grammar.{in_brackets, IsForTest, IsForStep, IsReturned, opened_by, level_of, IsStmt, AreCases, AreLabelled, AreStated, AreItems}
-use Rattle.lra_tree.specs.Grammar.{IsPart, AreParts, Spells}
+use Rattle.lra_syntax.specs.declared.tokens.Token.{Token}
+use Rattle.lra_syntax.specs.declared.tokens.Kind.TheVariants.{Number}
+use Rattle.lra_syntax.specs.Trees as tree
+use Rattle.lra_parser_spec.specs.Files.{IsSmallKind}
+use Rattle.lra_parser_spec.proofs.Ended.{lexed_small}
+use Rattle.lra_syntax.specs.Tokens as lexical
+use Rattle.lra_syntax.specs.Texts.{Piece, Pieces, plain, Texts, ◌⋅◌, further, separated}
+use Rattle.lra_syntax.specs.Texts as text
+use Rattle.lra_syntax.specs.Grammar.{IsUnary, IsTerm, IsExpr, IsNegation, IsTest, IsConjunction, IsCond, InParens, IsCall, IsRvalue, IsAssign, IsGiven}
+use Rattle.lra_syntax.specs.Grammar.{IsScalarOrArray}
+use Rattle.lra_syntax.specs.Grammar.{IsDeclarator, IsDeclaration, IsInit}
+use Rattle.lra_syntax.specs.Grammar.{in_brackets, IsForTest, IsForStep, IsReturned, opened_by, level_of, IsStmt, AreCases, AreLabelled, AreStated, AreItems}
+use Rattle.lra_syntax.specs.Grammar.{IsExternalDeclaration, AreExternalDeclarations, Spells}
 use Rattle.lra_formed.specs.Literals.{IsSmallUnary, IsSmallTerm, IsSmallExpr, IsSmallNegation, IsSmallTest, IsSmallConjunction, IsSmallCond, IsSmallCall, IsSmallRvalue, IsSmallGiven, IsSmallAssign}
 use Rattle.lra_formed.specs.Literals.{IsSmallShape, IsSmallDeclarator, IsSmallDeclaration, IsSmallInit, IsSmallForTest, IsSmallStep, IsSmallStmt, AreSmallCases}
 use Rattle.lra_formed.specs.Literals.{AreSmallItems, IsSmallPart, HasSmallLiterals}
@@ -48,7 +49,7 @@ front x y z e h = in_front x y (subst AreSmall e h)
 back : (x y z : Pieces) → z ≡ x ++ y → AreSmall z → AreSmall y
 back x y z e h = in_back x y (subst AreSmall e h)
 
-small_number : (t : NumberType) (n : ℕ) (z : Pieces) → text.number t n z → AreSmall z → IsTrue (fits t (pos n))
+small_number : (t : NumberType) (n : ℕ) (z : Pieces) → text.literal_text t n z → AreSmall z → IsTrue (fits t (pos n))
 small_number t n z (at, e) h = let all : AreSmall ((record { kind = Number t n; place = at }, 0) ∷ []) = subst AreSmall e h in all.0
 
 -- each of the items with commas between
@@ -144,7 +145,7 @@ small_returned : (l : ℕ) (a : Option tree.RvalueTree) (z : Pieces) → IsRetur
 small_returned l None z s h = tt
 small_returned l (Some a) z s h = small_rvalue l a z s h
 
-small_shape : (l : ℕ) (d : tree.ShapeTree tree.RvalueTree) (z : Pieces) → IsShape (IsGiven l) d z → AreSmall z → IsSmallShape d
+small_shape : (l : ℕ) (d : tree.ScalarOrArrayTree tree.RvalueTree) (z : Pieces) → IsScalarOrArray (IsGiven l) d z → AreSmall z → IsSmallShape d
 small_shape l (tree.scalar a) z s h = small_given l a z s h
 small_shape l (tree.array n) z s h = tt
 
@@ -228,13 +229,13 @@ mutual
 
 -- the whole --------------------------------------------------------------------------------------------------------
 
-small_part : (p : tree.PartTree) (z : Pieces) → IsPart p z → AreSmall z → IsSmallPart p
+small_part : (p : tree.ExternalTree) (z : Pieces) → IsExternalDeclaration p z → AreSmall z → IsSmallPart p
 small_part tree.prototype z s h = tt
 small_part (tree.globals g) z s h = tt
 small_part (tree.function f) z (x, y, e, head, (x2, y2, e2, opening, (x3, y3, e3, parameters, (x4, y4, e4, closing, (x5, y5, e5, begin, (x6, y6, e6, s, end)))))) h =
     small_items 1 f.body x6 s (front x6 y6 y5 e6 (back x5 y5 y4 e5 (back x4 y4 y3 e4 (back x3 y3 y2 e3 (back x2 y2 y e2 (back x y z e h))))))
 
-small_parts : (ps : List tree.PartTree) (z : Pieces) → AreParts ps z → AreSmall z → AllByRecursion IsSmallPart ps
+small_parts : (ps : List tree.ExternalTree) (z : Pieces) → AreExternalDeclarations ps z → AreSmall z → AllByRecursion IsSmallPart ps
 small_parts [] z s h = tt
 small_parts (p ∷ ps) z (x, y, e, s, r) h = (small_part p x s (front x y z e h), small_parts ps y r (back x y z e h))
 

@@ -9,14 +9,14 @@ use Rattle.std.proofs.lemmas.Option.{same_Some, none-some, slice_get_within, get
 use Rattle.lra_base.specs.declared.number_types.NumberType.{NumberType}
 use Rattle.lra_base.specs.declared.number_types.NumberType.TheVariants.{Int, Long}
 use Rattle.lra_base.specs.NumberTypes.{fits}
-use Rattle.lra_tree.specs.declared.trees.Parameter.{Parameter}
-use Rattle.lra_tree.specs.declared.trees.SignedLiteral.{SignedLiteral}
-use Rattle.lra_tree.specs.Trees as tree
+use Rattle.lra_syntax.specs.declared.trees.Parameter.{Parameter}
+use Rattle.lra_syntax.specs.declared.trees.SignedLiteral.{SignedLiteral}
+use Rattle.lra_syntax.specs.Trees as tree
 use Rattle.lra_program.specs.Program.{Function, Program}
 use Rattle.lra_program.specs.ProgramViews.{function_or}
 use Rattle.lra_program.specs.declared.program.GlobalVariable.{GlobalVariable}
 use Rattle.lra_meaning.specs.Scope.{Entry, width_of_all, parameter_entry, global_entries, function_scope}
-use Rattle.lra_tree.specs.Functions.{functions_in, functions_of, is_named, is_main, function_named}
+use Rattle.lra_syntax.specs.Functions.{functions_in, functions_of, is_named, is_main, function_named}
 use Rattle.lra_meaning.specs.NameFaults.{parameters_faults, function_faults, shape_faults, first_value_faults, globals_faults, global_names, parts_faults}
 use Rattle.lra_meaning.specs.NameFaults.{name_faults}
 use Rattle.lra_meaning.specs.Resolve.{function_place, items_count, resolve_items, resolve_function, value_or_zero, variables_by, globals_in, resolve_parts}
@@ -41,7 +41,7 @@ first_fits Int None e = refl
 first_fits Long None e = refl
 first_fits t (Some v) e = is_not (fits t v.value) (none_if (not (fits t v.value)) _ v.place e)
 
-has_then : (t : NumberType) (shape : tree.ShapeTree SignedLiteral) (more rest : List GlobalVariable) → shape_faults (first_value_faults t) shape ≡ []
+has_then : (t : NumberType) (shape : tree.ScalarOrArrayTree SignedLiteral) (more rest : List GlobalVariable) → shape_faults (first_value_faults t) shape ≡ []
     → AllByRecursion HasItsType (more ++ rest) → AllByRecursion HasItsType ((variables_by t shape ++ more) ++ rest)
 has_then t (tree.scalar v) more rest e h = (first_fits t v e, h)
 has_then t (tree.array n) more rest e h = h
@@ -58,7 +58,7 @@ have_then t names (g ∷ gs) rest e h =
     has_then t g.shape (flat_map (variables_of t) gs) rest (none_right _ (shape_faults (first_value_faults t) g.shape) front)
     (have_then t (names ++ g.name.word ∷ []) gs rest (none_right _ later e) h)
 
-globals_have_types : (F : List tree.FunctionTree) (names : List (List ℕ)) (outside : List Entry) (ps : List tree.PartTree) → parts_faults F names outside ps ≡ [] →
+globals_have_types : (F : List tree.FunctionTree) (names : List (List ℕ)) (outside : List Entry) (ps : List tree.ExternalTree) → parts_faults F names outside ps ≡ [] →
     AllByRecursion HasItsType (globals_in ps)
 globals_have_types F names outside [] e = tt
 globals_have_types F names outside (tree.prototype ∷ ps) e = globals_have_types F names outside ps e
@@ -91,7 +91,7 @@ module _ (P : Program) (F : List tree.FunctionTree) (callees : AreCallees P F) w
       subst (λ (k : ℕ). AreGoodItems P no_jumps k body) (sym (types_length f.parameters)) (good_items P F callees (is_some f.result_type) no_jumps n (length f.parameters) (function_scope outside f.parameters) f.body
       (record { globals = few; locals = parameters_width f.parameters }) small (none_right (parameters_faults [] f.parameters) _ e))
 
-  good_functions : (n : ℕ) (names : List (List ℕ)) (outside : List Entry) (ps : List tree.PartTree)
+  good_functions : (n : ℕ) (names : List (List ℕ)) (outside : List Entry) (ps : List tree.ExternalTree)
       → width_of_all outside + length (globals_in ps) ≤ length P.globals → AllByRecursion IsSmallPart ps → parts_faults F names outside ps ≡ []
       → AllByRecursion (IsGoodFunction P) (resolve_parts F outside n ps)
   good_functions n names outside [] few small e = tt
@@ -122,7 +122,7 @@ callee_case : (b : Bool) (first f : tree.FunctionTree) (found : Option tree.Func
 callee_case true first f found g gs k same later e = (g, refl, same ∙ ap (λ (h : tree.FunctionTree). length h.parameters) (same_Some first f e))
 callee_case false first f found g gs k same later e = later e
 
-callees_in : (F : List tree.FunctionTree) (n : ℕ) (outside : List Entry) (ps : List tree.PartTree) (name : List ℕ) (f : tree.FunctionTree) → function_named (functions_in ps) name ≡ Some f
+callees_in : (F : List tree.FunctionTree) (n : ℕ) (outside : List Entry) (ps : List tree.ExternalTree) (name : List ℕ) (f : tree.FunctionTree) → function_named (functions_in ps) name ≡ Some f
     → IsCallee (resolve_parts F outside n ps) (function_place (functions_in ps) name) f
 callees_in F n outside [] name f e = absurd (none-some f e)
 callees_in F n outside (tree.prototype ∷ ps) name f e = callees_in F n outside ps name f e
@@ -155,7 +155,7 @@ main_case : (b rest : Bool) (g x : Function) (gs : List Function) → (b ≡ tru
 main_case true rest g x gs alone later e = ((0, omega arith, refl), alone refl)
 main_case false rest g x gs alone later e = later_main g x gs (later e)
 
-main_in : (F : List tree.FunctionTree) (n : ℕ) (outside : List Entry) (ps : List tree.PartTree) → list_any is_main (functions_in ps) ≡ true
+main_in : (F : List tree.FunctionTree) (n : ℕ) (outside : List Entry) (ps : List tree.ExternalTree) → list_any is_main (functions_in ps) ≡ true
     → IsMain (resolve_parts F outside n ps) (main_of (functions_in ps) (resolve_parts F outside n ps))
 main_in F n outside [] e = absurd cc
 main_in F n outside (tree.prototype ∷ ps) e = main_in F n outside ps e

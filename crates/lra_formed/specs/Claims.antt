@@ -1,13 +1,13 @@
 -- Which programs are well-formed and have their arrays, and that points have a name for each variable.
 use Rattle.std.specs.Prelude.{◌≡◌, ℕ, List, [], length, Some, slice_get}
-use Rattle.lra_tree.specs.declared.tokens.Token.{Token}
-use Rattle.lra_tree.specs.Trees.{FileTree}
-use Rattle.lra_tree.specs.Tokens.{Lex}
-use Rattle.lra_tree.specs.Faults.{Language, IsTree}
+use Rattle.lra_syntax.specs.declared.tokens.Token.{Token}
+use Rattle.lra_syntax.specs.Trees.{FileTree}
+use Rattle.lra_syntax.specs.Tokens.{Lex}
+use Rattle.lra_syntax.specs.Faults.{Language, IsTree}
 use Rattle.lra_meaning.specs.NameFaults.{name_faults}
 use Rattle.lra_meaning.specs.Resolve.{resolve}
 use Rattle.lra_program.specs.WellFormed.{IsWellFormed}
-use Rattle.lra_tree.specs.Labels.{labels_of}
+use Rattle.lra_syntax.specs.Labels.{labels_of}
 use Rattle.lra_program.specs.Sites.{Site, sites_of}
 use Rattle.lra_meaning.specs.ShownNames.{shown_names}
 use Rattle.lra_meaning.specs.LiveNames.{globals_named, live_names}

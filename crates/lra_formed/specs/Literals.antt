@@ -1,15 +1,20 @@
 -- Trees whose literals in expressions are numbers of their types.
 use Rattle.std.specs.Prelude.{Option, Some, None, pos, IsTrue, ⊤, ◌∷◌}
 use Rattle.std.specs.List.{AllByRecursion}
-use Rattle.lra_tree.specs.Trees.{UnaryTree, negated, positive, literal, variable, input, group, element, TermTree}
-use Rattle.lra_tree.specs.Trees.{unary, times, over, modulo, ExprTree, term, plus, minus, NegationTree, opposite_again}
-use Rattle.lra_tree.specs.Trees.{value_of_unary, group_opposed, TestTree, opposite, value, compare, group_of}
-use Rattle.lra_tree.specs.Trees.{ConjunctionTree, test, and, CondTree, conjunction, or, CallTree, RvalueTree}
-use Rattle.lra_tree.specs.Trees.{expression, result, AssignTree, set, set_element, update, after, before, ShapeTree}
-use Rattle.lra_tree.specs.Trees.{scalar, array, DeclaratorTree, DeclarationTree, InitTree, no_init, declared, assigned}
-use Rattle.lra_tree.specs.Trees.{StmtTree, block, nothing, assign, call, if_only, if_else, while, for, break, continue}
-use Rattle.lra_tree.specs.Trees.{return, assert, assume, switch, CasesTree, no_cases, labelled, stated, ItemsTree}
-use Rattle.lra_tree.specs.Trees.{no_items, declaration, statement, PartTree, prototype, globals, function, FileTree}
+use Rattle.lra_syntax.specs.Trees.{UnaryTree, negated, positive, literal, variable, input, group, element, TermTree}
+use Rattle.lra_syntax.specs.Trees.{unary, times, over, modulo, ExprTree, term, plus, minus, NegationTree}
+use Rattle.lra_syntax.specs.Trees.{opposite_again}
+use Rattle.lra_syntax.specs.Trees.{value_of_unary, group_opposed, TestTree, opposite, value, compare, group_of}
+use Rattle.lra_syntax.specs.Trees.{ConjunctionTree, test, and, CondTree, conjunction, or, CallTree, RvalueTree}
+use Rattle.lra_syntax.specs.Trees.{expression, result, AssignTree, set, set_element, update, after, before}
+use Rattle.lra_syntax.specs.Trees.{ScalarOrArrayTree}
+use Rattle.lra_syntax.specs.Trees.{scalar, array, DeclaratorTree, DeclarationTree, InitTree, no_init, declared}
+use Rattle.lra_syntax.specs.Trees.{assigned}
+use Rattle.lra_syntax.specs.Trees.{StmtTree, block, nothing, assign, call, if_only, if_else, while, for, break}
+use Rattle.lra_syntax.specs.Trees.{continue}
+use Rattle.lra_syntax.specs.Trees.{return, assert, assume, switch, CasesTree, no_cases, labelled, stated, ItemsTree}
+use Rattle.lra_syntax.specs.Trees.{no_items, declaration, statement, ExternalTree, prototype, globals, function}
+use Rattle.lra_syntax.specs.Trees.{FileTree}
 use Rattle.lra_base.specs.NumberTypes.{fits}
 
 -- expressions ------------------------------------------------------------------------------------------------------
@@ -78,7 +83,7 @@ IsSmallAssign (after x s) = ⊤
 IsSmallAssign (before at s x) = ⊤
 
 -- how many elements an array has is no expression
-abbrev pub IsSmallShape : ShapeTree RvalueTree → Type 0
+abbrev pub IsSmallShape : ScalarOrArrayTree RvalueTree → Type 0
 IsSmallShape (scalar e) = IsSmallGiven e
 IsSmallShape (array n) = ⊤
 
@@ -132,7 +137,7 @@ abbrev mutual
 
 -- the whole --------------------------------------------------------------------------------------------------------
 
-abbrev pub IsSmallPart : PartTree → Type 0
+abbrev pub IsSmallPart : ExternalTree → Type 0
 IsSmallPart prototype = ⊤
 IsSmallPart (globals g) = ⊤
 IsSmallPart (function f) = AreSmallItems f.body

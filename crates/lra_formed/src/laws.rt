@@ -1,6 +1,6 @@
 //! Laws: each of these does nothing, and its contract is the theorem.
 
-ghost use Rattle.lra_tree.specs.Grammar.{Spells};
+ghost use Rattle.lra_syntax.specs.Grammar.{Spells};
 ghost use Rattle.lra_meaning.specs.Refuse.{AcceptedAreWellFormed};
 ghost use Rattle.lra_formed.specs.Claims.{FaultlessAreWellFormed, LiteralsAreSmall, ReadAreWellFormed};
 ghost use Rattle.lra_formed.specs.Claims.{FaultlessHaveArrays, NamesAreAsMany, ShownNamesAreAsMany};

@@ -1,7 +1,7 @@
 //! Programs of sources without faults of names are well-formed and have the arrays that they name, and their points have
 //! a name for each variable.
 //!
-//! The definitions stand in `lra_tree` (the grammar), `lra_meaning` (the faults of names, the program that a tree
+//! The definitions stand in `lra_syntax` (the grammar), `lra_meaning` (the faults of names, the program that a tree
 //! means) and `lra_program` (well-formed programs).
 #![tactic(auto)]
 

@@ -5,14 +5,14 @@ use Rattle.std.proofs.lemmas.Option.{none-some, same_Some}
 use Rattle.lra_base.specs.declared.refusals.Place.{Place}
 use Rattle.lra_base.specs.declared.refusals.Cause.{Cause}
 use Rattle.lra_base.specs.declared.refusals.Refusal.{Refusal}
-use Rattle.lra_tree.specs.declared.tokens.Token.{Token}
-use Rattle.lra_tree.specs.declared.trees.Identifier.{Identifier}
-use Rattle.lra_tree.specs.Trees.{FileTree}
-use Rattle.lra_tree.specs.Tokens.{Lex, OneReading}
-use Rattle.lra_tree.specs.Faults.{Language, IsTree, IsTextFault, OneTree, OneTextFault}
+use Rattle.lra_syntax.specs.declared.tokens.Token.{Token}
+use Rattle.lra_syntax.specs.declared.trees.Identifier.{Identifier}
+use Rattle.lra_syntax.specs.Trees.{FileTree}
+use Rattle.lra_syntax.specs.Tokens.{Lex, OneReading}
+use Rattle.lra_syntax.specs.Faults.{Language, IsTree, IsTextFault, OneTree, OneTextFault}
 use Rattle.lra_meaning.specs.NameFaults.{name_faults}
-use Rattle.lra_tree.specs.Labels.{labels_of}
-use Rattle.lra_tree.specs.Reach.{IsRecursive, IsFirstRecursive, NotRecursive}
+use Rattle.lra_syntax.specs.Labels.{labels_of}
+use Rattle.lra_syntax.specs.Reach.{IsRecursive, IsFirstRecursive, NotRecursive}
 use Rattle.lra_meaning.specs.Resolve.{resolve}
 use Rattle.lra_program.specs.Sites.{events_of}
 use Rattle.lra_meaning.specs.Refuse.{limit_fault, RefusesTree, bad_name, recursive, past_limit, Refuse, too_long, bad_token, bad_text, bad_tree, Accepts, OneAnswer}

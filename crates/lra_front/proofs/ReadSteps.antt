@@ -4,12 +4,12 @@ use Rattle.std.specs.Result.{IsErrAnd}
 use Rattle.lra_base.specs.declared.refusals.Cause.{Cause}
 use Rattle.lra_base.specs.declared.refusals.Cause.TheVariants.{TooLong}
 use Rattle.lra_base.specs.declared.refusals.Place.{Place}
-use Rattle.lra_tree.specs.declared.tokens.Token.{Token}
-use Rattle.lra_tree.specs.Trees.{FileTree}
+use Rattle.lra_syntax.specs.declared.tokens.Token.{Token}
+use Rattle.lra_syntax.specs.Trees.{FileTree}
 use Rattle.lra_base.specs.Places.{place_after, greatest_length}
-use Rattle.lra_tree.specs.Tokens.{Lex, IsTokenFault, OneReading}
-use Rattle.lra_tree.specs.Faults.{IsTree, IsTextFault}
-use Rattle.lra_tree.specs.Grammar.{Spells}
+use Rattle.lra_syntax.specs.Tokens.{Lex, IsTokenFault, OneReading}
+use Rattle.lra_syntax.specs.Faults.{IsTree, IsTextFault}
+use Rattle.lra_syntax.specs.Grammar.{Spells}
 use Rattle.lra_meaning.specs.Refuse as plain
 use Rattle.lra_meaning.specs.Refuse.{RefusesTree, Refuse, bad_tree}
 use Rattle.lra_meaning.specs.RefuseThreads.{Unread, too_long, bad_token, bad_text}
@@ -17,7 +17,7 @@ use Rattle.lra_base.specs.declared.error.SourceError.{SourceError}
 use Rattle.lra_base.specs.Refused.{IfRefusal, IfRefused}
 use Rattle.lra_base.proofs.Refusing.{refusal_by, refused_by, exit_refused}
 use Rattle.lra_base.proofs.Limit.{limit_is}
-use Rattle.lra_tree.specs.Constants.{constants_of}
+use Rattle.lra_syntax.specs.Constants.{constants_of}
 use Rattle.lra_front.specs.Stages.{HasConstants, HasTree, OneConstants}
 
 within : (source : List ℕ) → length source ≤ 65536 → length source ≤ greatest_length

@@ -8,17 +8,17 @@ use Rattle.lra_base.specs.Refused.{IfRefusal, IfRefused}
 use Rattle.lra_base.proofs.Refusing.{exit_refused, refusal_by}
 use Rattle.lra_base.specs.declared.refusals.Cause.{Cause}
 use Rattle.lra_base.specs.declared.refusals.Cause.TheVariants.{Recursive}
-use Rattle.lra_tree.specs.Reach.{IsFirstRecursive, NotRecursive}
-use Rattle.lra_tree.specs.Trees.{FileTree}
+use Rattle.lra_syntax.specs.Reach.{IsFirstRecursive, NotRecursive}
+use Rattle.lra_syntax.specs.Trees.{FileTree}
 use Rattle.lra_program.specs.Program.{Function, Program}
 use Rattle.lra_operations.specs.Tree.{Node}
 use Rattle.lra_program.specs.Sites.{Site, events_of, sites_of}
-use Rattle.lra_tree.specs.Labels.{Labelled, labels_of}
+use Rattle.lra_syntax.specs.Labels.{Labelled, labels_of}
 use Rattle.lra_meaning.specs.Resolve.{resolve, resolved_functions}
 use Rattle.lra_meaning.specs.NameFaults.{name_faults}
 use Rattle.lra_operations.specs.Agree.{IsInlinedTree, Agrees}
 use Rattle.lra_program.specs.WellFormed.{IsWellFormed}
-use Rattle.lra_tree.specs.Grammar.{Spells}
+use Rattle.lra_syntax.specs.Grammar.{Spells}
 use Rattle.lra_meaning.specs.Refuse.{limit_fault, RefusesTree, bad_name, recursive, past_limit, Accepts}
 use Rattle.lra_scopes.specs.Outcome.{first_fault, Tells}
 use Rattle.lra_opening.specs.declared.points.Limit.{Limit}

@@ -2,12 +2,12 @@
 
 ghost use Rattle.std.specs.Prelude.{◌≡◌, ◌<◌, ◌+◌, ◌^◌, length, map, IfOk};
 ghost use Rattle.lra_base.specs.Refused.{IfRefused};
-ghost use Rattle.lra_tree.specs.Views.{tree_view};
+ghost use Rattle.lra_syntax.specs.Views.{tree_view};
 ghost use Rattle.lra_program.specs.ProgramViews.{program_view};
 ghost use Rattle.lra_operations.specs.TreeViews.{node_view, site_view};
 ghost use Rattle.lra_meaning.specs.Resolve.{resolve};
-ghost use Rattle.lra_tree.specs.Grammar.{Spells};
-ghost use Rattle.lra_tree.specs.Labels.{labels_of};
+ghost use Rattle.lra_syntax.specs.Grammar.{Spells};
+ghost use Rattle.lra_syntax.specs.Labels.{labels_of};
 ghost use Rattle.lra_meaning.specs.Refuse.{Refuse};
 ghost use Rattle.lra_front.specs.Stages.{HasConstants, HasGraph, HasTree};
 
@@ -16,13 +16,13 @@ use crate::reading::{Reading, read_text};
 use lra_base::SourceError;
 use lra_names::Resolution;
 use lra_operations::InlinedProgram;
-use lra_tree::Tree;
+use lra_syntax::TranslationUnit;
 use std::alloc::Global;
 
 /// What is read of an accepted source: its tree, its constants, its program with the table of its labels, and the tree
 /// of operations of that with its points.
 pub struct Front {
-    pub tree: Tree,
+    pub tree: TranslationUnit,
     pub constants: Vec<i64>,
     pub resolution: Resolution,
     pub graph: InlinedProgram,

@@ -1,6 +1,6 @@
 //! Laws: each of these does nothing, and its contract is the theorem.
 
-ghost use Rattle.lra_tree.specs.Grammar.{Spells};
+ghost use Rattle.lra_syntax.specs.Grammar.{Spells};
 ghost use Rattle.lra_meaning.specs.Refuse.{OneAnswer};
 ghost use Rattle.lra_front.specs.Claims.{EachAnswer};
 ghost use Rattle.lra_front.specs.Stages.{OneConstants};
@@ -10,7 +10,7 @@ pub fn one_answer()
     ensures { OneAnswer Spells }
 {
     lra_lex::one_reading();
-    lra_readers::one_tree();
+    lra_parser_spec::one_tree();
 }
 
 /// A source has at most one list of constants.

@@ -2,14 +2,14 @@
 
 ghost use Rattle.std.specs.Prelude.{◌≡◌, [], map, IfOk, OnOk};
 ghost use Rattle.lra_base.specs.Refused.{IfRefused};
-ghost use Rattle.lra_tree.specs.Views.{tree_view};
+ghost use Rattle.lra_syntax.specs.Views.{tree_view};
 ghost use Rattle.lra_program.specs.ProgramViews.{program_view};
 ghost use Rattle.lra_operations.specs.TreeViews.{node_view, site_view};
 ghost use Rattle.lra_meaning.specs.NameFaults.{name_faults};
 ghost use Rattle.lra_meaning.specs.Resolve.{resolve, resolved_functions};
 ghost use Rattle.lra_program.specs.WellFormed.{IsWellFormed};
-ghost use Rattle.lra_tree.specs.Labels.{labels_of};
-ghost use Rattle.lra_tree.specs.Reach.{NotRecursive};
+ghost use Rattle.lra_syntax.specs.Labels.{labels_of};
+ghost use Rattle.lra_syntax.specs.Reach.{NotRecursive};
 ghost use Rattle.lra_meaning.specs.Refuse.{RefusesTree};
 ghost use Rattle.lra_front.specs.Stages.{HasGraph, IsRecursionRefusal};
 
@@ -18,11 +18,11 @@ use lra_calls::first_recursive;
 use lra_graph::{GraphError, build, refusal};
 use lra_names::{Resolution, resolve};
 use lra_operations::InlinedProgram;
-use lra_tree::Tree;
+use lra_syntax::TranslationUnit;
 use std::alloc::Global;
 
 /// The program of a source without faults of names, and the table of its labels; or the first such fault.
-pub fn program_of(alloc: Global, tree: &Tree) -> Result<Resolution, SourceError>
+pub fn program_of(alloc: Global, tree: &TranslationUnit) -> Result<Resolution, SourceError>
     ensures clean { OnOk result (name_faults (tree_view tree.now) ≡ []) }
     ensures found { IfOk result (λ r. program_view r.program ≡ resolve (tree_view tree.now)) }
     ensures labelled { IfOk result (λ r. r.labels.labels ≡ labels_of (tree_view tree.now)) }
@@ -34,7 +34,11 @@ pub fn program_of(alloc: Global, tree: &Tree) -> Result<Resolution, SourceError>
 
 /// That no function reaches itself by calls, or the refusal of the first call by which one does.
 #[tactic(auto, using(crate::proofs::StageSteps::first_refused))]
-pub fn check_calls(alloc: Global, tree: &Tree, resolution: &Resolution) -> Result<(), SourceError>
+pub fn check_calls(
+    alloc: Global,
+    tree: &TranslationUnit,
+    resolution: &Resolution,
+) -> Result<(), SourceError>
     requires functions { (program_view resolution.now.program).functions
         ≡ resolved_functions (tree_view tree.now) }
     requires labels { resolution.now.labels.labels ≡ labels_of (tree_view tree.now) }
@@ -54,7 +58,7 @@ pub fn check_calls(alloc: Global, tree: &Tree, resolution: &Resolution) -> Resul
 /// or for the first limit that it passes.
 pub fn graph_of(
     alloc: Global,
-    tree: &Tree,
+    tree: &TranslationUnit,
     resolution: &Resolution,
 ) -> Result<InlinedProgram, SourceError>
     requires program { program_view resolution.now.program ≡ resolve (tree_view tree.now) }

@@ -2,8 +2,8 @@
 
 ghost use Rattle.std.specs.Prelude.{◌<◌, ◌+◌, ◌^◌, length, IfOk};
 ghost use Rattle.lra_base.specs.Refused.{IfRefused};
-ghost use Rattle.lra_tree.specs.Views.{tree_view};
-ghost use Rattle.lra_tree.specs.Grammar.{Spells};
+ghost use Rattle.lra_syntax.specs.Views.{tree_view};
+ghost use Rattle.lra_syntax.specs.Grammar.{Spells};
 ghost use Rattle.lra_meaning.specs.Refuse.{Refuse};
 ghost use Rattle.lra_meaning.specs.RefuseThreads.{Unread};
 ghost use Rattle.lra_front.specs.Stages.{HasConstants, HasTree};
@@ -11,13 +11,13 @@ ghost use Rattle.lra_front.specs.Stages.{HasConstants, HasTree};
 use lra_base::{Cause, GREATEST_LENGTH, Refusal, SourceError, place_after};
 use lra_lex::{constants_of, tokens};
 use lra_parse::parse;
-use lra_tree::Tree;
+use lra_syntax::TranslationUnit;
 use std::alloc::Global;
 
 /// What is read of a text: its tree, and the constants among its tokens.
 #[derive(Drop)]
 pub struct Reading {
-    pub tree: Tree,
+    pub tree: TranslationUnit,
     pub constants: Vec<i64>,
 }
 

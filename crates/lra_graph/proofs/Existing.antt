@@ -11,7 +11,7 @@ use Rattle.lra_base.specs.declared.number_types.NumberType.{NumberType}
 use Rattle.lra_program.specs.declared.receivers.Receiver.{Receiver}
 use Rattle.lra_program.specs.Receivers.{variable_at, waiting_in, nobody, result_receiver}
 use Rattle.lra_operations.specs.Tree.{returned, Node, empty, point, act, seq, choose, leave, Arms, no_arms, entry, arm}
-use Rattle.lra_tree.specs.Labels.{Labelled}
+use Rattle.lra_syntax.specs.Labels.{Labelled}
 use Rattle.lra_program.specs.Sites.{Site, Event, comes, one_call_more, plain_site, live_after_items, rvalue_events, given_events, stmt_events, cases_events, items_events, function_events, call_events, events_of}
 use Rattle.lra_operations.specs.Inlined.{return_node, callee_node, loop_node, switch_node}
 use Rattle.lra_operations.specs.Agree.{IsInlinedTree}

@@ -8,7 +8,7 @@ use Rattle.std.proofs.lemmas.Option.{none-some, same_Some}
 use Rattle.lra_base.specs.declared.refusals.Refusal.{Refusal}
 use Rattle.lra_program.specs.Program.{BlockItems, Program}
 use Rattle.lra_program.specs.Step.{main_receiver}
-use Rattle.lra_tree.specs.Labels.{Labelled}
+use Rattle.lra_syntax.specs.Labels.{Labelled}
 use Rattle.lra_operations.specs.Tree.{Node, seq, point}
 use Rattle.lra_program.specs.Sites.{Site, Event, comes, one_call_more, plain_site, live_after_items, items_events, call_events, events_of, event_sites}
 use Rattle.lra_program.specs.Sites.{sites_of}

@@ -1,7 +1,7 @@
 //! What a program is refused for that passes a limit, where its source has these labels.
 
 ghost use Rattle.std.specs.Prelude.{◌≡◌};
-ghost use Rattle.lra_tree.specs.Labels.{label_at, called_place};
+ghost use Rattle.lra_syntax.specs.Labels.{label_at, called_place};
 ghost use Rattle.lra_opening.specs.Limits.{refusal_of};
 
 use lra_base::{Cause, Place, Refusal};

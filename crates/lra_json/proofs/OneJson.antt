@@ -14,11 +14,11 @@ use Rattle.serde_json.specs.Written.{compact_text, items_text, members_text}
 use Rattle.lra_options.specs.declared.options.Domain.{Domain}
 use Rattle.lra_options.specs.declared.options.Domain.TheVariants.{Poly, Box, Oct}
 use Rattle.lra_options.specs.declared.options.Options.{Options}
-use Rattle.lra_tree.specs.Texts.{Pieces}
-use Rattle.lra_tree.specs.Trees.{FileTree}
-use Rattle.lra_tree.specs.Grammar.{Spells}
-use Rattle.lra_tree.specs.Faults.{Language}
-use Rattle.lra_tree.specs.Labels.{Labelled, labels_of}
+use Rattle.lra_syntax.specs.Texts.{Pieces}
+use Rattle.lra_syntax.specs.Trees.{FileTree}
+use Rattle.lra_syntax.specs.Grammar.{Spells}
+use Rattle.lra_syntax.specs.Faults.{Language}
+use Rattle.lra_syntax.specs.Labels.{Labelled, labels_of}
 use Rattle.lra_meaning.specs.Resolve.{resolve}
 use Rattle.lra_meaning.specs.LiveNames.{live_names, globals_named}
 use Rattle.lra_program.specs.Sites.{Site, sites_of}

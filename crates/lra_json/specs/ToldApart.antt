@@ -1,7 +1,7 @@
 -- One JSON text, one report.
 use Rattle.std.specs.Prelude.{◌≡◌, ℕ, List}
 use Rattle.lra_options.specs.declared.options.Options.{Options}
-use Rattle.lra_tree.specs.Faults.{Language}
+use Rattle.lra_syntax.specs.Faults.{Language}
 use Rattle.lra_report.specs.Report.{Report}
 use Rattle.lra_report.specs.Listing.{IsReportOf}
 use Rattle.lra_report.specs.Spelled.{IsReadable, HasOneTree}

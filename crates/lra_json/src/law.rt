@@ -1,6 +1,6 @@
 //! One JSON text, one report.
 
-ghost use Rattle.lra_tree.specs.Grammar.{Spells};
+ghost use Rattle.lra_syntax.specs.Grammar.{Spells};
 ghost use Rattle.lra_json.specs.ToldApart.{OneSourceJson};
 ghost use Rattle.lra_report.specs.View.{report_of};
 

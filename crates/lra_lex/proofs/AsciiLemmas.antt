@@ -6,7 +6,7 @@ use Rattle.std.proofs.lemmas.Str.{IsUtf8-from_ascii}
 use Rattle.std.proofs.lemmas.Str.Ascii.{IsAscii-nil, IsAscii-cons}
 use Rattle.std.specs.List.{list_all}
 use Rattle.std.specs.Str.{IsAscii, IsUtf8}
-use Rattle.lra_tree.specs.Lexeme.{is_letter, is_word_byte, is_name_word}
+use Rattle.lra_syntax.specs.Lexeme.{is_letter, is_word_byte, is_name_word}
 
 ascii_letter : (c : ℕ) → is_letter c ≡ true → c < 128
 ascii_letter c h = grind (arith, nat_tests)

@@ -10,18 +10,18 @@ use Rattle.lra_base.specs.declared.refusals.Place.{Place}
 use Rattle.lra_base.specs.declared.refusals.Cause.{Cause}
 use Rattle.lra_base.specs.declared.refusals.Cause.TheVariants.{BadByte, BadLiteral}
 use Rattle.lra_base.specs.declared.refusals.Refusal.{Refusal}
-use Rattle.lra_tree.specs.declared.tokens.Kind.{Kind}
-use Rattle.lra_tree.specs.declared.tokens.Kind.TheVariants as kind
-use Rattle.lra_tree.specs.declared.tokens.Token.{Token}
-use Rattle.lra_tree.specs.Lexeme.{is_letter, is_digit, is_word_byte, is_name_word, is_among, further_words, suffixes, Base, octal, decimal_base, hexadecimal}
-use Rattle.lra_tree.specs.Lexeme.{number_behind, IsLiteral, greatest_literal, literal_type}
-use Rattle.lra_tree.specs.Lexeme.{mark_text, SpellsToken, name, mark_of, reserved}
+use Rattle.lra_syntax.specs.declared.tokens.Kind.{Kind}
+use Rattle.lra_syntax.specs.declared.tokens.Kind.TheVariants as kind
+use Rattle.lra_syntax.specs.declared.tokens.Token.{Token}
+use Rattle.lra_syntax.specs.Lexeme.{is_letter, is_digit, is_word_byte, is_name_word, is_among, further_words, suffixes, Base, octal, decimal_base, hexadecimal}
+use Rattle.lra_syntax.specs.Lexeme.{number_after, IsLiteral, greatest_literal, literal_type}
+use Rattle.lra_syntax.specs.Lexeme.{mark_text, SpellsToken, name, mark_of, reserved}
 use Rattle.lra_base.specs.Places.{place_from}
-use Rattle.lra_tree.specs.Tokens.{is_blank, bytes_of, Lex, IsTokenFault, end_token}
+use Rattle.lra_syntax.specs.Tokens.{is_blank, bytes_of, Lex, IsTokenFault, end_token}
 use Rattle.lra_lex.specs.declared.lexer.Found.{Found}
 use Rattle.lra_lex.specs.Literal.{base_at}
-use Rattle.lra_lex.specs.Places.{fresh_behind}
-use Rattle.lra_lex.specs.Front.{found_mark, operator_at, opens_comment, IsCloseAt, IsFirstClose, IsInclude, BeginsGap, HasNoGap}
+use Rattle.lra_lex.specs.Places.{fresh_after_bytes}
+use Rattle.lra_lex.specs.Prefixes.{found_mark, operator_at, opens_comment, IsCloseAt, IsFirstClose, IsInclude, BeginsGap, HasNoGap}
 use Rattle.lra_lex.specs.Read.{BeginsToken, HasFault, BeginsFound, FaultsAt, found_tokens}
 use Rattle.lra_lex.proofs.RunLemmas.{differ}
 use Rattle.lra_lex.proofs.MarkLemmas.{found_is, not_named}
@@ -162,7 +162,7 @@ some_or_none (x ∷ xs) = inr (λ e. cc)
 
 literals_within : (s : List ℕ) → is_among (suffix_of (base_at s) s) suffixes ≡ true → (base_at s ≢ octal → digits_of (base_at s) s ≢ []) → Literals s
 literals_within s suffix digits =
-    let n : ℕ = number_behind (base_at s) 0 (digits_of (base_at s) s) in
+    let n : ℕ = number_after (base_at s) 0 (digits_of (base_at s) s) in
     elim (cases_lt greatest_literal n) [
       | inl large ↦ inr (λ m lit small. let e : m ≡ n = (literal_cut s m lit).number in omega (arith, e, large, small))
       | inr small ↦ inl (n, cut_literal s n (record { suffix = suffix; digits = digits; number = refl }), small)
@@ -266,7 +266,7 @@ reads_on (suc n) source (c ∷ cs) tokens place fresh l r =
       | inl f ↦
           let k = f.0.length in
           let left : length (drop k rest) ≤ n = omega (arith, l, length-drop k rest, f.1.some) in
-          reads_on n source (drop k rest) (tokens ++ found_tokens f.0.kind place) (place_from place (take k rest)) (fresh_behind fresh (take k rest)) left
+          reads_on n source (drop k rest) (tokens ++ found_tokens f.0.kind place) (place_from place (take k rest)) (fresh_after_bytes fresh (take k rest)) left
           (read_on source rest (take k rest) (drop k rest) tokens _ place _ fresh _ k f.0.kind r f.1 refl refl refl refl refl)
     ]
 

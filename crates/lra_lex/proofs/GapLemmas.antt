@@ -6,10 +6,10 @@ use Rattle.std.proofs.lemmas.Bool.{and_from, and_parts, eqb-true}
 use Rattle.std.proofs.lemmas.Bool.Decides.{nat_tests}
 use Rattle.std.specs.List.{list_all, prefix_len}
 use Rattle.std.specs.Prelude.{codes}
-use Rattle.lra_tree.specs.Lexeme.{is_word_byte, IsOpen}
-use Rattle.lra_tree.specs.Tokens.{is_blank, is_space_or_tab, in_line, IsGap, blank, line_comment, block_comment, skipped_line, NoGap, IsLineEnd, IsLineFront, IsWordEnd}
-use Rattle.lra_lex.specs.Places.{fresh_behind}
-use Rattle.lra_lex.specs.Front.{opens_comment, IsCloseAt, IsFirstClose, IsInclude, BeginsGap, HasNoGap}
+use Rattle.lra_syntax.specs.Lexeme.{is_word_byte, IsOpen}
+use Rattle.lra_syntax.specs.Tokens.{is_blank, is_space_or_tab, in_line, IsGap, blank, line_comment, block_comment, skipped_line, NoGap, IsLineEnd, IsLineStart, IsWordEnd}
+use Rattle.lra_lex.specs.Places.{fresh_after_bytes}
+use Rattle.lra_lex.specs.Prefixes.{opens_comment, IsCloseAt, IsFirstClose, IsInclude, BeginsGap, HasNoGap}
 use Rattle.lra_lex.proofs.RunLemmas.{run_is, run_exact, Stops, differ}
 use Rattle.lra_lex.proofs.LineLemmas.{fresh_front, front_fresh}
 
@@ -50,7 +50,7 @@ star_open text n c front rest e =
 
 -- gaps -----------------------------------------------------------------------------------------------------------------------
 
-begins_gap : (fresh : Bool) (rest s a : List ℕ) (n : ℕ) → rest ≡ s ++ a → n ≡ length s → 0 < length s → ((before : List ℕ) → fresh ≡ fresh_behind true before → IsGap before s a) →
+begins_gap : (fresh : Bool) (rest s a : List ℕ) (n : ℕ) → rest ≡ s ++ a → n ≡ length s → 0 < length s → ((before : List ℕ) → fresh ≡ fresh_after_bytes true before → IsGap before s a) →
     BeginsGap fresh rest n
 begins_gap fresh rest s a n e f p g =
     let t : take n rest ≡ s = ap (take n) e ∙ take_at s a n (sym f) in
@@ -200,7 +200,7 @@ include_of rest blanks text after e b w l = record {
 }
 
 no_gap : (before rest : List ℕ) → is_blank (get_or rest 0 0) ≡ false → (get_or rest 0 0 ≡ 47 → get_or rest 1 0 ≡ 47 → ⊥) → (opens_comment rest ≡ true → IsOpen (drop 2 rest))
-    → (IsLineFront before → IsInclude rest → ⊥) → NoGap before rest
+    → (IsLineStart before → IsInclude rest → ⊥) → NoGap before rest
 no_gap before rest b l o i gap after e (blank c f h) = let g : is_blank c ≡ false = subst (λ (z : List ℕ). is_blank (get_or z 0 0) ≡ false) (e ∙ ap (λ (z : List ℕ). z ++ after) f) b in differ h g
 no_gap before rest b l o i gap after e (line_comment text f a k) =
     let g : rest ≡ (codes "//" ++ text) ++ after = e ∙ ap (λ (z : List ℕ). z ++ after) f in

@@ -5,10 +5,10 @@ use Rattle.std.proofs.lemmas.List.{append-nil, take_at, take-append-drop, length
 use Rattle.std.proofs.lemmas.Bool.{cases_lt, and_from, and_parts, leb-true, or_left, or_right}
 use Rattle.std.specs.List.{list_all, prefix_len}
 use Rattle.std.specs.Prelude.{codes}
-use Rattle.lra_tree.specs.declared.tokens.Mark.{Mark}
-use Rattle.lra_tree.specs.Lexeme.{is_word_byte, is_letter, is_digit, mark_text, Lexeme, word, number_word, mark_word, unclosed}
-use Rattle.lra_tree.specs.Tokens.{IsLongest}
-use Rattle.lra_lex.specs.Front.{opens_comment, found_mark, operator_at}
+use Rattle.lra_syntax.specs.declared.tokens.Mark.{Mark}
+use Rattle.lra_syntax.specs.Lexeme.{is_word_byte, is_letter, is_digit, mark_text, Lexeme, word, number_word, mark_word, unclosed}
+use Rattle.lra_syntax.specs.Tokens.{IsLongest}
+use Rattle.lra_lex.specs.Prefixes.{opens_comment, found_mark, operator_at}
 use Rattle.lra_lex.proofs.RunLemmas.{IsRun, differ, run_longest, run_exact}
 use Rattle.lra_lex.proofs.MarkLemmas.{mark_wordy, mark_short, mark_some, found_is, found_none}
 

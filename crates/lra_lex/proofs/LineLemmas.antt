@@ -6,14 +6,14 @@ use Rattle.std.proofs.lemmas.Bool.Decides.{nat_tests}
 use Rattle.std.specs.List.{list_all}
 use Rattle.lra_base.specs.declared.refusals.Place.{Place}
 use Rattle.lra_base.specs.Places.{next_place, place_from}
-use Rattle.lra_tree.specs.Tokens.{is_space_or_tab, IsLineFront}
-use Rattle.lra_lex.specs.Places.{fresh_behind}
+use Rattle.lra_syntax.specs.Tokens.{is_space_or_tab, IsLineStart}
+use Rattle.lra_lex.specs.Places.{fresh_after_bytes}
 
 pub place_from-append : (p : Place) (xs ys : List ℕ) → place_from p (xs ++ ys) ≡ place_from (place_from p xs) ys
 place_from-append p [] ys = refl
 place_from-append p (c ∷ xs) ys = place_from-append (next_place p c) xs ys
 
-pub fresh_behind-append : (f : Bool) (xs ys : List ℕ) → fresh_behind f (xs ++ ys) ≡ fresh_behind (fresh_behind f xs) ys
+pub fresh_behind-append : (f : Bool) (xs ys : List ℕ) → fresh_after_bytes f (xs ++ ys) ≡ fresh_after_bytes (fresh_after_bytes f xs) ys
 fresh_behind-append f [] ys = refl
 fresh_behind-append f (c ∷ xs) ys = fresh_behind-append (nat_eq c 10 || (is_space_or_tab c && f)) xs ys
 
@@ -27,27 +27,27 @@ within p (c ∷ xs) = let r = within (next_place p c) xs in let n = next_within 
 
 -- the test on the bytes before says what the front of a line is -------------------------------------------------------
 
-blanks_fresh : (blanks : List ℕ) → list_all is_space_or_tab blanks ≡ true → fresh_behind true blanks ≡ true
+blanks_fresh : (blanks : List ℕ) → list_all is_space_or_tab blanks ≡ true → fresh_after_bytes true blanks ≡ true
 blanks_fresh [] h = refl
 blanks_fresh (c ∷ blanks) h =
     let k = and_parts (is_space_or_tab c) (list_all is_space_or_tab blanks) h in
     let e : (nat_eq c 10 || (is_space_or_tab c && true)) ≡ true = grind (arith, nat_tests) in rw e (blanks_fresh blanks k.1)
 
-lines_fresh : (lines : List ℕ) → (lines ≡ []) ⊎ ((ls : List ℕ) × (lines ≡ ls ++ 10 ∷ [])) → fresh_behind true lines ≡ true
+lines_fresh : (lines : List ℕ) → (lines ≡ []) ⊎ ((ls : List ℕ) × (lines ≡ ls ++ 10 ∷ [])) → fresh_after_bytes true lines ≡ true
 lines_fresh lines (inl e) = rw e refl
 lines_fresh lines (inr (ls, e)) = rw (e, fresh_behind-append true ls (10 ∷ [])) refl
 
-pub front_fresh : (before : List ℕ) → IsLineFront before → fresh_behind true before ≡ true
+pub front_fresh : (before : List ℕ) → IsLineStart before → fresh_after_bytes true before ≡ true
 front_fresh before h = rw (h.parts, fresh_behind-append true h.lines h.blanks, lines_fresh h.lines h.whole_lines) (blanks_fresh h.blanks h.only_blanks)
 
-after_feed : (before : List ℕ) → IsLineFront (before ++ 10 ∷ [])
+after_feed : (before : List ℕ) → IsLineStart (before ++ 10 ∷ [])
 after_feed before = record { lines = before ++ 10 ∷ []; blanks = []; parts = sym (append-nil (before ++ 10 ∷ [])); whole_lines = inr (before, refl); only_blanks = refl }
 
 all_more : (xs : List ℕ) (c : ℕ) → list_all is_space_or_tab xs ≡ true → is_space_or_tab c ≡ true → list_all is_space_or_tab (xs ++ c ∷ []) ≡ true
 all_more [] c h k = rw k refl
 all_more (x ∷ xs) c h k = let s = and_parts (is_space_or_tab x) (list_all is_space_or_tab xs) h in rw s.0 (all_more xs c s.1 k)
 
-after_blank : (before : List ℕ) (c : ℕ) → is_space_or_tab c ≡ true → IsLineFront before → IsLineFront (before ++ c ∷ [])
+after_blank : (before : List ℕ) (c : ℕ) → is_space_or_tab c ≡ true → IsLineStart before → IsLineStart (before ++ c ∷ [])
 after_blank before c e h = record {
   lines = h.lines;
   blanks = h.blanks ++ c ∷ [];
@@ -56,16 +56,16 @@ after_blank before c e h = record {
   only_blanks = all_more h.blanks c h.only_blanks e;
 }
 
-one_more : (f : Bool) (before : List ℕ) (c : ℕ) → (f ≡ true → IsLineFront before) → (nat_eq c 10 || (is_space_or_tab c && f)) ≡ true → IsLineFront (before ++ c ∷ [])
+one_more : (f : Bool) (before : List ℕ) (c : ℕ) → (f ≡ true → IsLineStart before) → (nat_eq c 10 || (is_space_or_tab c && f)) ≡ true → IsLineStart (before ++ c ∷ [])
 one_more f before c h e = elim (or_cases (nat_eq c 10) (is_space_or_tab c && f) e) [
   | inl k ↦ let feed : c ≡ 10 = grind (arith, nat_tests) in rw feed (after_feed before)
   | inr k ↦ let s = and_parts (is_space_or_tab c) f k in after_blank before c s.0 (h s.1)
 ]
 
-fresh_on : (f : Bool) (before xs : List ℕ) → (f ≡ true → IsLineFront before) → fresh_behind f xs ≡ true → IsLineFront (before ++ xs)
+fresh_on : (f : Bool) (before xs : List ℕ) → (f ≡ true → IsLineStart before) → fresh_after_bytes f xs ≡ true → IsLineStart (before ++ xs)
 fresh_on f before [] h e = rw append-nil (h e)
 fresh_on f before (c ∷ xs) h e =
-    subst IsLineFront (append_assoc before (c ∷ []) xs) (fresh_on (nat_eq c 10 || (is_space_or_tab c && f)) (before ++ c ∷ []) xs (one_more f before c h) e)
+    subst IsLineStart (append_assoc before (c ∷ []) xs) (fresh_on (nat_eq c 10 || (is_space_or_tab c && f)) (before ++ c ∷ []) xs (one_more f before c h) e)
 
-pub fresh_front : (before : List ℕ) → fresh_behind true before ≡ true → IsLineFront before
+pub fresh_front : (before : List ℕ) → fresh_after_bytes true before ≡ true → IsLineStart before
 fresh_front before e = fresh_on true [] before (λ _. record { lines = []; blanks = []; parts = refl; whole_lines = inl refl; only_blanks = refl }) e

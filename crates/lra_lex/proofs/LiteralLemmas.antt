@@ -8,8 +8,8 @@ use Rattle.std.proofs.lemmas.Bool.Decides.{nat_tests}
 use Rattle.std.specs.List.{list_all, prefix_len}
 use Rattle.std.specs.Prelude.{◌≢◌, if◌then◌else◌}
 use Rattle.lra_base.specs.declared.number_types.NumberType.{NumberType}
-use Rattle.lra_tree.specs.Lexeme.{Base, octal, decimal_base, hexadecimal, base_number, is_digit_of, is_digit, is_between, digit_value, number_behind, IsFront, IsLiteral, suffixes, is_among, literal_type}
-use Rattle.lra_tree.specs.Lexeme.{greatest_literal}
+use Rattle.lra_syntax.specs.Lexeme.{Base, octal, decimal_base, hexadecimal, base_number, is_digit_of, is_digit, is_between, digit_value, number_after, IsBasePrefix, IsLiteral, suffixes, is_among, literal_type}
+use Rattle.lra_syntax.specs.Lexeme.{greatest_literal}
 use Rattle.lra_lex.specs.Literal.{base_at, front_size, IsTyped}
 use Rattle.lra_lex.proofs.RunLemmas.{run_is, run_exact, Stops}
 use Rattle.lra_lex.proofs.MarkLemmas.{among_all}
@@ -25,7 +25,7 @@ at_least : (n m : ℕ) → 1 ≤ m → n ≤ n * m
 at_least n m h = grind arith
 
 -- more digits make no smaller number
-pub number_grows : (b : Base) (n : ℕ) (cs : List ℕ) → n ≤ number_behind b n cs
+pub number_grows : (b : Base) (n : ℕ) (cs : List ℕ) → n ≤ number_after b n cs
 number_grows b n [] = omega arith
 number_grows b n (c ∷ cs) =
     let r = number_grows b (n * base_number b + digit_value c) cs in
@@ -33,8 +33,8 @@ number_grows b n (c ∷ cs) =
     omega (arith, r, k)
 
 pub number_more : (b : Base) (n i : ℕ) (digits : List ℕ) → i < length digits
-    → number_behind b (n * base_number b + digit_value (get_or digits i 0)) (drop (i + 1) digits) ≡ number_behind b n (drop i digits)
-number_more b n i digits h = ap (number_behind b n) (sym (drop_more digits i 0 h))
+    → number_after b (n * base_number b + digit_value (get_or digits i 0)) (drop (i + 1) digits) ≡ number_after b n (drop i digits)
+number_more b n i digits h = ap (number_after b n) (sym (drop_more digits i 0 h))
 
 -- the parts ------------------------------------------------------------------------------------------------------------------
 
@@ -64,7 +64,7 @@ no_x (c ∷ digits) suffix d s = let h = (and_parts (is_between 48 55 c) (list_a
 abbrev PartsAre : List ℕ → Base → List ℕ → List ℕ → Type 0
 PartsAre s base digits suffix = (base ≡ base_at s) × (drop (front_size base) s ≡ digits ++ suffix)
 
-parts_of : (base : Base) (front digits suffix : List ℕ) → IsFront base front digits → list_all (is_digit_of base) digits ≡ true → is_among suffix suffixes ≡ true
+parts_of : (base : Base) (front digits suffix : List ℕ) → IsBasePrefix base front digits → list_all (is_digit_of base) digits ≡ true → is_among suffix suffixes ≡ true
     → PartsAre ((front ++ digits) ++ suffix) base digits suffix
 parts_of octal front digits suffix b d s =
     subst (λ (z : List ℕ). PartsAre ((z ++ digits) ++ suffix) octal digits suffix) (sym b) (rw (no_x digits suffix d s) refl, refl)
@@ -88,15 +88,15 @@ suffix_of b s = drop (prefix_len (is_digit_of b) (body_of b s)) (body_of b s)
 pub record IsCut (s : List ℕ) (n : ℕ) : Type 0 where
   pub suffix : is_among (suffix_of (base_at s) s) suffixes ≡ true
   pub digits : base_at s ≢ octal → digits_of (base_at s) s ≢ []
-  pub number : n ≡ number_behind (base_at s) 0 (digits_of (base_at s) s)
+  pub number : n ≡ number_after (base_at s) 0 (digits_of (base_at s) s)
 
-some_digits : (base : Base) (front digits : List ℕ) → IsFront base front digits → base ≢ octal → digits ≢ []
+some_digits : (base : Base) (front digits : List ℕ) → IsBasePrefix base front digits → base ≢ octal → digits ≢ []
 some_digits octal front digits b n e = n refl
 some_digits hexadecimal front digits b n e = b.1 e
 some_digits decimal_base front digits (c, cs, b, f, p) n e = let g : c ∷ cs ≡ [] = sym f ∙ e in absurd (cc)
 
 -- the digits and the suffix are those of the word in its base
-parts_cut : (s : List ℕ) (base : Base) (front digits suffix : List ℕ) → s ≡ (front ++ digits) ++ suffix → IsFront base front digits
+parts_cut : (s : List ℕ) (base : Base) (front digits suffix : List ℕ) → s ≡ (front ++ digits) ++ suffix → IsBasePrefix base front digits
     → list_all (is_digit_of base) digits ≡ true → is_among suffix suffixes ≡ true
     → (base ≡ base_at s) × (digits_of (base_at s) s ≡ digits) × (suffix_of (base_at s) s ≡ suffix)
 parts_cut s base front digits suffix e b d k =
@@ -109,8 +109,8 @@ parts_cut s base front digits suffix e b d k =
     let ss : suffix_of (base_at s) s ≡ suffix = rw (size, body) (drop_at digits suffix (length digits) refl) in
     (p.0, ds, ss)
 
-cut_of : (s : List ℕ) (n : ℕ) (base : Base) (front digits suffix : List ℕ) → s ≡ (front ++ digits) ++ suffix → IsFront base front digits
-    → list_all (is_digit_of base) digits ≡ true → is_among suffix suffixes ≡ true → n ≡ number_behind base 0 digits → IsCut s n
+cut_of : (s : List ℕ) (n : ℕ) (base : Base) (front digits suffix : List ℕ) → s ≡ (front ++ digits) ++ suffix → IsBasePrefix base front digits
+    → list_all (is_digit_of base) digits ≡ true → is_among suffix suffixes ≡ true → n ≡ number_after base 0 digits → IsCut s n
 cut_of s n base front digits suffix e b d k v =
     let p = parts_cut s base front digits suffix e b d k in
     let ds : digits_of (base_at s) s ≡ digits = p.1 in
@@ -118,7 +118,7 @@ cut_of s n base front digits suffix e b d k v =
     record {
       suffix = rw ss k;
       digits = λ o f. some_digits base front digits b (λ g. o (sym p.0 ∙ g)) (sym ds ∙ f);
-      number = rw ds (subst (λ (z : Base). n ≡ number_behind z 0 digits) p.0 v);
+      number = rw ds (subst (λ (z : Base). n ≡ number_after z 0 digits) p.0 v);
     }
 
 pub literal_cut : (s : List ℕ) (n : ℕ) → IsLiteral s n → IsCut s n
@@ -148,7 +148,7 @@ two_are [] c d p e f = absurd (omega arith)
 two_are (x ∷ []) c d p e f = absurd (omega arith)
 two_are (x ∷ y ∷ s) c d p e f = cc
 
-decimal_front : (s : List ℕ) → nat_eq (get_or s 0 0) 48 ≡ false → digits_of decimal_base s ≢ [] → IsFront decimal_base [] (digits_of decimal_base s)
+decimal_front : (s : List ℕ) → nat_eq (get_or s 0 0) 48 ≡ false → digits_of decimal_base s ≢ [] → IsBasePrefix decimal_base [] (digits_of decimal_base s)
 decimal_front [] n k = absurd (k refl)
 decimal_front (c ∷ cs) n k = elim (cases_Bool (is_digit c)) [
   | inr h ↦ let e : digits_of decimal_base (c ∷ cs) ≡ [] = rw h refl in absurd (k e)
@@ -169,7 +169,7 @@ tells true false = refl
 tells false y = refl
 
 front_of : (s : List ℕ) (b : Base) → Tells b (nat_eq (get_or s 0 0) 48) (nat_eq (get_or s 1 0) 120 || nat_eq (get_or s 1 0) 88)
-    → (b ≢ octal → digits_of b s ≢ []) → IsFront b (take (front_size b) s) (digits_of b s)
+    → (b ≢ octal → digits_of b s ≢ []) → IsBasePrefix b (take (front_size b) s) (digits_of b s)
 front_of s octal t k = first_is s 48 (omega arith) (eqb-true (get_or s 0 0) 48 t)
 front_of s decimal_base t k = decimal_front s t (k (λ e. cc))
 front_of s hexadecimal t k = elim (or_cases (nat_eq (get_or s 1 0) 120) (nat_eq (get_or s 1 0) 88) t.1) [
@@ -195,7 +195,7 @@ cut_literal s n c =
 
 -- as the code cuts
 abbrev IsCutIn : Base → List ℕ → ℕ → Type 0
-IsCutIn b s n = (is_among (suffix_of b s) suffixes ≡ true) × (b ≢ octal → digits_of b s ≢ []) × (n ≡ number_behind b 0 (digits_of b s))
+IsCutIn b s n = (is_among (suffix_of b s) suffixes ≡ true) × (b ≢ octal → digits_of b s ≢ []) × (n ≡ number_after b 0 (digits_of b s))
 
 pub literal_in : (b : Base) (s : List ℕ) (n : ℕ) → b ≡ base_at s → IsCutIn b s n → IsLiteral s n
 literal_in b s n e c = let d = subst (λ (z : Base). IsCutIn z s n) e c in cut_literal s n (record { suffix = d.0; digits = d.1; number = d.2 })
@@ -206,8 +206,8 @@ cut_in b s n e l = let c = literal_cut s n l in subst (λ (z : Base). IsCutIn z 
 pub body_long : (b : Base) (s : List ℕ) → prefix_len (is_digit_of b) (body_of b s) ≤ length (body_of b s)
 body_long b s = prefix_len-le-length (is_digit_of b) (body_of b s)
 
-pub too_large : (b : Base) (n i r d : ℕ) (digits : List ℕ) → i < length digits → number_behind b n (drop i digits) ≡ number_behind b 0 digits
-    → r ≡ base_number b → d ≡ digit_value (get_or digits i 0) → greatest_literal < n * r + d → greatest_literal < number_behind b 0 digits
+pub too_large : (b : Base) (n i r d : ℕ) (digits : List ℕ) → i < length digits → number_after b n (drop i digits) ≡ number_after b 0 digits
+    → r ≡ base_number b → d ≡ digit_value (get_or digits i 0) → greatest_literal < n * r + d → greatest_literal < number_after b 0 digits
 too_large b n i r d digits h e f g l =
     let next : ℕ = n * base_number b + digit_value (get_or digits i 0) in
     let same : n * r + d ≡ next = cc in
@@ -221,19 +221,19 @@ pub record IsSplit (b : Base) (s digits suffix : List ℕ) : Type 0 where
   pub suffix_is : suffix ≡ suffix_of b s
 
 pub typed_in : (b : Base) (s digits suffix : List ℕ) (n : ℕ) (t : NumberType) → IsSplit b s digits suffix → is_among suffix suffixes ≡ true → (b ≢ octal → digits ≢ [])
-    → n ≡ number_behind b 0 digits → t ≡ literal_type suffix n → IsTyped s t n
+    → n ≡ number_after b 0 digits → t ≡ literal_type suffix n → IsTyped s t n
 typed_in b s digits suffix n t p f d h is =
     let g : is_among (suffix_of b s) suffixes ≡ true = rw p.suffix_is at f in
-    let k : n ≡ number_behind b 0 (digits_of b s) = rw p.digits_are at h in
+    let k : n ≡ number_after b 0 (digits_of b s) = rw p.digits_are at h in
     let l = literal_in b s n p.base (g, (λ o e. d o (p.digits_are ∙ e)), k) in
     let same : suffix ≡ l.suffix = p.suffix_is ∙ ap (λ (z : Base). suffix_of z s) p.base ∙ literal_suffix s n l in
     (l, is ∙ ap (λ (z : List ℕ). literal_type z n) same)
 
-pub none_in : (b : Base) (s digits suffix : List ℕ) → IsSplit b s digits suffix → greatest_literal < number_behind b 0 digits
+pub none_in : (b : Base) (s digits suffix : List ℕ) → IsSplit b s digits suffix → greatest_literal < number_after b 0 digits
     → (n : ℕ) → IsLiteral s n → n ≤ greatest_literal → ⊥
 none_in b s digits suffix p h n l k =
     let c = cut_in b s n p.base l in
-    let g : greatest_literal < number_behind b 0 (digits_of b s) = rw p.digits_are at h in omega (arith, g, c.2)
+    let g : greatest_literal < number_after b 0 (digits_of b s) = rw p.digits_are at h in omega (arith, g, c.2)
 
 -- what isn't well cut is no literal
 pub no_literal : (b : Base) (s digits suffix : List ℕ) → IsSplit b s digits suffix → (is_among suffix suffixes ≡ true → (b ≢ octal → digits ≢ []) → ⊥)

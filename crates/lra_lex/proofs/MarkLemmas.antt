@@ -3,11 +3,11 @@ use Rattle.std.proofs.Common.{◌≡◌, ℕ, Bool, true, false, not, ◌||◌, 
 use Rattle.std.proofs.lemmas.Bool.{cases_Bool, or_cases}
 use Rattle.std.proofs.lemmas.Slice.Eq.{bytes_eq-Decides}
 use Rattle.std.specs.List.{list_all}
-use Rattle.lra_tree.specs.declared.tokens.Mark.{Mark}
-use Rattle.lra_tree.specs.declared.tokens.Mark.TheVariants as mark
-use Rattle.lra_tree.specs.Lexeme.{is_word_byte, is_name_word, is_number_word, mark_text, is_among, named_words, further_words}
+use Rattle.lra_syntax.specs.declared.tokens.Mark.{Mark}
+use Rattle.lra_syntax.specs.declared.tokens.Mark.TheVariants as mark
+use Rattle.lra_syntax.specs.Lexeme.{is_word_byte, is_name_word, is_number_word, mark_text, is_among, named_words, further_words}
 use Rattle.lra_lex.specs.declared.marks.TheConstants.{MARKS}
-use Rattle.lra_lex.specs.Front.{found_mark}
+use Rattle.lra_lex.specs.Prefixes.{found_mark}
 
 -- no operator and no reserved word that the grammar names
 abbrev pub IsNoMark : List ℕ → Type 0

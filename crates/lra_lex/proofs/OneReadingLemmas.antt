@@ -10,18 +10,18 @@ use Rattle.lra_base.specs.declared.refusals.Place.{Place}
 use Rattle.lra_base.specs.declared.refusals.Cause.{Cause}
 use Rattle.lra_base.specs.declared.refusals.Cause.TheVariants.{BadByte, BadLiteral}
 use Rattle.lra_base.specs.declared.number_types.NumberType.{NumberType}
-use Rattle.lra_tree.specs.declared.tokens.Mark.{Mark}
-use Rattle.lra_tree.specs.declared.tokens.Mark.TheVariants as mark
-use Rattle.lra_tree.specs.declared.tokens.Kind.{Kind}
-use Rattle.lra_tree.specs.declared.tokens.Kind.TheVariants as kind
-use Rattle.lra_tree.specs.declared.tokens.Token.{Token}
-use Rattle.lra_tree.specs.Lexeme.{is_letter, is_digit, is_word_byte, is_name_word, is_number_word, mark_text, is_among}
-use Rattle.lra_tree.specs.Lexeme.{named_words, further_words, IsOpen, IsUnclosed, IsLiteral, greatest_literal, Lexeme}
-use Rattle.lra_tree.specs.Lexeme.{word, number_word, mark_word, unclosed, SpellsToken, name, number, mark_of, reserved, comment}
-use Rattle.lra_tree.specs.Tokens.{is_blank, in_line, IsLineEnd, IsGap, blank, line_comment, block_comment, skipped_line, IsLongest, IsToken, Fragment, gap, token, bytes_of, tokens_of, IsReading}
+use Rattle.lra_syntax.specs.declared.tokens.Mark.{Mark}
+use Rattle.lra_syntax.specs.declared.tokens.Mark.TheVariants as mark
+use Rattle.lra_syntax.specs.declared.tokens.Kind.{Kind}
+use Rattle.lra_syntax.specs.declared.tokens.Kind.TheVariants as kind
+use Rattle.lra_syntax.specs.declared.tokens.Token.{Token}
+use Rattle.lra_syntax.specs.Lexeme.{is_letter, is_digit, is_word_byte, is_name_word, is_number_word, mark_text, is_among}
+use Rattle.lra_syntax.specs.Lexeme.{named_words, further_words, IsOpen, IsUnclosed, IsLiteral, greatest_literal, Lexeme}
+use Rattle.lra_syntax.specs.Lexeme.{word, number_word, mark_word, unclosed, SpellsToken, name, literal_text, mark_of, reserved, comment}
+use Rattle.lra_syntax.specs.Tokens.{is_blank, in_line, IsLineEnd, IsGap, blank, line_comment, block_comment, skipped_line, IsLongest, IsToken, Fragment, gap, token, bytes_of, tokens_of, IsReading}
 use Rattle.lra_base.specs.Places.{place_after}
-use Rattle.lra_tree.specs.Tokens.{IsFaulty, end_token, OneReading}
-use Rattle.lra_lex.specs.Front.{opens_comment}
+use Rattle.lra_syntax.specs.Tokens.{IsFaulty, end_token, OneReading}
+use Rattle.lra_lex.specs.Prefixes.{opens_comment}
 use Rattle.lra_lex.proofs.RunLemmas.{run_exact, Stops, differ}
 use Rattle.lra_lex.proofs.MarkLemmas.{mark_one, mark_some, mark_named, mark_no_number, mark_no_further, among_all}
 use Rattle.lra_lex.proofs.LexemeLemmas.{not_or}
@@ -132,28 +132,28 @@ comment_mark s m e u = let h : opens_comment (mark_text m) ≡ true = rw (sym e 
 
 spells_one : (s : List ℕ) (k l : Kind) → SpellsToken s k → SpellsToken s l → k ≡ l
 spells_one s k l (name w n f) (name v p g) = refl
-spells_one s k l (name w n f) (number x t v i is b) = absurd (word_number s w v)
+spells_one s k l (name w n f) (literal_text x t v i is b) = absurd (word_number s w v)
 spells_one s k l (name w n f) (mark_of m e) = absurd (name_mark s m w n e)
 spells_one s k l (name w n f) (reserved h) = absurd (differ h f)
 spells_one s k l (name w n f) (comment u) = absurd (comment_word s w u)
-spells_one s k l (number x t v i is b) (name w n f) = absurd (word_number s w v)
-spells_one s k l (number x t v i is b) (number y u w j same c) =
+spells_one s k l (literal_text x t v i is b) (name w n f) = absurd (word_number s w v)
+spells_one s k l (literal_text x t v i is b) (literal_text y u w j same c) =
     ap (λ (z : NumberType). kind.Number z x) (type_one s x y t u i j is same) ∙ ap (λ (z : ℕ). kind.Number u z) (literal_one s x y i j)
-spells_one s k l (number x t v i is b) (mark_of m e) = absurd (number_mark s m v e)
-spells_one s k l (number x t v i is b) (reserved h) = absurd (word_number s (further_word s h) v)
-spells_one s k l (number x t v i is b) (comment u) = absurd (comment_number s v u)
+spells_one s k l (literal_text x t v i is b) (mark_of m e) = absurd (number_mark s m v e)
+spells_one s k l (literal_text x t v i is b) (reserved h) = absurd (word_number s (further_word s h) v)
+spells_one s k l (literal_text x t v i is b) (comment u) = absurd (comment_number s v u)
 spells_one s k l (mark_of m e) (name w n f) = absurd (name_mark s m w n e)
-spells_one s k l (mark_of m e) (number x t v i is b) = absurd (number_mark s m v e)
+spells_one s k l (mark_of m e) (literal_text x t v i is b) = absurd (number_mark s m v e)
 spells_one s k l (mark_of m e) (mark_of n f) = ap kind.Mark (mark_one m n (sym e ∙ f))
 spells_one s k l (mark_of m e) (reserved h) = absurd (differ (rw e at h) (mark_no_further m))
 spells_one s k l (mark_of m e) (comment u) = absurd (comment_mark s m e u)
 spells_one s k l (reserved h) (name w n f) = absurd (differ h f)
-spells_one s k l (reserved h) (number x t v i is b) = absurd (word_number s (further_word s h) v)
+spells_one s k l (reserved h) (literal_text x t v i is b) = absurd (word_number s (further_word s h) v)
 spells_one s k l (reserved h) (mark_of m e) = absurd (differ (rw e at h) (mark_no_further m))
 spells_one s k l (reserved h) (reserved i) = refl
 spells_one s k l (reserved h) (comment u) = absurd (comment_word s (further_word s h) u)
 spells_one s k l (comment u) (name w n f) = absurd (comment_word s w u)
-spells_one s k l (comment u) (number x t v i is b) = absurd (comment_number s v u)
+spells_one s k l (comment u) (literal_text x t v i is b) = absurd (comment_number s v u)
 spells_one s k l (comment u) (mark_of m e) = absurd (comment_mark s m e u)
 spells_one s k l (comment u) (reserved h) = absurd (comment_word s (further_word s h) u)
 spells_one s k l (comment u) (comment v) = refl
@@ -172,7 +172,7 @@ final_gap before rest g a (inr (_, q)) f h = absurd q
 
 no_number : (s : List ℕ) (k : Kind) → is_number_word s ≡ true → ((n : ℕ) → IsLiteral s n → n ≤ greatest_literal → ⊥) → SpellsToken s k → ⊥
 no_number s k w h (name v n f) = word_number s v w
-no_number s k w h (number x t v i is b) = h x i b
+no_number s k w h (literal_text x t v i is b) = h x i b
 no_number s k w h (mark_of m e) = number_mark s m w e
 no_number s k w h (reserved r) = word_number s (further_word s r) w
 no_number s k w h (comment u) = comment_number s w u

@@ -6,12 +6,12 @@ use Rattle.lra_base.specs.declared.refusals.Cause.{Cause}
 use Rattle.lra_base.specs.declared.refusals.Cause.TheVariants.{BadByte, BadLiteral}
 use Rattle.lra_base.specs.declared.refusals.Refusal.{Refusal}
 use Rattle.lra_base.specs.Refused.{IfRefusal}
-use Rattle.lra_tree.specs.declared.tokens.Kind.{Kind}
-use Rattle.lra_tree.specs.declared.tokens.Token.{Token}
+use Rattle.lra_syntax.specs.declared.tokens.Kind.{Kind}
+use Rattle.lra_syntax.specs.declared.tokens.Token.{Token}
 use Rattle.lra_base.specs.Places.{place_from, place_after}
-use Rattle.lra_tree.specs.Tokens.{IsGap, NoGap, IsToken, Fragment, gap, token, bytes_of, tokens_of, IsReading, IsFaulty}
-use Rattle.lra_lex.specs.Places.{fresh_behind}
-use Rattle.lra_lex.specs.Front.{HasNoGap}
+use Rattle.lra_syntax.specs.Tokens.{IsGap, NoGap, IsToken, Fragment, gap, token, bytes_of, tokens_of, IsReading, IsFaulty}
+use Rattle.lra_lex.specs.Places.{fresh_after_bytes}
+use Rattle.lra_lex.specs.Prefixes.{HasNoGap}
 use Rattle.lra_lex.specs.Read.{BeginsToken, HasFault, BeginsFound, FaultsAt, found_tokens}
 use Rattle.lra_base.specs.declared.error.SourceError.{SourceError}
 use Rattle.lra_base.specs.declared.error.SourceError.TheVariants.{Refused, Memory}
@@ -46,7 +46,7 @@ pub record IsReadTo (source rest : List ℕ) (tokens : List Token) (place : Plac
   pub reading : IsReading [] pieces rest
   pub tokens_are : tokens ≡ tokens_of pieces
   pub place_is : place ≡ place_after (bytes_of pieces)
-  pub fresh_is : fresh ≡ fresh_behind true (bytes_of pieces)
+  pub fresh_is : fresh ≡ fresh_after_bytes true (bytes_of pieces)
 
 -- one piece more -------------------------------------------------------------------------------------------------------------
 
@@ -91,7 +91,7 @@ reading_push before (token bytes t ∷ ps) p after r h = (
 )
 
 read_more : (source rest s after : List ℕ) (tokens : List Token) (place : Place) (fresh : Bool) (p : Fragment) (r : IsReadTo source rest tokens place fresh) → rest ≡ s ++ after → bytes_in p ≡ s
-    → IsFragment (bytes_of r.pieces) p after → IsReadTo source after (tokens ++ tokens_in p) (place_from place s) (fresh_behind fresh s)
+    → IsFragment (bytes_of r.pieces) p after → IsReadTo source after (tokens ++ tokens_in p) (place_from place s) (fresh_after_bytes fresh s)
 read_more source rest s after tokens place fresh p r e b h =
     let push : bytes_of (r.pieces ++ p ∷ []) ≡ bytes_of r.pieces ++ s = bytes_push r.pieces p ∙ ap (λ (z : List ℕ). bytes_of r.pieces ++ z) b in
     let more : rest ≡ bytes_in p ++ after = e ∙ ap (λ (z : List ℕ). z ++ after) (sym b) in
@@ -101,12 +101,13 @@ read_more source rest s after tokens place fresh p r e b h =
       reading = reading_push [] r.pieces p after (subst (λ (z : List ℕ). IsReading [] r.pieces z) more r.reading) h;
       tokens_are = ap (λ (z : List Token). z ++ tokens_in p) r.tokens_are ∙ sym (tokens_push r.pieces p);
       place_is = ap (λ (z : Place). place_from z s) r.place_is ∙ sym (place_from-append (record { line = 1; column = 1 }) (bytes_of r.pieces) s) ∙ ap place_after (sym push);
-      fresh_is = ap (λ (z : Bool). fresh_behind z s) r.fresh_is ∙ sym (fresh_behind-append true (bytes_of r.pieces) s) ∙ ap (fresh_behind true) (sym push);
+      fresh_is = ap (λ (z : Bool). fresh_after_bytes z s) r.fresh_is ∙ sym (fresh_behind-append true (bytes_of r.pieces) s)
+          ∙ ap (fresh_after_bytes true) (sym push);
     }
 
 step : (source rest : List ℕ) (tokens : List Token) (place : Place) (fresh : Bool) (n : ℕ) (k : Option Kind) → IsReadTo source rest tokens place fresh →
     BeginsFound fresh rest (record { length = n; kind = k })
-    → IsReadTo source (drop n rest) (tokens ++ found_tokens k place) (place_from place (take n rest)) (fresh_behind fresh (take n rest))
+    → IsReadTo source (drop n rest) (tokens ++ found_tokens k place) (place_from place (take n rest)) (fresh_after_bytes fresh (take n rest))
 step source rest tokens place fresh n None r f =
     read_more source rest (take n rest) (drop n rest) tokens place fresh (gap (take n rest)) r (sym (take-append-drop n rest)) refl (f.is_found (bytes_of r.pieces) r.fresh_is)
 step source rest tokens place fresh n (Some k) r f =
@@ -117,7 +118,7 @@ step source rest tokens place fresh n (Some k) r f =
 -- as the code goes on
 pub read_on : (source rest bytes behind : List ℕ) (tokens kept : List Token) (place place' : Place) (fresh fresh' : Bool) (n : ℕ) (k : Option Kind)
     → IsReadTo source rest tokens place fresh → BeginsFound fresh rest (record { length = n; kind = k }) → bytes ≡ take n rest → behind ≡ drop n rest → kept ≡ tokens ++ found_tokens k place
-    → place' ≡ place_from place bytes → fresh' ≡ fresh_behind fresh bytes → IsReadTo source behind kept place' fresh'
+    → place' ≡ place_from place bytes → fresh' ≡ fresh_after_bytes fresh bytes → IsReadTo source behind kept place' fresh'
 read_on source rest bytes behind tokens kept place place' fresh fresh' n k r f e b t p q = rw (b, t, p, q, e) (step source rest tokens place fresh n k r f)
 
 pub read_within : (source rest : List ℕ) (tokens : List Token) (place : Place) (fresh : Bool) → IsReadTo source rest tokens place fresh

@@ -5,13 +5,14 @@ use Rattle.std.proofs.lemmas.Bool.{cases_lt, and_from, leb-true}
 use Rattle.std.proofs.lemmas.List.Sums.{prefix_len-le-length}
 use Rattle.std.specs.List.{list_all, prefix_len}
 use Rattle.lra_base.specs.declared.number_types.NumberType.{NumberType}
-use Rattle.lra_tree.specs.declared.tokens.Mark.{Mark}
-use Rattle.lra_tree.specs.declared.tokens.Kind.{Kind}
-use Rattle.lra_tree.specs.declared.tokens.Kind.TheVariants as kind
-use Rattle.lra_tree.specs.Lexeme.{is_word_byte, is_letter, is_digit, is_name_word, is_number_word, mark_text, IsLiteral, greatest_literal, word, number_word, unclosed, IsUnclosed, SpellsToken, number}
-use Rattle.lra_tree.specs.Lexeme.{mark_of, comment, literal_type}
-use Rattle.lra_tree.specs.Tokens.{IsLongest}
-use Rattle.lra_lex.specs.Front.{opens_comment, found_mark, operator_at}
+use Rattle.lra_syntax.specs.declared.tokens.Mark.{Mark}
+use Rattle.lra_syntax.specs.declared.tokens.Kind.{Kind}
+use Rattle.lra_syntax.specs.declared.tokens.Kind.TheVariants as kind
+use Rattle.lra_syntax.specs.Lexeme.{is_word_byte, is_letter, is_digit, is_name_word, is_number_word, mark_text, IsLiteral, greatest_literal, word, number_word, unclosed, IsUnclosed, SpellsToken}
+use Rattle.lra_syntax.specs.Lexeme.{literal_text}
+use Rattle.lra_syntax.specs.Lexeme.{mark_of, comment, literal_type}
+use Rattle.lra_syntax.specs.Tokens.{IsLongest}
+use Rattle.lra_lex.specs.Prefixes.{opens_comment, found_mark, operator_at}
 use Rattle.lra_lex.specs.Read.{BeginsToken}
 use Rattle.lra_lex.proofs.RunLemmas.{run_is}
 use Rattle.lra_lex.proofs.MarkLemmas.{mark_some}
@@ -56,7 +57,7 @@ number_token_is rest s n v t l h e f lit is b = record {
   some = rw e (run_some rest l (digit_is (get_or rest 0 0) h));
   within = rw e (prefix_len-le-length is_word_byte rest);
   longest = rw e (longest_number rest l h);
-  spells = subst (λ (z : List ℕ). SpellsToken z (kind.Number t v)) f (number v t (number_at rest s l h (f ∙ ap (λ (z : ℕ). take z rest) e)) lit is b);
+  spells = subst (λ (z : List ℕ). SpellsToken z (kind.Number t v)) f (literal_text v t (number_at rest s l h (f ∙ ap (λ (z : ℕ). take z rest) e)) lit is b);
 }
 
 pub bad_literal : (rest s : List ℕ) (n : ℕ) → 0 < length rest → is_digit (get_or rest 0 0) ≡ true → n ≡ prefix_len is_word_byte rest → s ≡ take n rest →

@@ -1,5 +1,5 @@
 -- In the order in which they are to be read.
 pub mod Places
 pub mod Literal
-pub mod Front
+pub mod Prefixes
 pub mod Read

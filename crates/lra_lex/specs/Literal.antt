@@ -1,7 +1,7 @@
 -- How a number word is cut into the parts of a literal, and the type of the literal that it is.
 use Rattle.std.specs.Prelude.{◌≡◌, ℕ, nat_eq, ◌||◌, List, slice_index, if◌then◌else◌}
 use Rattle.lra_base.specs.declared.number_types.NumberType.{NumberType}
-use Rattle.lra_tree.specs.Lexeme.{Base, octal, decimal_base, hexadecimal, IsLiteral, literal_type}
+use Rattle.lra_syntax.specs.Lexeme.{Base, octal, decimal_base, hexadecimal, IsLiteral, literal_type}
 use Rattle.lra_lex.specs.declared.literals.Radix.{Radix}
 use Rattle.lra_lex.specs.declared.literals.Radix.TheVariants.{Octal, Decimal, Hexadecimal}
 

@@ -4,12 +4,12 @@ use Rattle.lra_base.specs.declared.refusals.Place.{Place}
 use Rattle.lra_base.specs.declared.refusals.Cause.{Cause}
 use Rattle.lra_base.specs.declared.refusals.Cause.TheVariants.{BadByte, BadLiteral}
 use Rattle.lra_base.specs.declared.refusals.Refusal.{Refusal}
-use Rattle.lra_tree.specs.declared.tokens.Kind.{Kind}
-use Rattle.lra_tree.specs.declared.tokens.Token.{Token}
-use Rattle.lra_tree.specs.Lexeme.{is_number_word, IsLiteral, greatest_literal, Lexeme, SpellsToken}
-use Rattle.lra_tree.specs.Tokens.{IsGap, NoGap, IsLongest, IsFaulty}
+use Rattle.lra_syntax.specs.declared.tokens.Kind.{Kind}
+use Rattle.lra_syntax.specs.declared.tokens.Token.{Token}
+use Rattle.lra_syntax.specs.Lexeme.{is_number_word, IsLiteral, greatest_literal, Lexeme, SpellsToken}
+use Rattle.lra_syntax.specs.Tokens.{IsGap, NoGap, IsLongest, IsFaulty}
 use Rattle.lra_lex.specs.declared.lexer.Found.{Found}
-use Rattle.lra_lex.specs.Places.{fresh_behind}
+use Rattle.lra_lex.specs.Places.{fresh_after_bytes}
 
 -- the first n bytes are the longest spelling there, of a token of this kind
 pub record BeginsToken (rest : List ℕ) (n : ℕ) (k : Kind) : Type 0 where
@@ -34,12 +34,12 @@ IsFoundAs before (Some k) s after = NoGap before (s ++ after) × IsLongest s (s 
 pub record BeginsFound (fresh : Bool) (rest : List ℕ) (f : Found) : Type 0 where
   pub some : 0 < f.length
   pub within : f.length ≤ length rest
-  pub is_found : (before : List ℕ) → fresh ≡ fresh_behind true before →
+  pub is_found : (before : List ℕ) → fresh ≡ fresh_after_bytes true before →
       IsFoundAs before f.kind (take f.length rest) (drop f.length rest)
 
 pub record FaultsAt (place : Place) (fresh : Bool) (rest : List ℕ) (r : Refusal) : Type 0 where
   pub at_place : r.place ≡ place
-  pub faulty : (before : List ℕ) → fresh ≡ fresh_behind true before → IsFaulty r.cause before rest
+  pub faulty : (before : List ℕ) → fresh ≡ fresh_after_bytes true before → IsFaulty r.cause before rest
 
 -- the token of what was found
 abbrev pub found_tokens : Option Kind → Place → List Token

@@ -2,8 +2,8 @@
 
 ghost use Rattle.std.specs.Prelude.{◌≡◌};
 ghost use Rattle.std.specs.List.{prefix_len};
-ghost use Rattle.lra_tree.specs.Lexeme.{is_letter, is_digit, is_word_byte};
-ghost use Rattle.lra_tree.specs.Tokens.{is_blank, is_space_or_tab, in_line};
+ghost use Rattle.lra_syntax.specs.Lexeme.{is_letter, is_digit, is_word_byte};
+ghost use Rattle.lra_syntax.specs.Tokens.{is_blank, is_space_or_tab, in_line};
 
 pub fn is_letter(byte: u8) -> bool
     ensures { result ≡ is_letter byte }

@@ -1,9 +1,9 @@
 //! The constants of a source: the values of its literals, with the signs that stand directly before them.
 
 ghost use Rattle.std.specs.Prelude.{◌≡◌, false, true, fold, IfOk, MatchOption, OnOk};
-ghost use Rattle.lra_tree.specs.Constants.{constants_of, is_minus, is_small, literal_at, signed, with_constant};
+ghost use Rattle.lra_syntax.specs.Constants.{constants_of, is_minus, is_small, literal_at, signed, with_constant};
 
-use lra_tree::{Kind, Mark, Token};
+use lra_syntax::{Kind, Mark, Token};
 use std::alloc::{AllocError, Global};
 
 /// No more constants than these are taken.

@@ -1,7 +1,7 @@
 //! What stands for nothing between tokens: blanks, comments and `#include` lines.
 
 ghost use Rattle.std.specs.Prelude.{◌≡◌, ◌+◌, ◌<◌, ◌↔◌, ℕ, Bool, length, slice_index, IfSome, IfNone, IsTrue};
-ghost use Rattle.lra_lex.specs.Front.{BeginsGap, HasNoGap, IsCloseAt, IsFirstClose, IsInclude};
+ghost use Rattle.lra_lex.specs.Prefixes.{BeginsGap, HasNoGap, IsCloseAt, IsFirstClose, IsInclude};
 
 use crate::bytes::{indent, is_blank, line_length, word_length};
 

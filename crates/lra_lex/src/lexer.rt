@@ -4,9 +4,9 @@ ghost use Rattle.std.specs.Prelude.{◌≡◌, ◌++◌, ◌+◌, ◌<◌, ◌^�
 ghost use Rattle.std.specs.Prelude.{OnOk};
 ghost use Rattle.lra_base.specs.declared.refusals.Cause.TheVariants.{BadByte, BadLiteral};
 ghost use Rattle.lra_base.specs.Refused.{IfRefused};
-ghost use Rattle.lra_tree.specs.Lexeme.{is_digit, is_letter, is_name_word, is_word_byte, IsUnclosed, SpellsToken};
-ghost use Rattle.lra_tree.specs.Tokens.{IsTokenFault, Lex, OneReading};
-ghost use Rattle.lra_lex.specs.Front.{opens_comment, operator_at};
+ghost use Rattle.lra_syntax.specs.Lexeme.{is_digit, is_letter, is_name_word, is_word_byte, IsUnclosed, SpellsToken};
+ghost use Rattle.lra_syntax.specs.Tokens.{IsTokenFault, Lex, OneReading};
+ghost use Rattle.lra_lex.specs.Prefixes.{opens_comment, operator_at};
 ghost use Rattle.lra_lex.specs.Read.{found_tokens, BeginsFound, BeginsToken, FaultsAt, HasFault};
 
 use crate::bytes::{is_digit, is_letter, word_length};
@@ -15,7 +15,7 @@ use crate::literals::parse_literal;
 use crate::marks::{find_mark, is_further_word, spelling_of};
 use crate::spot::Spot;
 use lra_base::{Cause, Place, Refusal, SourceError};
-use lra_tree::{Kind, Mark, Token, Word};
+use lra_syntax::{Kind, Mark, Token, Word};
 use std::alloc::{AllocError, Global};
 
 /// What stands at the front: a token of a kind, or a gap.

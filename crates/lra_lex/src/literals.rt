@@ -2,8 +2,8 @@
 
 ghost use Rattle.std.specs.Prelude.{◌≡◌, ◌≤◌, ◌<◌, ◌≢◌, ℕ, [], length, true, IfSome, IfNone, IsTrue};
 ghost use Rattle.std.specs.List.{prefix_len};
-ghost use Rattle.lra_tree.specs.Lexeme.{IsLiteral, octal, base_number, digit_value, greatest_literal, is_among};
-ghost use Rattle.lra_tree.specs.Lexeme.{is_digit_of, literal_type, number_behind, suffixes};
+ghost use Rattle.lra_syntax.specs.Lexeme.{IsLiteral, octal, base_number, digit_value, greatest_literal, is_among};
+ghost use Rattle.lra_syntax.specs.Lexeme.{is_digit_of, literal_type, number_after, suffixes};
 ghost use Rattle.lra_lex.specs.Literal.{base_at, base_of, front_size, IsTyped};
 
 use crate::marks::is_among;
@@ -95,9 +95,9 @@ fn digit_value(digit: u8) -> u8
 
 /// The number that the digits write, if it is at most 2^63 - 1.
 fn parse_digits(radix: Radix, digits: &[u8]) -> Option<u64>
-    ensures value { IfSome result (λ n. n ≡ number_behind (base_of radix) 0 digits.now) }
+    ensures value { IfSome result (λ n. n ≡ number_after (base_of radix) 0 digits.now) }
     ensures bounded { IfSome result (λ n. n ≤ greatest_literal) }
-    ensures too_large { IfNone result (greatest_literal < number_behind (base_of radix) 0 digits.now) }
+    ensures too_large { IfNone result (greatest_literal < number_after (base_of radix) 0 digits.now) }
 {
     let mut number = 0u128;
     for digit in digits {

@@ -2,10 +2,10 @@
 
 ghost use Rattle.std.specs.Prelude.{◌≡◌, bytes_eq};
 ghost use Rattle.std.specs.List.{list_any};
-ghost use Rattle.lra_tree.specs.Lexeme.{mark_text, is_among, further_words};
-ghost use Rattle.lra_lex.specs.Front.{found_mark};
+ghost use Rattle.lra_syntax.specs.Lexeme.{mark_text, is_among, further_words};
+ghost use Rattle.lra_lex.specs.Prefixes.{found_mark};
 
-use lra_tree::Mark;
+use lra_syntax::Mark;
 
 /// Every operator, and every reserved word that the grammar names.
 const MARKS: [Mark; 48] = [

@@ -2,7 +2,7 @@
 
 ghost use Rattle.std.specs.Prelude.{◌≡◌, ◌+◌, ◌<◌, ◌^◌, length};
 ghost use Rattle.lra_base.specs.Places.{place_from};
-ghost use Rattle.lra_lex.specs.Places.{fresh_behind};
+ghost use Rattle.lra_lex.specs.Places.{fresh_after_bytes};
 
 use crate::bytes::is_space_or_tab;
 use lra_base::Place;
@@ -20,7 +20,7 @@ impl Spot {
         requires lines { self.place.line + length bytes.now < 2 ^ 32 }
         requires columns { self.place.column + length bytes.now < 2 ^ 32 }
         ensures place { result.place ≡ place_from self.place bytes.now }
-        ensures fresh { result.fresh ≡ fresh_behind self.fresh bytes.now }
+        ensures fresh { result.fresh ≡ fresh_after_bytes self.fresh bytes.now }
     {
         let mut line = self.place.line;
         let mut column = self.place.column;

@@ -6,7 +6,7 @@ use Rattle.std.specs.List.{AllByRecursion}
 use Rattle.lra_show.specs.Part.{Part}
 use Rattle.lra_report.specs.Report.{Invariant, PointReport}
 use Rattle.lra_program.specs.Sites.{Site}
-use Rattle.lra_tree.specs.Labels.{Labelled}
+use Rattle.lra_syntax.specs.Labels.{Labelled}
 use Rattle.lra_report.specs.Listing.{listed_point, HasWidth, AreListed}
 use Rattle.lra_operations.specs.declared.tree.Site as code_site
 use Rattle.lra_operations.specs.TreeViews.{site_view}

@@ -12,7 +12,7 @@ use Rattle.lra_report.specs.Report.{Verdict}
 use Rattle.lra_base.specs.declared.refusals.Place.{Place}
 use Rattle.lra_program.specs.Program.{Element}
 use Rattle.lra_program.specs.Sites.{Site}
-use Rattle.lra_tree.specs.Labels.{Labelled}
+use Rattle.lra_syntax.specs.Labels.{Labelled}
 use Rattle.lra_report.specs.declared.verdict_kinds.VerdictKind.{VerdictKind}
 use Rattle.lra_report.specs.declared.verdict_kinds.VerdictKind.TheVariants.{Assertion, Fit, Access}
 use Rattle.lra_operations.specs.declared.tree.Site as code_site

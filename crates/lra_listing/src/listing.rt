@@ -5,9 +5,9 @@ ghost use Rattle.std.specs.Prelude.{string_bytes, List, All};
 ghost use Rattle.lra_operations.specs.Agree.{IsInlinedTree};
 ghost use Rattle.lra_operations.specs.Tree.{Node};
 ghost use Rattle.lra_operations.specs.TreeViews.{site_view};
-ghost use Rattle.lra_tree.specs.Trees.{PartTree};
-ghost use Rattle.lra_tree.specs.Views.{tree_view, part_view, global_view};
-ghost use Rattle.lra_tree.specs.Labels.{label_at, labels_of};
+ghost use Rattle.lra_syntax.specs.Trees.{ExternalTree};
+ghost use Rattle.lra_syntax.specs.Views.{tree_view, external_view, global_view};
+ghost use Rattle.lra_syntax.specs.Labels.{label_at, labels_of};
 ghost use Rattle.lra_meaning.specs.Resolve.{resolve};
 ghost use Rattle.lra_program.specs.Sites.{sites_of};
 ghost use Rattle.lra_meaning.specs.ShownNames.{shown_names};
@@ -29,7 +29,9 @@ use lra_report::{
     CallPlace, Part, Point, PointReport, Report, Verdict, VerdictKind, names_at, path_text,
 };
 use lra_show::Names;
-use lra_tree::{Global as Variable, Identifier, Item, Shape, Tree, Word};
+use lra_syntax::{
+    ExternalDeclaration, Global as Variable, Identifier, ScalarOrArray, TranslationUnit, Word,
+};
 use std::alloc::{AllocError, Global};
 
 /// Adds names.
@@ -227,8 +229,8 @@ fn push_variable(global: &Variable, names: &mut Names) -> Result<(), AllocError>
     ensures { IfOk result (λ _. names.new ≡ names.old ++ live_name (global_view global.now)) }
 {
     match &global.shape {
-        Shape::Scalar(_) => names.push(global.name.word.as_str()),
-        Shape::Array(_) => Ok(()),
+        ScalarOrArray::Scalar(_) => names.push(global.name.word.as_str()),
+        ScalarOrArray::Array(_) => Ok(()),
     }
 }
 
@@ -243,22 +245,23 @@ fn push_variables(globals: &[Variable], names: &mut Names) -> Result<(), AllocEr
 }
 
 /// Adds the names of the global variables of a part.
-fn push_globals(item: &Item, names: &mut Names) -> Result<(), AllocError>
-    ensures { IfOk result (λ _. (rest : List PartTree) →
-        names.new ++ globals_named rest ≡ names.old ++ globals_named (part_view item.now ∷ rest)) }
+fn push_globals(item: &ExternalDeclaration, names: &mut Names) -> Result<(), AllocError>
+    ensures { IfOk result (λ _. (rest : List ExternalTree) →
+        names.new ++ globals_named rest ≡ names.old
+        ++ globals_named (external_view item.now ∷ rest)) }
 {
     match item {
-        Item::Prototype => Ok(()),
-        Item::Globals(globals) => {
+        ExternalDeclaration::Prototype => Ok(()),
+        ExternalDeclaration::Globals(globals) => {
             push_variable(&globals.first, names)?;
             push_variables(&globals.rest, names)
         }
-        Item::Function(_) => Ok(()),
+        ExternalDeclaration::Function(_) => Ok(()),
     }
 }
 
 /// The names of the global variables, in text order.
-pub fn names_of_globals(alloc: Global, tree: &Tree) -> Result<Names, AllocError>
+pub fn names_of_globals(alloc: Global, tree: &TranslationUnit) -> Result<Names, AllocError>
     ensures { IfOk result (λ names. names ≡ globals_named (tree_view tree.now).parts) }
 {
     let mut names = Names::new(alloc);
@@ -386,7 +389,7 @@ fn push_accesses(
 /// What a report lists of a source: its tree, the table of its labels, and its points.
 #[derive(Clone, Copy)]
 pub struct Outline<'a> {
-    pub tree: &'a Tree,
+    pub tree: &'a TranslationUnit,
     pub labels: &'a Labels,
     pub sites: &'a [Site],
 }

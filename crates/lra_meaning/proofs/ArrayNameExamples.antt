@@ -6,17 +6,17 @@ use Rattle.lra_base.specs.declared.number_types.NumberType.TheVariants.{Int, Lon
 use Rattle.lra_base.specs.declared.refusals.Refusal.{Refusal}
 use Rattle.lra_base.specs.declared.refusals.Cause.{Cause}
 use Rattle.lra_base.specs.declared.refusals.Cause.TheVariants.{UnknownName, DuplicateName, BadLength, NotArray}
-use Rattle.lra_tree.specs.declared.trees.Identifier.{Identifier}
+use Rattle.lra_syntax.specs.declared.trees.Identifier.{Identifier}
 use Rattle.lra_program.specs.declared.arrays.Array.{Array}
 use Rattle.lra_program.specs.Program as program
-use Rattle.lra_tree.specs.Trees.{element, expression, set, set_element, scalar, array, DeclaratorTree, DeclarationTree, block, assign, ItemsTree, no_items}
-use Rattle.lra_tree.specs.Trees.{declaration, statement, globals, function, FileTree}
-use Rattle.lra_tree.specs.Labels.{labels_of}
+use Rattle.lra_syntax.specs.Trees.{element, expression, set, set_element, scalar, array, DeclaratorTree, DeclarationTree, block, assign, ItemsTree, no_items}
+use Rattle.lra_syntax.specs.Trees.{declaration, statement, globals, function, FileTree}
+use Rattle.lra_syntax.specs.Labels.{labels_of}
 use Rattle.lra_meaning.specs.NameFaults.{name_faults}
 use Rattle.lra_meaning.specs.Resolve.{resolve}
 use Rattle.lra_meaning.specs.LiveNames.{globals_named}
 use Rattle.lra_program.proofs.RunExamples.{long_variable}
-use Rattle.lra_tree.proofs.TreeSamples.{at, name_at, x_at, number, use_of, alone, declared_as, main_function, main_of}
+use Rattle.lra_syntax.proofs.TreeSamples.{at, name_at, x_at, literal_text, use_of, alone, declared_as, main_function, main_of}
 
 abbrev fault : Cause → ℕ → Refusal
 fault c column = record { cause = c; place = at column }
@@ -41,7 +41,7 @@ array_at c n = record { declared = at c; length = n; number_type = Long }
 -- int main(void){ long a[2]; long i; a[i]=a[1]; }
 abbrev stored : FileTree
 stored = main_of (declaration (of_longs (array_as (a_at 22) 2 24) []) (declaration (declared_as (i_at 33) None)
-    (statement (assign (set_element (a_at 36) (use_of (i_at 38)) (expression (alone (element (a_at 41) (number 1)))))) no_items))) 47
+    (statement (assign (set_element (a_at 36) (use_of (i_at 38)) (expression (alone (element (a_at 41) (literal_text 1)))))) no_items))) 47
 
 -- i is the first variable: catches arrays that are counted among variables
 stored_body : (resolve stored).main.body ≡ program.array 1 (array_at 22 2) (program.declaration (record { label = 2; number_type = Long; rvalue = None })
@@ -59,8 +59,8 @@ stored_names = refl
 -- int main(void){ long x; { long x[2]; x[0]=1; } x=2; } : an array hides a variable, and the variable is there behind it
 abbrev hidden : FileTree
 hidden = main_of (declaration (declared_as (x_at 22) None) (statement (block (declaration (of_longs (array_as (x_at 32) 2 34) [])
-    (statement (assign (set_element (x_at 38) (number 0) (expression (number 1)))) no_items)) (at 46))
-    (statement (assign (set (x_at 48) (expression (number 2)))) no_items))) 53
+    (statement (assign (set_element (x_at 38) (literal_text 0) (expression (literal_text 1)))) no_items)) (at 46))
+    (statement (assign (set (x_at 48) (expression (literal_text 2)))) no_items))) 53
 
 hidden_body : (resolve hidden).main.body ≡ program.declaration (record { label = 1; number_type = Long; rvalue = None })
     (program.statement (program.block (program.array 2 (array_at 32 2) (program.statement (program.write 3
@@ -79,7 +79,7 @@ global_array = record {
     first = record { name = a_at 6; shape = array (record { value = 3; place = at 8 }) };
     rest = record { name = x_at 12; shape = scalar None } ∷ [];
   })
-      ∷ function (main_function 19 (statement (assign (set (x_at 31) (expression (number 1)))) no_items) 36) ∷ [];
+      ∷ function (main_function 19 (statement (assign (set (x_at 31) (expression (literal_text 1)))) no_items) 36) ∷ [];
   end = at 37;
 }
 
@@ -113,16 +113,17 @@ abbrev behind_both : ItemsTree → FileTree
 behind_both items = main_of (declaration (of_longs (record { name = x_at 22; shape = scalar None }) (array_as (a_at 25) 1 27 ∷ [])) items) 60
 
 -- a=1; x=a; : an array's name without an index
-without_index : name_faults (behind_both (statement (assign (set (a_at 31) (expression (number 1)))) (statement (assign (set (x_at 36) (expression (use_of (a_at 38))))) no_items))) ≡
+without_index : name_faults (behind_both (statement (assign (set (a_at 31) (expression (literal_text 1)))) (statement (assign (set (x_at 36) (expression (use_of (a_at 38))))) no_items))) ≡
     fault NotArray 31 ∷ fault NotArray 38 ∷ []
 without_index = refl
 
 -- x[0]=1; x=x[1]; : another variable's with one
-with_index : name_faults (behind_both (statement (assign (set_element (x_at 31) (number 0) (expression (number 1))))
-    (statement (assign (set (x_at 39) (expression (alone (element (x_at 41) (number 1)))))) no_items))) ≡ fault NotArray 31 ∷ fault NotArray 41 ∷ []
+with_index : name_faults (behind_both (statement (assign (set_element (x_at 31) (literal_text 0) (expression (literal_text 1))))
+    (statement (assign (set (x_at 39) (expression (alone (element (x_at 41) (literal_text 1)))))) no_items))) ≡ fault NotArray 31 ∷ fault NotArray 41 ∷ []
 with_index = refl
 
 -- x[b]=c; : name, index, right side; an unknown name is told as such with an index, too
-in_text_order : name_faults (behind_both (statement (assign (set_element (x_at 31) (alone (element (name_at (codes "b") 33) (number 0))) (expression (use_of (name_at (codes "c") 39))))) no_items)) ≡
+in_text_order : name_faults
+    (behind_both (statement (assign (set_element (x_at 31) (alone (element (name_at (codes "b") 33) (literal_text 0))) (expression (use_of (name_at (codes "c") 39))))) no_items)) ≡
     fault NotArray 31 ∷ fault UnknownName 33 ∷ fault UnknownName 39 ∷ []
 in_text_order = refl

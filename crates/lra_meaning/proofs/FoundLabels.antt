@@ -2,7 +2,7 @@
 use Rattle.std.proofs.Common.{◌≡◌, ◌∙◌, sym, ap, refl, ◌+◌, ◌≤◌, ◌<◌, ℕ, suc, List, length, map, Option, Some, None, get_or, arith, subst, add-one, MatchOption, IfSome, option_map}
 use Rattle.std.specs.Prelude.{slice_get}
 use Rattle.std.proofs.lemmas.Option.{slice_get_read, slice_get_past, slice_get-map}
-use Rattle.lra_tree.specs.Labels.{label_at}
+use Rattle.lra_syntax.specs.Labels.{label_at}
 use Rattle.lra_meaning.specs.declared.labels.Entry.{Entry}
 use Rattle.lra_meaning.specs.declared.labels.Label.{Label}
 use Rattle.lra_meaning.specs.LabelTable.{Listed, lists_of, label_in, HaveLists}

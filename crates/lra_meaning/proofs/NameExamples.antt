@@ -1,25 +1,26 @@
 -- Names: what they mean, and the faults of names at their places. Which slip an example would catch stands beside it.
 use Rattle.std.proofs.Common.{◌≡◌, ℕ, zero, suc, ◌<◌, ℤ, pos, negsuc, List, [], ◌∷◌, ◌++◌, length, Some, None, refl, ap, subst, sym, ◌∙◌, arith}
-use Rattle.lra_tree.specs.Functions.{functions_of}
+use Rattle.lra_syntax.specs.Functions.{functions_of}
 use Rattle.std.specs.Prelude.{codes, map, Contains}
 use Rattle.lra_base.specs.declared.number_types.NumberType.{NumberType}
 use Rattle.lra_base.specs.declared.number_types.NumberType.TheVariants.{Int, Long}
 use Rattle.lra_base.specs.declared.refusals.Refusal.{Refusal}
-use Rattle.lra_tree.specs.declared.trees.Identifier.{Identifier}
+use Rattle.lra_syntax.specs.declared.trees.Identifier.{Identifier}
 use Rattle.lra_base.specs.declared.refusals.Cause.{Cause}
 use Rattle.lra_base.specs.declared.refusals.Cause.TheVariants.{BadLiteral, NoMain, UnknownName, DuplicateName, BadCall, Misplaced, Recursive}
 use Rattle.lra_program.specs.Program as program
 use Rattle.lra_base.specs.Operators as operators
-use Rattle.lra_tree.specs.Trees.{value, compare, conjunction, test, and, or, expression, result, set, after, increment, declared, block, nothing, assign, call}
-use Rattle.lra_tree.specs.Trees.{for, break, return, no_items, scalar, declaration, statement, globals, function, FileTree, FunctionTree, GlobalTree}
-use Rattle.lra_tree.specs.Labels.{labels_of}
+use Rattle.lra_syntax.specs.Trees.{value, compare, conjunction, test, and, or, expression, result, set, after, increment, declared, block, nothing, assign}
+use Rattle.lra_syntax.specs.Trees.{call}
+use Rattle.lra_syntax.specs.Trees.{for, break, return, no_items, scalar, declaration, statement, globals, function, FileTree, FunctionTree, GlobalTree}
+use Rattle.lra_syntax.specs.Labels.{labels_of}
 use Rattle.lra_meaning.specs.Scope as scope
 use Rattle.lra_meaning.specs.NameFaults.{name_faults}
 use Rattle.lra_meaning.specs.Resolve.{resolve, resolve_cond}
-use Rattle.lra_tree.specs.Reach.{calls_of, ReachesByCalls, there, by_call, IsRecursive, IsFirstRecursive, NotRecursive}
+use Rattle.lra_syntax.specs.Reach.{calls_of, ReachesByCalls, there, by_call, IsRecursive, IsFirstRecursive, NotRecursive}
 use Rattle.lra_meaning.specs.Refuse.{RefusesTree, recursive}
 use Rattle.lra_program.proofs.RunExamples as run
-use Rattle.lra_tree.proofs.TreeSamples.{at, name_at, x_at, number, use_of, tested, call_of, declared_as, long_parameter, main_function, void_of, main_of, one_variable, called_twice}
+use Rattle.lra_syntax.proofs.TreeSamples.{at, name_at, x_at, literal_text, use_of, tested, call_of, declared_as, long_parameter, main_function, void_of, main_of, one_variable, called_twice}
 
 abbrev fault : Cause → ℕ → Refusal
 fault c column = record { cause = c; place = at column }
@@ -41,8 +42,8 @@ called_twice_places = refl
 -- the inner x is the second variable, the outer one the first: catches a name that means the oldest variable, and a scope that outlives its block
 abbrev shadowed : FileTree
 shadowed = main_of (declaration (declared_as (x_at 22) None)
-    (statement (block (declaration (declared_as (x_at 32) None) (statement (assign (set (x_at 35) (expression (number 1)))) no_items)) (at 42))
-    (statement (assign (set (x_at 44) (expression (number 2)))) no_items))) 51
+    (statement (block (declaration (declared_as (x_at 32) None) (statement (assign (set (x_at 35) (expression (literal_text 1)))) no_items)) (at 42))
+    (statement (assign (set (x_at 44) (expression (literal_text 2)))) no_items))) 51
 
 shadowed_body : (resolve shadowed).main.body ≡ program.declaration (record { label = 1; number_type = Long; rvalue = None })
     (program.statement (program.block (program.declaration (record { label = 2; number_type = Long; rvalue = None })
@@ -55,7 +56,7 @@ shadowed_allowed = refl
 
 -- int main(void){ for(long x=0; x<3; x++) ; } : the word `for`, its declarator, its step, its body
 abbrev one_for : FileTree
-one_for = main_of (statement (for (at 17) (declared (declared_as (x_at 26) (Some (expression (number 0))))) (Some (tested (compare (use_of (x_at 31)) operators.below (number 3))))
+one_for = main_of (statement (for (at 17) (declared (declared_as (x_at 26) (Some (expression (literal_text 0))))) (Some (tested (compare (use_of (x_at 31)) operators.below (literal_text 3))))
     (Some (after (x_at 36) increment)) (nothing (at 41))) no_items) 43
 
 one_for_body : (resolve one_for).main.body ≡ program.statement (program.for 1 (program.declaration (record { label = 2; number_type = Long; rvalue = Some (program.value (program.literal Int 0)) }) program.no_more)
@@ -69,7 +70,7 @@ one_for_places = (refl, refl)
 
 -- a*b+c is (a*b)+c and a-b-c is (a-b)-c, while a&&b&&c is a&&(b&&c) and a||b||c is a||(b||c)
 chain : resolve_cond (record { globals = record { name = codes "x"; meaning = scope.scalar Long } ∷ []; locals = []; outer = 0 })
-    (or (or (conjunction (test (value (use_of (x_at 1))))) (and (and (test (value (number 1))) (value (number 2))) (value (number 3)))) (test (value (number 4))))
+    (or (or (conjunction (test (value (use_of (x_at 1))))) (and (and (test (value (literal_text 1))) (value (literal_text 2))) (value (literal_text 3)))) (test (value (literal_text 4))))
     ≡ program.either_of (program.nonzero (program.read (run.long_variable (program.global 0))))
     (program.either_of (program.both_of (program.nonzero (program.literal Int 1)) (program.both_of (program.nonzero (program.literal Int 2)) (program.nonzero (program.literal Int 3))))
     (program.nonzero (program.literal Int 4)))
@@ -82,7 +83,7 @@ no_main : name_faults (record { parts = []; end = at 1 }) ≡ fault NoMain 1 ∷
 no_main = refl
 
 -- int main(void){ x = 1; }
-unknown_name : name_faults (main_of (statement (assign (set (x_at 17) (expression (number 1)))) no_items) 24) ≡ fault UnknownName 17 ∷ []
+unknown_name : name_faults (main_of (statement (assign (set (x_at 17) (expression (literal_text 1)))) no_items) 24) ≡ fault UnknownName 17 ∷ []
 unknown_name = refl
 
 -- int main(void){ long x; long x; } : catches the place of the first
@@ -92,7 +93,7 @@ duplicate_name = refl
 -- void f(void){} int main(void){ f(1); }
 abbrev pub calls_with_one : FileTree
 calls_with_one = record {
-  parts = function (void_of (codes "f") 6 [] no_items 14) ∷ function (main_function 20 (statement (call (call_of (name_at (codes "f") 32) (number 1 ∷ []))) no_items) 38) ∷ [];
+  parts = function (void_of (codes "f") 6 [] no_items 14) ∷ function (main_function 20 (statement (call (call_of (name_at (codes "f") 32) (literal_text 1 ∷ []))) no_items) 38) ∷ [];
   end = at 39;
 }
 
@@ -101,7 +102,7 @@ bad_call = refl
 
 -- void f(void){ return 1; } int main(void){ long x=f(); } : the value of a void function, given and used
 void_values : name_faults (record {
-  parts = function (void_of (codes "f") 6 [] (statement (return (at 15) (Some (expression (number 1)))) no_items) 25)
+  parts = function (void_of (codes "f") 6 [] (statement (return (at 15) (Some (expression (literal_text 1)))) no_items) 25)
       ∷ function (main_function 31 (declaration (declared_as (x_at 48) (Some (result (call_of (name_at (codes "f") 50) [])))) no_items) 55) ∷ [];
   end = at 56;
 }) ≡ fault BadCall 15 ∷ fault BadCall 50 ∷ []
@@ -116,7 +117,7 @@ own_value : name_faults (main_of (declaration (declared_as (x_at 22) (Some (expr
 own_value = refl
 
 -- int main(void){ { long x; } x=1; } : the block's variable is gone behind it
-gone : name_faults (main_of (statement (block (declaration (declared_as (x_at 24) None) no_items) (at 27)) (statement (assign (set (x_at 29) (expression (number 1)))) no_items)) 34) ≡
+gone : name_faults (main_of (statement (block (declaration (declared_as (x_at 24) None) no_items) (at 27)) (statement (assign (set (x_at 29) (expression (literal_text 1)))) no_items)) 34) ≡
     fault UnknownName 29 ∷ []
 gone = refl
 
@@ -164,7 +165,7 @@ name_before_literal = refl
 
 -- int main(void){ f(); x=1; } void f(void){} long x; : a function may be defined behind its call, a global must stand before its use
 later : name_faults (record {
-  parts = function (main_function 5 (statement (call (call_of (name_at (codes "f") 17) [])) (statement (assign (set (x_at 22) (expression (number 1)))) no_items)) 27)
+  parts = function (main_function 5 (statement (call (call_of (name_at (codes "f") 17) [])) (statement (assign (set (x_at 22) (expression (literal_text 1)))) no_items)) 27)
       ∷ function (void_of (codes "f") 34 [] no_items 42) ∷ globals (record { number_type = Long; first = record { name = x_at 49; shape = scalar None }; rest = [] }) ∷ [];
   end = at 51;
 }) ≡ fault UnknownName 22 ∷ []

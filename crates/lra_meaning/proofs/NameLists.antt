@@ -5,7 +5,7 @@ use Rattle.std.specs.Prelude.{slice_get, slice_set}
 use Rattle.std.proofs.lemmas.Option.{slice_get_read}
 use Rattle.std.proofs.lemmas.List.{get_or_append_left, get_or-append-add, take-append-le, get_or-set_same, get_or-map, map-set}
 use Rattle.std.proofs.Math.Seq.{take-length, set-append_seam, get_or-append_seam}
-use Rattle.lra_tree.specs.Labels.{Labelled}
+use Rattle.lra_syntax.specs.Labels.{Labelled}
 use Rattle.lra_meaning.specs.declared.labels.Entry.{Entry}
 use Rattle.lra_meaning.specs.declared.labels.Label.{Label}
 use Rattle.lra_meaning.specs.LabelTable.{list_at, lists_behind, lists_of, AreOrdered, label_in, HaveLists, with_live}

@@ -4,27 +4,27 @@ use Rattle.std.specs.Prelude.{codes, get_or, ◌≤◌}
 use Rattle.lra_base.specs.declared.number_types.NumberType.TheVariants.{Long}
 use Rattle.lra_base.specs.declared.refusals.Refusal.{Refusal}
 use Rattle.lra_base.specs.declared.refusals.Cause.TheVariants.{TooLong, BadByte, BadLiteral, Syntax, NoMain, TooManyVariables, TooManyPoints}
-use Rattle.lra_tree.specs.declared.tokens.Kind.TheVariants.{Unclosed, End}
-use Rattle.lra_tree.specs.declared.tokens.Mark.TheVariants as mark
-use Rattle.lra_tree.specs.declared.tokens.Token.{Token}
-use Rattle.lra_tree.specs.Lexeme.{IsOpen, unclosed, comment}
-use Rattle.lra_tree.specs.declared.tokens.Kind.{Kind}
+use Rattle.lra_syntax.specs.declared.tokens.Kind.TheVariants.{Unclosed, End}
+use Rattle.lra_syntax.specs.declared.tokens.Mark.TheVariants as mark
+use Rattle.lra_syntax.specs.declared.tokens.Token.{Token}
+use Rattle.lra_syntax.specs.Lexeme.{IsOpen, unclosed, comment}
+use Rattle.lra_syntax.specs.declared.tokens.Kind.{Kind}
 use Rattle.lra_base.specs.Places.{place_after, place_from, greatest_length}
-use Rattle.lra_tree.specs.Tokens.{is_blank, blank, line_comment, block_comment, skipped_line, NoGap, token}
-use Rattle.lra_tree.specs.Trees.{scalar, DeclaratorTree, nothing, call, ItemsTree, no_items, declaration, statement, PartTree, function, FileTree, for}
-use Rattle.lra_tree.specs.Trees.{declared, expression}
-use Rattle.lra_tree.specs.Labels.{labels_of}
+use Rattle.lra_syntax.specs.Tokens.{is_blank, blank, line_comment, block_comment, skipped_line, NoGap, token}
+use Rattle.lra_syntax.specs.Trees.{scalar, DeclaratorTree, nothing, call, ItemsTree, no_items, declaration, statement, ExternalTree, function, FileTree, for}
+use Rattle.lra_syntax.specs.Trees.{declared, expression}
+use Rattle.lra_syntax.specs.Labels.{labels_of}
 use Rattle.lra_meaning.specs.Resolve.{resolve}
 use Rattle.lra_program.specs.Sites.{events_of}
 use Rattle.lra_meaning.specs.Refuse.{limit_fault, Refuse, too_long, bad_token, bad_text, bad_tree, bad_name}
-use Rattle.lra_tree.specs.Grammar.{Spells}
+use Rattle.lra_syntax.specs.Grammar.{Spells}
 use Rattle.std.proofs.lemmas.List.{take-replicate, length-replicate, length-append}
-use Rattle.lra_tree.proofs.LongestByTest.{no_gap, no_lexeme, is_open}
-use Rattle.lra_tree.proofs.FirstTokens.{not_unclosed}
-use Rattle.lra_tree.proofs.Lexemes.{Item, faulty}
-use Rattle.lra_tree.proofs.LexedByTest.{space, sign, word_of, are_read_by}
-use Rattle.lra_tree.proofs.TokenExamples.{too_large}
-use Rattle.lra_tree.proofs.TreeSamples.{at, name_at, call_of, long_parameter, main_function, void_of, main_of, declared_as, number as number_of}
+use Rattle.lra_syntax.proofs.LongestByTest.{no_gap, no_lexeme, is_open}
+use Rattle.lra_syntax.proofs.FirstTokens.{not_unclosed}
+use Rattle.lra_syntax.proofs.Lexemes.{ExternalDeclaration, faulty}
+use Rattle.lra_syntax.proofs.LexedByTest.{space, sign, word_of, are_read_by}
+use Rattle.lra_syntax.proofs.TokenExamples.{too_large}
+use Rattle.lra_syntax.proofs.TreeSamples.{at, name_at, call_of, long_parameter, main_function, void_of, main_of, declared_as, literal_text as number_of}
 
 abbrev limits : FileTree → Option Refusal
 limits t = limit_fault (labels_of t) 0 (events_of (resolve t))
@@ -89,7 +89,7 @@ points_enough : limits (main_of (semicolons 2047 16) 2063) ≡ None
 points_enough = refl
 
 -- function k calls function k - 1 at the column k
-abbrev chain : ℕ → List PartTree
+abbrev chain : ℕ → List ExternalTree
 chain zero = function (void_of (97 ∷ 0 ∷ []) 6 [] no_items 14) ∷ []
 chain (suc n) = function (void_of (97 ∷ suc n ∷ []) 6 [] (statement (call (call_of (name_at (97 ∷ n ∷ []) (suc n)) [])) no_items) 14) ∷ chain n
 
@@ -134,7 +134,7 @@ too_many_spaces = spaces_too_long 65536 refl
 abbrev token_at : Kind → ℕ → Token
 token_at k c = record { kind = k; place = at c }
 
-abbrev before_dollar : List Item
+abbrev before_dollar : List ExternalDeclaration
 before_dollar =
     sign mark.Int ∷ space ∷ word_of (codes "main") ∷ sign mark.OpenParen ∷ sign mark.Void ∷ sign mark.CloseParen ∷ sign mark.OpenBrace ∷ space ∷ []
 

@@ -1,10 +1,10 @@
 -- Points with their calls written out, in the order of their numbers.
 use Rattle.std.proofs.Common.{◌≡◌, ℕ, List, [], ◌∷◌, true, false, refl}
 use Rattle.std.specs.Prelude.{map}
-use Rattle.lra_tree.specs.Labels.{labels_of}
+use Rattle.lra_syntax.specs.Labels.{labels_of}
 use Rattle.lra_meaning.specs.Resolve.{resolve}
 use Rattle.lra_program.specs.Sites.{Site, sites_of}
-use Rattle.lra_tree.proofs.TreeSamples.{at, called_twice, call_in_step}
+use Rattle.lra_syntax.proofs.TreeSamples.{at, called_twice, call_in_step}
 
 abbrev pub site : List ℕ → ℕ → ℕ → Site
 site path at live = record { path = path; label = at; live = live; asserts = false }

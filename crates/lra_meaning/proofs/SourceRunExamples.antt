@@ -1,7 +1,7 @@
 -- Runs of the programs that sources mean.
 use Rattle.std.proofs.Common.{◌≡◌, pos, [], ◌∷◌, refl}
 use Rattle.lra_meaning.specs.Resolve.{resolve}
-use Rattle.lra_tree.proofs.TreeSamples.{call_in_step, repeated_step}
+use Rattle.lra_syntax.proofs.TreeSamples.{call_in_step, repeated_step}
 use Rattle.lra_program.proofs.RunExamples.{visited}
 
 -- long k(long d){ return d+1; } long h(long a){ for(long i=0;i<a;i=k(i)) ; return k(a); } int main(void){ long m=h(2); }

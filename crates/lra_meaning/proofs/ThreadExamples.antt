@@ -4,22 +4,22 @@ use Rattle.std.specs.Prelude.{codes, Contains, get_or}
 use Rattle.lra_base.specs.declared.refusals.Refusal.{Refusal}
 use Rattle.lra_base.specs.declared.refusals.Cause.{Cause}
 use Rattle.lra_base.specs.declared.refusals.Cause.TheVariants.{NoThreads, UnknownName, DuplicateName, Recursive}
-use Rattle.lra_tree.specs.declared.trees.Identifier.{Identifier}
-use Rattle.lra_tree.specs.Trees.{expression, set, nothing, assign, call, no_items, ItemsTree, statement, function, FileTree, FunctionTree, PartTree}
-use Rattle.lra_tree.specs.Labels.{labels_of}
-use Rattle.lra_tree.specs.Functions.{functions_of}
-use Rattle.lra_tree.specs.Reach.{calls_of, ReachesByCalls, there, by_call, IsFirstRecursive}
+use Rattle.lra_syntax.specs.declared.trees.Identifier.{Identifier}
+use Rattle.lra_syntax.specs.Trees.{expression, set, nothing, assign, call, no_items, ItemsTree, statement, function, FileTree, FunctionTree, ExternalTree}
+use Rattle.lra_syntax.specs.Labels.{labels_of}
+use Rattle.lra_syntax.specs.Functions.{functions_of}
+use Rattle.lra_syntax.specs.Reach.{calls_of, ReachesByCalls, there, by_call, IsFirstRecursive}
 use Rattle.lra_program.specs.Sites.{event_sites}
 use Rattle.lra_meaning.specs.Refuse.{limit_fault}
 use Rattle.lra_meaning.specs.Threads.{thread_faults, thread_places, thread_events, thread_program}
 use Rattle.lra_meaning.specs.RefuseThreads.{RefusesThreads, recursive}
-use Rattle.lra_tree.proofs.TreeSamples.{at, name_at, x_at, number, call_of, long_parameter, main_function, void_of}
+use Rattle.lra_syntax.proofs.TreeSamples.{at, name_at, x_at, literal_text, call_of, long_parameter, main_function, void_of}
 
 abbrev fault : Cause → ℕ → Refusal
 fault c column = record { cause = c; place = at column }
 
 -- a part: a function of this name, which stands at this column, and whose `}` stands at another
-abbrev part : List ℕ → ℕ → ItemsTree → ℕ → PartTree
+abbrev part : List ℕ → ℕ → ItemsTree → ℕ → ExternalTree
 part name c body end = function (void_of name c [] body end)
 
 -- void t1(void){} : main isn't asked for
@@ -45,7 +45,7 @@ with_parameter : thread_faults (record {
 with_parameter = refl
 
 -- void t1(void){x=1;} : names come before; catches a fault at the end that is told first
-unknown_first : thread_faults (record { parts = part (codes "t1") 6 (statement (assign (set (x_at 15) (expression (number 1)))) no_items) 19 ∷ []; end = at 20 })
+unknown_first : thread_faults (record { parts = part (codes "t1") 6 (statement (assign (set (x_at 15) (expression (literal_text 1)))) no_items) 19 ∷ []; end = at 20 })
     ≡ fault UnknownName 15 ∷ fault NoThreads 20 ∷ []
 unknown_first = refl
 
@@ -72,7 +72,7 @@ second_program : (thread_program two 1).main.end ≡ 4
 second_program = refl
 
 -- void t2(void){} .. void t9(void){} void t1(void){} : at most eight, in the order of their numbers
-abbrev named : ℕ → PartTree
+abbrev named : ℕ → ExternalTree
 named k = part (116 ∷ k ∷ []) 6 no_items 15
 
 nine_threads : thread_places (record { parts = named 50 ∷ named 51 ∷ named 52 ∷ named 53 ∷ named 54 ∷ named 55 ∷ named 56 ∷ named 57 ∷ named 49 ∷ []; end = at 16 })

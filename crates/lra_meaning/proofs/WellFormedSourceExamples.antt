@@ -5,7 +5,7 @@ use Rattle.lra_program.specs.Program.{local, literal, read}
 use Rattle.lra_meaning.specs.Resolve.{resolve}
 use Rattle.lra_program.specs.WellFormed.{IsGoodCall, IsWellFormed}
 use Rattle.lra_program.proofs.RunExamples.{long_variable}
-use Rattle.lra_tree.proofs.TreeSamples.{called_twice}
+use Rattle.lra_syntax.proofs.TreeSamples.{called_twice}
 
 -- long inc(long x){ x=x+1; return x; } int main(void){ long x=inc(1); x=inc(x); assert(x==3); }
 called_twice_is_well_formed : IsWellFormed (resolve called_twice)

@@ -1,6 +1,6 @@
 -- Lists of names that share their fronts, and the labels of a source with numbers of such lists.
 use Rattle.std.specs.Prelude.{◌≡◌, ◌≤◌, ◌<◌, ℕ, List, [], ◌∷◌, ◌++◌, slice_get, slice_index_or, Some}
-use Rattle.lra_tree.specs.Labels.{Labelled}
+use Rattle.lra_syntax.specs.Labels.{Labelled}
 use Rattle.lra_meaning.specs.declared.labels.Entry.{Entry}
 use Rattle.lra_meaning.specs.declared.labels.Label.{Label}
 

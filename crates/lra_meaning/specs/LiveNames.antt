@@ -1,14 +1,14 @@
 -- The names of the variables that live at a point; arrays are none.
 use Rattle.std.specs.Prelude.{ℕ, List, [], ◌∷◌, ◌++◌, Option, Some, None, flat_map}
-use Rattle.lra_tree.specs.Trees.{GlobalTree, PartTree, prototype, globals, function}
-use Rattle.lra_tree.specs.Labels.{Labelled, label_at, name_in}
+use Rattle.lra_syntax.specs.Trees.{GlobalTree, ExternalTree, prototype, globals, function}
+use Rattle.lra_syntax.specs.Labels.{Labelled, label_at, name_in}
 use Rattle.lra_program.specs.Sites.{Site}
 
 -- the name of a scalar
 abbrev pub live_name : GlobalTree → List (List ℕ)
 live_name x = name_in x.name.word x.shape
 
-abbrev pub globals_named : List PartTree → List (List ℕ)
+abbrev pub globals_named : List ExternalTree → List (List ℕ)
 globals_named [] = []
 globals_named (prototype ∷ ps) = globals_named ps
 globals_named (globals g ∷ ps) = flat_map live_name (g.first ∷ g.rest) ++ globals_named ps

@@ -13,24 +13,27 @@ use Rattle.lra_base.specs.declared.case_labels.CaseLabel.{CaseLabel}
 use Rattle.lra_base.specs.CaseLabels.{is_same_case}
 use Rattle.lra_base.specs.NumberTypes.{fits}
 use Rattle.lra_base.specs.Limits.{is_length}
-use Rattle.lra_tree.specs.declared.trees.SignedLiteral.{SignedLiteral}
-use Rattle.lra_tree.specs.declared.trees.ArrayLength.{ArrayLength}
-use Rattle.lra_tree.specs.declared.trees.Identifier.{Identifier}
-use Rattle.lra_tree.specs.declared.trees.Parameter.{Parameter}
-use Rattle.lra_tree.specs.Trees.{UnaryTree, negated, positive, literal, variable, input, group, element, TermTree}
-use Rattle.lra_tree.specs.Trees.{unary, times, over, modulo, ExprTree, term, plus, minus, NegationTree, opposite_again}
-use Rattle.lra_tree.specs.Trees.{value_of_unary, group_opposed, TestTree, opposite, value, compare, group_of}
-use Rattle.lra_tree.specs.Trees.{ConjunctionTree, test, and, CondTree, conjunction, or, CallTree, RvalueTree}
-use Rattle.lra_tree.specs.Trees.{expression, result, AssignTree, set, set_element, update, after, before, ShapeTree}
-use Rattle.lra_tree.specs.Trees.{scalar, array, DeclaratorTree, InitTree, no_init, declared, assigned, StmtTree, block}
-use Rattle.lra_tree.specs.Trees.{nothing, assign, call, if_only, if_else, while, for, break, continue, return, assert}
-use Rattle.lra_tree.specs.Trees.{assume, switch, CasesTree, no_cases, labelled, stated, ItemsTree, no_items}
-use Rattle.lra_tree.specs.Trees.{declaration, statement, FunctionTree, GlobalTree, PartTree, prototype, globals}
-use Rattle.lra_tree.specs.Trees.{function, FileTree}
+use Rattle.lra_syntax.specs.declared.trees.SignedLiteral.{SignedLiteral}
+use Rattle.lra_syntax.specs.declared.trees.ArrayLength.{ArrayLength}
+use Rattle.lra_syntax.specs.declared.trees.Identifier.{Identifier}
+use Rattle.lra_syntax.specs.declared.trees.Parameter.{Parameter}
+use Rattle.lra_syntax.specs.Trees.{UnaryTree, negated, positive, literal, variable, input, group, element, TermTree}
+use Rattle.lra_syntax.specs.Trees.{unary, times, over, modulo, ExprTree, term, plus, minus, NegationTree}
+use Rattle.lra_syntax.specs.Trees.{opposite_again}
+use Rattle.lra_syntax.specs.Trees.{value_of_unary, group_opposed, TestTree, opposite, value, compare, group_of}
+use Rattle.lra_syntax.specs.Trees.{ConjunctionTree, test, and, CondTree, conjunction, or, CallTree, RvalueTree}
+use Rattle.lra_syntax.specs.Trees.{expression, result, AssignTree, set, set_element, update, after, before}
+use Rattle.lra_syntax.specs.Trees.{ScalarOrArrayTree}
+use Rattle.lra_syntax.specs.Trees.{scalar, array, DeclaratorTree, InitTree, no_init, declared, assigned, StmtTree}
+use Rattle.lra_syntax.specs.Trees.{block}
+use Rattle.lra_syntax.specs.Trees.{nothing, assign, call, if_only, if_else, while, for, break, continue, return, assert}
+use Rattle.lra_syntax.specs.Trees.{assume, switch, CasesTree, no_cases, labelled, stated, ItemsTree, no_items}
+use Rattle.lra_syntax.specs.Trees.{declaration, statement, FunctionTree, GlobalTree, ExternalTree, prototype, globals}
+use Rattle.lra_syntax.specs.Trees.{function, FileTree}
 use Rattle.lra_program.specs.WellFormed.{Jumps, no_jumps, in_loop, in_switch}
 use Rattle.lra_meaning.specs.Scope.{Entry, Scope, Found, found_of, is_array, is_declared, with_local, declarator_entry}
 use Rattle.lra_meaning.specs.Scope.{global_entries, with_declarators, inner, for_scope, function_scope}
-use Rattle.lra_tree.specs.Functions.{functions_of, function_named, is_main}
+use Rattle.lra_syntax.specs.Functions.{functions_of, function_named, is_main}
 
 abbrev pub fault_if : Bool → Cause → Place → List Refusal
 fault_if b c at = if b then record { cause = c; place = at } ∷ [] else []
@@ -126,7 +129,7 @@ abbrev pub length_faults : ArrayLength → List Refusal
 length_faults n = fault_if (not (is_length n.value)) BadLength n.place
 
 -- of a scalar's value, where it has one, or of an array's length
-abbrev pub shape_faults : {A : Type 0} → (Option A → List Refusal) → ShapeTree A → List Refusal
+abbrev pub shape_faults : {A : Type 0} → (Option A → List Refusal) → ScalarOrArrayTree A → List Refusal
 shape_faults of_value (scalar e) = of_value e
 shape_faults of_value (array n) = length_faults n
 
@@ -233,7 +236,7 @@ abbrev pub global_names : List GlobalTree → List (List ℕ)
 global_names gs = map (λ (g : GlobalTree). g.name.word) gs
 
 -- behind the names that the file scope has so far, and the globals among them
-abbrev pub parts_faults : List FunctionTree → List (List ℕ) → List Entry → List PartTree → List Refusal
+abbrev pub parts_faults : List FunctionTree → List (List ℕ) → List Entry → List ExternalTree → List Refusal
 parts_faults F names outside [] = []
 parts_faults F names outside (prototype ∷ ps) = parts_faults F names outside ps
 parts_faults F names outside (globals g ∷ ps) =

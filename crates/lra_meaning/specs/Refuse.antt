@@ -7,18 +7,18 @@ use Rattle.lra_base.specs.declared.refusals.Place.{Place}
 use Rattle.lra_base.specs.declared.refusals.Cause.{Cause}
 use Rattle.lra_base.specs.declared.refusals.Cause.TheVariants.{TooLong, Recursive, TooManyVariables, TooManyPoints}
 use Rattle.lra_base.specs.declared.refusals.Refusal.{Refusal}
-use Rattle.lra_tree.specs.declared.tokens.Token.{Token}
-use Rattle.lra_tree.specs.Trees.{FileTree}
+use Rattle.lra_syntax.specs.declared.tokens.Token.{Token}
+use Rattle.lra_syntax.specs.Trees.{FileTree}
 pub use Rattle.lra_base.specs.Limits.{greatest_live}
 use Rattle.lra_base.specs.Places.{place_after, greatest_length}
-use Rattle.lra_tree.specs.Tokens.{Lex, IsTokenFault}
-use Rattle.lra_tree.specs.Faults.{Language, IsTree, IsTextFault}
+use Rattle.lra_syntax.specs.Tokens.{Lex, IsTokenFault}
+use Rattle.lra_syntax.specs.Faults.{Language, IsTree, IsTextFault}
 use Rattle.lra_meaning.specs.NameFaults.{name_faults}
-use Rattle.lra_tree.specs.Labels.{Labelled, labels_of, label_at, label_place, called_place}
-use Rattle.lra_tree.specs.Reach.{IsFirstRecursive, NotRecursive}
+use Rattle.lra_syntax.specs.Labels.{Labelled, labels_of, label_at, label_place, called_place}
+use Rattle.lra_syntax.specs.Reach.{IsFirstRecursive, NotRecursive}
 use Rattle.lra_meaning.specs.Resolve.{resolve}
 use Rattle.lra_program.specs.Sites.{Event, comes, one_call_more, events_of}
-use Rattle.lra_tree.specs.Grammar.{Spells}
+use Rattle.lra_syntax.specs.Grammar.{Spells}
 use Rattle.lra_program.specs.WellFormed.{IsWellFormed}
 
 -- limits -----------------------------------------------------------------------------------------------------------

@@ -6,12 +6,12 @@ use Rattle.lra_base.specs.declared.refusals.Cause.{Cause}
 use Rattle.lra_base.specs.declared.refusals.Cause.TheVariants.{TooLong, Recursive}
 use Rattle.lra_base.specs.declared.refusals.Refusal.{Refusal}
 use Rattle.lra_base.specs.Places.{place_after, greatest_length}
-use Rattle.lra_tree.specs.declared.tokens.Token.{Token}
-use Rattle.lra_tree.specs.Trees.{FileTree}
-use Rattle.lra_tree.specs.Tokens.{Lex, IsTokenFault}
-use Rattle.lra_tree.specs.Faults.{Language, IsTree, IsTextFault}
-use Rattle.lra_tree.specs.Labels.{labels_of}
-use Rattle.lra_tree.specs.Reach.{IsFirstRecursive, NotRecursive}
+use Rattle.lra_syntax.specs.declared.tokens.Token.{Token}
+use Rattle.lra_syntax.specs.Trees.{FileTree}
+use Rattle.lra_syntax.specs.Tokens.{Lex, IsTokenFault}
+use Rattle.lra_syntax.specs.Faults.{Language, IsTree, IsTextFault}
+use Rattle.lra_syntax.specs.Labels.{labels_of}
+use Rattle.lra_syntax.specs.Reach.{IsFirstRecursive, NotRecursive}
 use Rattle.lra_meaning.specs.Refuse.{limit_fault}
 use Rattle.lra_meaning.specs.Threads.{thread_faults, thread_events}
 

@@ -6,12 +6,12 @@ use Rattle.std.specs.Prelude.{ℕ, suc, ◌+◌, ℤ, pos, List, [], ◌∷◌, 
 use Rattle.std.specs.Prelude.{flat_map}
 use Rattle.lra_base.specs.declared.number_types.NumberType.{NumberType}
 use Rattle.lra_base.specs.declared.number_types.NumberType.TheVariants.{Int, Long}
-use Rattle.lra_tree.specs.declared.trees.SignedLiteral.{SignedLiteral}
-use Rattle.lra_tree.specs.declared.trees.Parameter.{Parameter}
+use Rattle.lra_syntax.specs.declared.trees.SignedLiteral.{SignedLiteral}
+use Rattle.lra_syntax.specs.declared.trees.Parameter.{Parameter}
 use Rattle.lra_program.specs.declared.arrays.Array.{Array}
 use Rattle.lra_program.specs.declared.program.GlobalVariable.{GlobalVariable}
-use Rattle.lra_tree.specs.declared.trees.Identifier.{Identifier}
-use Rattle.lra_tree.specs.Trees as tree
+use Rattle.lra_syntax.specs.declared.trees.Identifier.{Identifier}
+use Rattle.lra_syntax.specs.Trees as tree
 use Rattle.lra_program.specs.Program.{global, Variable, Expr, literal, read, input, negate, binary, element, Element}
 use Rattle.lra_program.specs.Program.{Cond, compare, nonzero, opposite, both_of, either_of, Call, Rvalue, value}
 use Rattle.lra_program.specs.Program.{result, Stmt, absent, nothing, block, assign, write, call, if, loop, for, break}
@@ -21,8 +21,8 @@ use Rattle.lra_base.specs.Operators.{Operator, plus, minus, times, over, modulo}
 use Rattle.lra_meaning.specs.Scope as scope
 use Rattle.lra_meaning.specs.Scope.{Entry, Scope, Meaning, Found, found_of, with_local, array_of, declarator_entry}
 use Rattle.lra_meaning.specs.Scope.{global_entries, with_declarators, inner, for_scope, function_scope}
-use Rattle.lra_tree.specs.Functions.{functions_of, is_named, is_main}
-use Rattle.lra_tree.specs.Labels.{init_labels, step_labels, stmt_labels}
+use Rattle.lra_syntax.specs.Functions.{functions_of, is_named, is_main}
+use Rattle.lra_syntax.specs.Labels.{init_labels, step_labels, stmt_labels}
 
 -- names: what is said of one that isn't in scope is of no use, since such a source is refused ------------------------
 
@@ -148,7 +148,7 @@ resolve_assign F s n (tree.before at step x) = assign n (variable s x)
 
 -- a name that is declared with this label and type
 abbrev pub resolve_declared : List tree.FunctionTree → Scope → ℕ → NumberType → Identifier →
-    tree.ShapeTree tree.RvalueTree → BlockItems → BlockItems
+    tree.ScalarOrArrayTree tree.RvalueTree → BlockItems → BlockItems
 resolve_declared F s n t x (tree.scalar e) items =
     declaration (record { label = n; number_type = t; rvalue = resolve_given F s n e }) items
 resolve_declared F s n t x (tree.array c) items = array n (array_of t x c) items
@@ -247,22 +247,22 @@ value_or_zero None = pos 0
 value_or_zero (Some v) = v.value
 
 -- the variable, or the array, that a global of this type is
-abbrev pub variables_by : NumberType → tree.ShapeTree SignedLiteral → List GlobalVariable
+abbrev pub variables_by : NumberType → tree.ScalarOrArrayTree SignedLiteral → List GlobalVariable
 variables_by t (tree.scalar v) = record { number_type = t; value = value_or_zero v } ∷ []
 variables_by t (tree.array n) = []
 
-abbrev pub arrays_by : NumberType → Identifier → tree.ShapeTree SignedLiteral → List Array
+abbrev pub arrays_by : NumberType → Identifier → tree.ScalarOrArrayTree SignedLiteral → List Array
 arrays_by t x (tree.scalar v) = []
 arrays_by t x (tree.array n) = array_of t x n ∷ []
 
-abbrev pub globals_in : List tree.PartTree → List GlobalVariable
+abbrev pub globals_in : List tree.ExternalTree → List GlobalVariable
 globals_in [] = []
 globals_in (tree.prototype ∷ ps) = globals_in ps
 globals_in (tree.globals g ∷ ps) =
     flat_map (λ (x : tree.GlobalTree). variables_by g.number_type x.shape) (g.first ∷ g.rest) ++ globals_in ps
 globals_in (tree.function f ∷ ps) = globals_in ps
 
-abbrev pub arrays_in : List tree.PartTree → List Array
+abbrev pub arrays_in : List tree.ExternalTree → List Array
 arrays_in [] = []
 arrays_in (tree.prototype ∷ ps) = arrays_in ps
 arrays_in (tree.globals g ∷ ps) =
@@ -270,7 +270,7 @@ arrays_in (tree.globals g ∷ ps) =
 arrays_in (tree.function f ∷ ps) = arrays_in ps
 
 -- the functions behind some globals, from the label n on
-abbrev pub resolve_parts : List tree.FunctionTree → List Entry → ℕ → List tree.PartTree → List Function
+abbrev pub resolve_parts : List tree.FunctionTree → List Entry → ℕ → List tree.ExternalTree → List Function
 resolve_parts F outside n [] = []
 resolve_parts F outside n (tree.prototype ∷ ps) = resolve_parts F outside n ps
 resolve_parts F outside n (tree.globals g ∷ ps) = resolve_parts F (outside ++ global_entries g) n ps

@@ -3,13 +3,13 @@ use Rattle.std.specs.Prelude.{ℕ, suc, ◌+◌, Bool, true, false, if◌then◌
 use Rattle.std.specs.Prelude.{bytes_eq, Option, Some, None, map, option_map, slice_get}
 use Rattle.std.specs.List.{list_any}
 use Rattle.lra_base.specs.declared.number_types.NumberType.{NumberType}
-use Rattle.lra_tree.specs.declared.trees.ArrayLength.{ArrayLength}
-use Rattle.lra_tree.specs.declared.trees.Identifier.{Identifier}
-use Rattle.lra_tree.specs.declared.trees.Parameter.{Parameter}
+use Rattle.lra_syntax.specs.declared.trees.ArrayLength.{ArrayLength}
+use Rattle.lra_syntax.specs.declared.trees.Identifier.{Identifier}
+use Rattle.lra_syntax.specs.declared.trees.Parameter.{Parameter}
 use Rattle.lra_program.specs.declared.arrays.Array.{Array}
 use Rattle.lra_program.specs.Program.{Slot, global, local}
-use Rattle.lra_tree.specs.Trees as tree
-use Rattle.lra_tree.specs.Trees.{DeclaratorTree, InitTree, no_init, declared, assigned, GlobalTree, GlobalsTree}
+use Rattle.lra_syntax.specs.Trees as tree
+use Rattle.lra_syntax.specs.Trees.{DeclaratorTree, InitTree, no_init, declared, assigned, GlobalTree, GlobalsTree}
 
 -- what a name means: a scalar of this type, or an array
 pub data Meaning : Type 0 where
@@ -88,7 +88,7 @@ with_local s e = record s { locals = s.locals ++ e ∷ [] }
 abbrev pub array_of : NumberType → Identifier → ArrayLength → Array
 array_of t x n = record { declared = x.place; length = n.value; number_type = t }
 
-abbrev pub meaning_of : {A : Type 0} → NumberType → Identifier → tree.ShapeTree A → Meaning
+abbrev pub meaning_of : {A : Type 0} → NumberType → Identifier → tree.ScalarOrArrayTree A → Meaning
 meaning_of t x (tree.scalar e) = scalar t
 meaning_of t x (tree.array n) = array (array_of t x n)
 

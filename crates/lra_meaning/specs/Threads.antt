@@ -5,8 +5,8 @@ use Rattle.std.specs.Prelude.{ℕ, zero, suc, ◌+◌, Bool, false, not, if◌th
 use Rattle.std.specs.Prelude.{length, map, Option, Some, None, slice_get, flat_map}
 use Rattle.lra_base.specs.declared.refusals.Refusal.{Refusal}
 use Rattle.lra_base.specs.declared.refusals.Cause.TheVariants.{NoThreads}
-use Rattle.lra_tree.specs.Trees.{FunctionTree, FileTree}
-use Rattle.lra_tree.specs.Functions.{functions_of, function_named}
+use Rattle.lra_syntax.specs.Trees.{FunctionTree, FileTree}
+use Rattle.lra_syntax.specs.Functions.{functions_of, function_named}
 use Rattle.lra_program.specs.Program.{Program}
 use Rattle.lra_program.specs.ProgramViews.{function_or}
 use Rattle.lra_program.specs.Sites.{Event, events_of}

@@ -3,12 +3,12 @@
 
 ghost use Rattle.std.specs.Prelude.{◌≡◌, ◌++◌, ◌∷◌, ◌<◌, ◌≤◌, ◌-◌, [], List, length, take, suc, IfOk, OnErr};
 ghost use Rattle.std.specs.Prelude.{MatchOption};
-ghost use Rattle.lra_tree.specs.Labels.{Labelled, label_at, label_place};
+ghost use Rattle.lra_syntax.specs.Labels.{Labelled, label_at, label_place};
 ghost use Rattle.lra_meaning.specs.LiveNames.{live_at, live_in_call_at};
 ghost use Rattle.lra_meaning.specs.LabelTable.{list_at, lists_of, AreOrdered, label_in, with_live};
 
 use lra_base::Place;
-use lra_tree::{Identifier, Word};
+use lra_syntax::{Identifier, Word};
 use std::alloc::{AllocError, Global};
 use std::marker::Model;
 

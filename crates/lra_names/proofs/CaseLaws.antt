@@ -9,14 +9,14 @@ use Rattle.lra_base.specs.declared.refusals.Place.{Place}
 use Rattle.lra_base.specs.declared.refusals.Refusal.{Refusal}
 use Rattle.lra_base.specs.declared.refusals.Cause.TheVariants.{DuplicateCase}
 use Rattle.lra_base.specs.CaseLabels.{is_same_case}
-use Rattle.lra_tree.specs.Trees.{ExprTree, CasesTree, no_cases, labelled, stated, switch, FunctionTree}
-use Rattle.lra_tree.specs.declared.trees.PlacedLabel.{PlacedLabel}
-use Rattle.lra_tree.specs.declared.trees.Cases.{Cases}
-use Rattle.lra_tree.specs.declared.trees.CaseItem.{CaseItem, the_lemmas as tree_lemmas}
-use Rattle.lra_tree.specs.declared.trees.CaseItem as code_case
-use Rattle.lra_tree.specs.declared.trees.Stmt.{Stmt}
-use Rattle.lra_tree.specs.Views.{cases_of, case_view, cases_view, stmt_view}
-use Rattle.lra_tree.specs.Labels.{Labelled, plain_label, stmt_labels, cases_labels}
+use Rattle.lra_syntax.specs.Trees.{ExprTree, CasesTree, no_cases, labelled, stated, switch, FunctionTree}
+use Rattle.lra_syntax.specs.declared.trees.PlacedLabel.{PlacedLabel}
+use Rattle.lra_syntax.specs.declared.trees.Cases.{Cases}
+use Rattle.lra_syntax.specs.declared.trees.CaseItem.{CaseItem, the_lemmas as tree_lemmas}
+use Rattle.lra_syntax.specs.declared.trees.CaseItem as code_case
+use Rattle.lra_syntax.specs.declared.trees.Stmt.{Stmt}
+use Rattle.lra_syntax.specs.Views.{cases_of, case_view, cases_view, stmt_view}
+use Rattle.lra_syntax.specs.Labels.{Labelled, plain_label, stmt_labels, cases_labels}
 use Rattle.lra_program.specs.Program as program
 use Rattle.lra_program.specs.ProgramViews as view
 use Rattle.lra_program.specs.declared.program.CaseItem.{CaseItem as ProgramCase, the_lemmas}

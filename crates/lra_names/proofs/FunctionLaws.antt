@@ -5,10 +5,10 @@ use Rattle.std.specs.List.{list_any}
 use Rattle.std.proofs.lemmas.List.{map-append}
 use Rattle.lra_base.specs.declared.number_types.NumberType.{NumberType}
 use Rattle.lra_base.specs.declared.error.SourceError.{SourceError}
-use Rattle.lra_tree.specs.Trees.{FunctionTree, GlobalTree}
+use Rattle.lra_syntax.specs.Trees.{FunctionTree, GlobalTree}
 use Rattle.lra_program.specs.Program as program
 use Rattle.lra_program.specs.ProgramViews.{function_or}
-use Rattle.lra_tree.specs.Functions.{is_main}
+use Rattle.lra_syntax.specs.Functions.{is_main}
 use Rattle.lra_meaning.specs.NameFaults.{is_taken, first_value_faults, shape_faults, globals_faults}
 use Rattle.lra_meaning.specs.Resolve.{main_of}
 use Rattle.lra_names.specs.Mains.{main_place}

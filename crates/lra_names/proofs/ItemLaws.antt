@@ -2,13 +2,13 @@
 use Rattle.std.proofs.Common.{◌≡◌, ℕ, ◌+◌, suc, List, [], ◌∷◌, ◌++◌, length, map, refl, arith, rules}
 use Rattle.std.proofs.lemmas.List.{length-map}
 use Rattle.lra_base.specs.declared.error.SourceError.{SourceError}
-use Rattle.lra_tree.specs.Trees.{DeclaratorTree, FunctionTree, ItemsTree, declaration, statement}
-use Rattle.lra_tree.specs.Views.{declaration_view, declarator_view, item_view, stmt_view}
-use Rattle.lra_tree.specs.declared.trees.BlockItem as code_item
-use Rattle.lra_tree.specs.declared.trees.BlockItem.{the_lemmas as tree_lemmas}
-use Rattle.lra_tree.specs.declared.trees.Declaration.{Declaration}
-use Rattle.lra_tree.specs.declared.trees.Stmt.{Stmt}
-use Rattle.lra_tree.specs.Labels.{stmt_labels}
+use Rattle.lra_syntax.specs.Trees.{DeclaratorTree, FunctionTree, ItemsTree, declaration, statement}
+use Rattle.lra_syntax.specs.Views.{declaration_view, declarator_view, item_view, stmt_view}
+use Rattle.lra_syntax.specs.declared.trees.BlockItem as code_item
+use Rattle.lra_syntax.specs.declared.trees.BlockItem.{the_lemmas as tree_lemmas}
+use Rattle.lra_syntax.specs.declared.trees.Declaration.{Declaration}
+use Rattle.lra_syntax.specs.declared.trees.Stmt.{Stmt}
+use Rattle.lra_syntax.specs.Labels.{stmt_labels}
 use Rattle.lra_program.specs.Program.{BlockItems}
 use Rattle.lra_program.specs.ProgramViews as view
 use Rattle.lra_program.specs.declared.program.BlockItem as program_item

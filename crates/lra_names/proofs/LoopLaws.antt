@@ -5,8 +5,8 @@ use Rattle.std.specs.Result.{IsErrAnd}
 use Rattle.std.proofs.Math.Seq.{take-length}
 use Rattle.lra_base.specs.declared.refusals.Place.{Place}
 use Rattle.lra_base.specs.declared.error.SourceError.{SourceError}
-use Rattle.lra_tree.specs.Trees.{CondTree, StmtTree, block, if_only, if_else, ItemsTree, FunctionTree}
-use Rattle.lra_tree.specs.Labels.{Labelled, plain_label, stmt_labels}
+use Rattle.lra_syntax.specs.Trees.{CondTree, StmtTree, block, if_only, if_else, ItemsTree, FunctionTree}
+use Rattle.lra_syntax.specs.Labels.{Labelled, plain_label, stmt_labels}
 use Rattle.lra_program.specs.declared.program.BlockItems.{BlockItems}
 use Rattle.lra_program.specs.declared.program.BlockItem.{the_lemmas}
 use Rattle.lra_program.specs.declared.program.Stmt.{Stmt}

@@ -1,7 +1,7 @@
 -- One function: its parameters, then its body in their scope.
 use Rattle.std.proofs.Common.{◌≡◌, ℕ, ◌+◌, Bool, List, [], ◌++◌, map, refl, sym, is_some}
-use Rattle.lra_tree.specs.declared.trees.Parameter.{Parameter}
-use Rattle.lra_tree.specs.Trees.{FunctionTree}
+use Rattle.lra_syntax.specs.declared.trees.Parameter.{Parameter}
+use Rattle.lra_syntax.specs.Trees.{FunctionTree}
 use Rattle.lra_program.specs.Program as program
 use Rattle.lra_meaning.specs.Scope.{Entry, Scope, function_scope}
 use Rattle.lra_program.specs.WellFormed.{no_jumps}

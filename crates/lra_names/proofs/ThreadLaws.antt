@@ -3,8 +3,8 @@ use Rattle.std.proofs.Common.{◌≡◌, ℕ, zero, suc, ◌+◌, ◌-◌, ◌<�
 use Rattle.std.proofs.Common.{length-append, append_assoc, append-nil}
 use Rattle.std.specs.Prelude.{if◌then◌else◌, ◌&&◌}
 use Rattle.lra_base.specs.declared.refusals.Cause.TheVariants.{NoThreads}
-use Rattle.lra_tree.specs.Trees.{FunctionTree, FileTree}
-use Rattle.lra_tree.specs.Functions.{functions_of, function_named}
+use Rattle.lra_syntax.specs.Trees.{FunctionTree, FileTree}
+use Rattle.lra_syntax.specs.Functions.{functions_of, function_named}
 use Rattle.lra_meaning.specs.NameFaults.{parts_faults}
 use Rattle.lra_meaning.specs.Resolve.{function_place}
 use Rattle.lra_meaning.specs.Threads.{greatest_threads, thread_name, has_no_parameters, has_thread, thread_places_from, thread_faults}

@@ -3,19 +3,19 @@
 ghost use Rattle.std.specs.Prelude.{◌≡◌, ◌+◌, ◌++◌, ◌∷◌, [], ℕ, List, suc, true, false, map, length, IfOk, OnOk, IfErr};
 ghost use Rattle.std.specs.Prelude.{MatchOption};
 ghost use Rattle.std.specs.List.{flat_map, list_any};
-ghost use Rattle.lra_tree.specs.Trees.{GlobalTree, PartTree, function as part_function};
-ghost use Rattle.lra_tree.specs.Views.{global_view, globals_view, function_view as tree_function_view, part_view};
-ghost use Rattle.lra_tree.specs.Views.{tree_view};
+ghost use Rattle.lra_syntax.specs.Trees.{GlobalTree, ExternalTree, function as part_function};
+ghost use Rattle.lra_syntax.specs.Views.{global_view, globals_view, function_view as tree_function_view, external_view};
+ghost use Rattle.lra_syntax.specs.Views.{tree_view};
 ghost use Rattle.lra_program.specs.ProgramViews.{function_view, program_view};
 ghost use Rattle.lra_meaning.specs.Scope.{function_scope, meaning_of, global_entry, global_entries};
-ghost use Rattle.lra_tree.specs.Functions.{is_main, functions_in, functions_of};
+ghost use Rattle.lra_syntax.specs.Functions.{is_main, functions_in, functions_of};
 ghost use Rattle.lra_meaning.specs.NameFaults.{parameters_faults, function_faults, first_value_faults, shape_faults};
 ghost use Rattle.lra_meaning.specs.NameFaults.{globals_faults, global_names, parts_faults, name_faults};
 ghost use Rattle.lra_meaning.specs.Resolve.{resolve_function, value_or_zero, variables_by, arrays_by, globals_in};
 ghost use Rattle.lra_meaning.specs.Resolve.{arrays_in, resolve_parts, resolved_functions, items_count, resolve};
 ghost use Rattle.lra_scopes.specs.Calls.{functions_at};
 ghost use Rattle.lra_scopes.specs.Meanings.{meaning_view};
-ghost use Rattle.lra_tree.specs.Labels.{function_labels, labels_of};
+ghost use Rattle.lra_syntax.specs.Labels.{function_labels, labels_of};
 ghost use Rattle.lra_simple.specs.Labelling.{labels_of_functions};
 ghost use Rattle.lra_names.specs.Mains.{main_place};
 ghost use Rattle.lra_scopes.specs.Outcome.{Tells, TellsOf};
@@ -26,7 +26,10 @@ use lra_meaning::Labels;
 use lra_program::{Array, GlobalVariable, Program};
 use lra_scopes::{Functions, Meaning, Names, Scope, build_array, refuse};
 use lra_simple::{Around, Labelling};
-use lra_tree::{Function, Globals, Item, Parameter, Shape, SignedLiteral, Tree};
+use lra_syntax::{
+    ExternalDeclaration, Function, Globals, Parameter, ScalarOrArray, SignedLiteral,
+    TranslationUnit,
+};
 use std::alloc::{AllocError, Global};
 
 /// Begins a function's scope with its parameters.
@@ -138,7 +141,7 @@ fn add_shape(
     globals: &mut Vec<GlobalVariable>,
     arrays: &mut Vec<Array>,
     number_type: NumberType,
-    global: &lra_tree::Global,
+    global: &lra_syntax::Global,
 ) -> Result<Meaning, SourceError>
     ensures told { TellsOf (shape_faults (first_value_faults number_type)
         (global_view global.now).shape) result }
@@ -150,12 +153,12 @@ fn add_shape(
         ++ arrays_by number_type global.now.name (global_view global.now).shape) }
 {
     match &global.shape {
-        Shape::Scalar(value) => {
+        ScalarOrArray::Scalar(value) => {
             let value = first_value(number_type, *value)?;
             globals.push(GlobalVariable { number_type, value })?;
             Ok(Meaning::Scalar(number_type))
         }
-        Shape::Array(length) => {
+        ScalarOrArray::Array(length) => {
             let array = build_array(number_type, &global.name, *length)?;
             arrays.push(array)?;
             Ok(Meaning::Array(array))
@@ -168,7 +171,7 @@ fn add_global(
     alloc: Global,
     resolved: &mut Resolved,
     number_type: NumberType,
-    global: &lra_tree::Global,
+    global: &lra_syntax::Global,
 ) -> Result<(), SourceError>
     ensures told { IfErr result (λ e. (rest : List GlobalTree)
         → Tells (globals_faults number_type resolved.old.names (global_view global.now ∷ rest)) e) }
@@ -231,18 +234,18 @@ fn add_function(
     resolved: &mut Resolved,
     function: &Function,
 ) -> Result<(), SourceError>
-    ensures told { IfErr result (λ e. (rest : List PartTree)
+    ensures told { IfErr result (λ e. (rest : List ExternalTree)
         → Tells (parts_faults (functions_at functions.now) resolved.old.names resolved.old.scope.globals
         (part_function (tree_function_view function.now) ∷ rest)) e) }
-    ensures clean { OnOk result ((rest : List PartTree)
+    ensures clean { OnOk result ((rest : List ExternalTree)
         → parts_faults (functions_at functions.now) resolved.old.names resolved.old.scope.globals
         (part_function (tree_function_view function.now) ∷ rest)
         ≡ parts_faults (functions_at functions.now) resolved.new.names resolved.new.scope.globals rest) }
-    ensures found { OnOk result ((rest : List PartTree) → map function_view resolved.old.functions.items
+    ensures found { OnOk result ((rest : List ExternalTree) → map function_view resolved.old.functions.items
         ++ resolve_parts (functions_at functions.now) resolved.old.scope.globals resolved.old.labels.next
         (part_function (tree_function_view function.now) ∷ rest) ≡ map function_view resolved.new.functions.items
         ++ resolve_parts (functions_at functions.now) resolved.new.scope.globals resolved.new.labels.next rest) }
-    ensures labelled { OnOk result ((rest : List PartTree) → resolved.new.labels.labels
+    ensures labelled { OnOk result ((rest : List ExternalTree) → resolved.new.labels.labels
         ++ labels_of_functions (functions_in rest) ≡ resolved.old.labels.labels
         ++ labels_of_functions (functions_in (part_function (tree_function_view function.now) ∷ rest))) }
     ensures valued { OnOk result (resolved.new.globals.items ≡ resolved.old.globals.items) }
@@ -268,34 +271,37 @@ fn add_part(
     alloc: Global,
     functions: &Functions<'_>,
     resolved: &mut Resolved,
-    item: &Item,
+    item: &ExternalDeclaration,
 ) -> Result<(), SourceError>
-    ensures told { IfErr result (λ e. (rest : List PartTree)
+    ensures told { IfErr result (λ e. (rest : List ExternalTree)
         → Tells (parts_faults (functions_at functions.now) resolved.old.names resolved.old.scope.globals
-        (part_view item.now ∷ rest)) e) }
-    ensures clean { OnOk result ((rest : List PartTree)
+        (external_view item.now ∷ rest)) e) }
+    ensures clean { OnOk result ((rest : List ExternalTree)
         → parts_faults (functions_at functions.now) resolved.old.names resolved.old.scope.globals
-        (part_view item.now ∷ rest) ≡ parts_faults (functions_at functions.now) resolved.new.names
+        (external_view item.now ∷ rest)
+        ≡ parts_faults (functions_at functions.now) resolved.new.names
         resolved.new.scope.globals rest) }
-    ensures found { OnOk result ((rest : List PartTree) → map function_view resolved.old.functions.items
+    ensures found { OnOk result ((rest : List ExternalTree) → map function_view resolved.old.functions.items
         ++ resolve_parts (functions_at functions.now) resolved.old.scope.globals resolved.old.labels.next
-        (part_view item.now ∷ rest) ≡ map function_view resolved.new.functions.items
+        (external_view item.now ∷ rest) ≡ map function_view resolved.new.functions.items
         ++ resolve_parts (functions_at functions.now) resolved.new.scope.globals resolved.new.labels.next rest) }
-    ensures labelled { OnOk result ((rest : List PartTree) → resolved.new.labels.labels
+    ensures labelled { OnOk result ((rest : List ExternalTree) → resolved.new.labels.labels
         ++ labels_of_functions (functions_in rest) ≡ resolved.old.labels.labels
-        ++ labels_of_functions (functions_in (part_view item.now ∷ rest))) }
-    ensures valued { OnOk result ((rest : List PartTree) → resolved.old.globals.items
-        ++ globals_in (part_view item.now ∷ rest) ≡ resolved.new.globals.items ++ globals_in rest) }
-    ensures arrayed { OnOk result ((rest : List PartTree) → resolved.old.arrays.items
-        ++ arrays_in (part_view item.now ∷ rest) ≡ resolved.new.arrays.items ++ arrays_in rest) }
+        ++ labels_of_functions (functions_in (external_view item.now ∷ rest))) }
+    ensures valued { OnOk result ((rest : List ExternalTree) → resolved.old.globals.items
+        ++ globals_in (external_view item.now ∷ rest) ≡ resolved.new.globals.items
+        ++ globals_in rest) }
+    ensures arrayed { OnOk result ((rest : List ExternalTree) → resolved.old.arrays.items
+        ++ arrays_in (external_view item.now ∷ rest) ≡ resolved.new.arrays.items
+        ++ arrays_in rest) }
 {
     match item {
-        Item::Prototype => Ok(()),
-        Item::Globals(globals) => {
+        ExternalDeclaration::Prototype => Ok(()),
+        ExternalDeclaration::Globals(globals) => {
             add_globals(alloc, resolved, globals)?;
             Ok(())
         }
-        Item::Function(function) => {
+        ExternalDeclaration::Function(function) => {
             add_function(alloc, functions, resolved, function)?;
             Ok(())
         }
@@ -309,16 +315,16 @@ fn is_main(function: &Function) -> bool
 }
 
 /// The place of the first `main` without parameters in the list of functions.
-fn find_main(parts: &[Item]) -> Option<usize>
+fn find_main(parts: &[ExternalDeclaration]) -> Option<usize>
     ensures { MatchOption result (list_any is_main (functions_at parts.now) ≡ false)
         (λ k. (list_any is_main (functions_at parts.now) ≡ true) × (k ≡ main_place (functions_at parts.now))) }
 {
     let mut place = 0;
     'parts: for item in parts {
         match item {
-            Item::Prototype => {}
-            Item::Globals(_) => {}
-            Item::Function(function) => {
+            ExternalDeclaration::Prototype => {}
+            ExternalDeclaration::Globals(_) => {}
+            ExternalDeclaration::Function(function) => {
                 if is_main(function) {
                     return Some(place);
                 }
@@ -331,11 +337,13 @@ fn find_main(parts: &[Item]) -> Option<usize>
 
 /// All parts of the source.
 fn resolve_all(alloc: Global, functions: &Functions<'_>) -> Result<Resolved, SourceError>
-    ensures told { TellsOf (parts_faults (functions_at functions.now) [] [] (map part_view functions.now)) result }
+    ensures told { TellsOf (parts_faults (functions_at functions.now) [] [] (map external_view functions.now)) result }
     ensures found { IfOk result (λ r. map function_view r.functions.items
-        ≡ resolve_parts (functions_at functions.now) [] 1 (map part_view functions.now)) }
-    ensures valued { IfOk result (λ r. r.globals.items ≡ globals_in (map part_view functions.now)) }
-    ensures arrayed { IfOk result (λ r. r.arrays.items ≡ arrays_in (map part_view functions.now)) }
+        ≡ resolve_parts (functions_at functions.now) [] 1 (map external_view functions.now)) }
+    ensures valued { IfOk result
+        (λ r. r.globals.items ≡ globals_in (map external_view functions.now)) }
+    ensures arrayed { IfOk result
+        (λ r. r.arrays.items ≡ arrays_in (map external_view functions.now)) }
     ensures labelled { IfOk result (λ r. r.labels.labels ≡ labels_of_functions (functions_at functions.now)) }
 {
     let mut resolved = Resolved {
@@ -354,7 +362,7 @@ fn resolve_all(alloc: Global, functions: &Functions<'_>) -> Result<Resolved, Sou
 }
 
 /// All parts of a source, over the functions that it defines.
-pub fn resolve_tree(alloc: Global, tree: &Tree) -> Result<Resolved, SourceError>
+pub fn resolve_tree(alloc: Global, tree: &TranslationUnit) -> Result<Resolved, SourceError>
     ensures told { TellsOf (parts_faults (functions_of (tree_view tree.now)) [] []
         (tree_view tree.now).parts) result }
     ensures found { IfOk result (λ r. map function_view r.functions.items
@@ -417,7 +425,7 @@ impl Resolved {
 /// The program that a source means, with its statements labelled in text order from 1, and the table of these labels;
 /// or its first fault of names, or want of memory.
 #[tactic(auto, using(crate::proofs::FunctionLaws::main_rules))]
-pub fn resolve(alloc: Global, tree: &Tree) -> Result<Resolution, SourceError>
+pub fn resolve(alloc: Global, tree: &TranslationUnit) -> Result<Resolution, SourceError>
     ensures told { TellsOf (name_faults (tree_view tree.now)) result }
     ensures found { IfOk result (λ r. program_view r.program ≡ resolve (tree_view tree.now)) }
     ensures labelled { IfOk result (λ r. r.labels.labels ≡ labels_of (tree_view tree.now)) }

@@ -1,8 +1,8 @@
 //! Statements, each under its label.
 
 ghost use Rattle.std.specs.Prelude.{◌≡◌, ◌+◌, option_copied, IfOk, OnOk};
-ghost use Rattle.lra_tree.specs.Trees.{block as tree_block, switch as tree_switch};
-ghost use Rattle.lra_tree.specs.Views.{stmt_view, block_view, expr_view, cases_view};
+ghost use Rattle.lra_syntax.specs.Trees.{block as tree_block, switch as tree_switch};
+ghost use Rattle.lra_syntax.specs.Views.{stmt_view, block_view, expr_view, cases_view};
 ghost use Rattle.lra_program.specs.ProgramViews.{items_view};
 ghost use Rattle.lra_meaning.specs.NameFaults.{items_faults};
 ghost use Rattle.lra_meaning.specs.Resolve.{resolve_items, items_count};
@@ -20,7 +20,7 @@ use lra_simple::{
     Around, Asked, CaseList, Labelling, Rounds, add_declaration, block_of, resolve_head,
     resolve_loop_head, resolve_simple, resolve_switch_head,
 };
-use lra_tree::{Block, BlockItem, CaseItem, Cases, Expr, Stmt};
+use lra_syntax::{Block, BlockItem, CaseItem, Cases, Expr, Stmt};
 
 #[cycle(statement)]
 fn resolve_stmt(

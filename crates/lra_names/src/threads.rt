@@ -1,9 +1,9 @@
 //! The threads of a source: its functions `t1`, `t2` and on.
 
 ghost use Rattle.std.specs.Prelude.{◌≡◌, false, true, IfOk, MatchOption};
-ghost use Rattle.lra_tree.specs.Functions.{function_named};
-ghost use Rattle.lra_tree.specs.Labels.{labels_of};
-ghost use Rattle.lra_tree.specs.Views.{tree_view};
+ghost use Rattle.lra_syntax.specs.Functions.{function_named};
+ghost use Rattle.lra_syntax.specs.Labels.{labels_of};
+ghost use Rattle.lra_syntax.specs.Views.{tree_view};
 ghost use Rattle.lra_program.specs.ProgramViews.{program_view};
 ghost use Rattle.lra_meaning.specs.Resolve.{function_place};
 ghost use Rattle.lra_meaning.specs.Threads.{greatest_threads, has_no_parameters, thread_faults, thread_places};
@@ -14,7 +14,7 @@ ghost use Rattle.lra_scopes.specs.Outcome.{TellsOf};
 use crate::functions::{Resolution, resolve_tree};
 use lra_base::{Cause, SourceError};
 use lra_scopes::refuse;
-use lra_tree::{Item, Tree};
+use lra_syntax::{ExternalDeclaration, TranslationUnit};
 use std::alloc::{AllocError, Global};
 
 /// The digit in the name of the first thread.
@@ -23,7 +23,7 @@ const FIRST_DIGIT: u8 = b'1';
 const END_DIGIT: u8 = b'9';
 
 /// The place of the first function of this name in the list of functions, if that function has no parameters.
-fn find_alone(parts: &[Item], name: &[u8]) -> Option<usize>
+fn find_alone(parts: &[ExternalDeclaration], name: &[u8]) -> Option<usize>
     ensures { MatchOption result (has_no_parameters (function_named (functions_at parts.now) name.now) ≡ false)
         (λ k. (has_no_parameters (function_named (functions_at parts.now) name.now) ≡ true)
         × (k ≡ function_place (functions_at parts.now) name.now)) }
@@ -31,9 +31,9 @@ fn find_alone(parts: &[Item], name: &[u8]) -> Option<usize>
     let mut place = 0;
     'parts: for item in parts {
         match item {
-            Item::Prototype => {}
-            Item::Globals(_) => {}
-            Item::Function(function) => {
+            ExternalDeclaration::Prototype => {}
+            ExternalDeclaration::Globals(_) => {}
+            ExternalDeclaration::Function(function) => {
                 if name == function.name.word.as_slice() {
                     return function.parameters.items.is_empty().then_some(place);
                 }
@@ -45,7 +45,7 @@ fn find_alone(parts: &[Item], name: &[u8]) -> Option<usize>
 }
 
 /// The places of the functions of all threads.
-fn find_threads(alloc: Global, parts: &[Item]) -> Result<Vec<usize>, AllocError>
+fn find_threads(alloc: Global, parts: &[ExternalDeclaration]) -> Result<Vec<usize>, AllocError>
     ensures { IfOk result (λ places. places.items
         ≡ thread_places_from (functions_at parts.now) greatest_threads 0) }
 {
@@ -70,7 +70,10 @@ pub struct ThreadsResolution {
 }
 
 /// As [`resolve`](crate::resolve), where two threads are asked for in place of `main`.
-pub fn resolve_threads(alloc: Global, tree: &Tree) -> Result<ThreadsResolution, SourceError>
+pub fn resolve_threads(
+    alloc: Global,
+    tree: &TranslationUnit,
+) -> Result<ThreadsResolution, SourceError>
     ensures told { TellsOf (thread_faults (tree_view tree.now)) result }
     ensures found { IfOk result (λ r. program_view r.resolution.program
         ≡ thread_program (tree_view tree.now) r.resolution.program.main) }

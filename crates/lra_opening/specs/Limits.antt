@@ -2,7 +2,7 @@
 use Rattle.std.specs.Prelude.{suc, nat_lt, if◌then◌else◌, List, [], ◌∷◌, ◌++◌, length, Result, Ok, Err, ⊤}
 use Rattle.lra_base.specs.declared.refusals.Cause.TheVariants.{TooManyVariables, TooManyPoints}
 use Rattle.lra_base.specs.declared.refusals.Refusal.{Refusal}
-use Rattle.lra_tree.specs.Labels.{Labelled, label_at, label_place, called_place}
+use Rattle.lra_syntax.specs.Labels.{Labelled, label_at, label_place, called_place}
 use Rattle.lra_program.specs.Sites.{Site, Event, comes, one_call_more}
 use Rattle.lra_meaning.specs.Refuse.{greatest_live, greatest_points}
 use Rattle.lra_opening.specs.declared.points.Limit.{Limit}

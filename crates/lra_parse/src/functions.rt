@@ -1,30 +1,39 @@
 //! Parts and whole files.
 
 ghost use Rattle.std.specs.Prelude.{◌≡◌, ◌<◌, ◌≤◌, [], ◌∷◌, length, Some, option_map, IfOk};
-ghost use Rattle.lra_tree.specs.Views.{block_view, function_view, part_view, tree_view};
-ghost use Rattle.lra_readers.specs.declared.lead.Lead.TheVariants as lead;
-ghost use Rattle.lra_readers.specs.Tests.{first};
-ghost use Rattle.lra_readers.specs.Reading.{Gives, map_read, take_by, has};
-ghost use Rattle.lra_readers.specs.Statements.{commas, listed};
-ghost use Rattle.lra_readers.specs.Files.{next_end, next_built_in, named, lead_behind, at_type};
-ghost use Rattle.lra_readers.specs.Files.{at_void};
-ghost use Rattle.lra_readers.specs.Files.{lead_form, plain_lead, read_lead, ends_parameter, name_or_none, parameter_at};
-ghost use Rattle.lra_readers.specs.Files.{parameters_at, all_named, signature_of, function_of, ending, signature_at};
-ghost use Rattle.lra_readers.specs.Files.{rest_at, part_at, begins_part, file_at};
+ghost use Rattle.lra_syntax.specs.Views.{block_view, function_view, external_view, tree_view};
+ghost use Rattle.lra_parser_spec.specs.declared.lead.Lead.TheVariants as lead;
+ghost use Rattle.lra_parser_spec.specs.Tests.{first};
+ghost use Rattle.lra_parser_spec.specs.Reading.{ParsesAs, map_read, take_by, has};
+ghost use Rattle.lra_parser_spec.specs.Statements.{commas, listed};
+ghost use Rattle.lra_parser_spec.specs.Files.{next_end, next_built_in, named, lead_behind, at_type};
+ghost use Rattle.lra_parser_spec.specs.Files.{at_void};
+ghost use Rattle.lra_parser_spec.specs.Files.{lead_form, plain_lead, read_lead, ends_parameter, name_or_none};
+ghost use Rattle.lra_parser_spec.specs.Files.{parameter_at};
+ghost use Rattle.lra_parser_spec.specs.Files.{parameters_at, all_named, signature_of, function_of, ending};
+ghost use Rattle.lra_parser_spec.specs.Files.{signature_at};
+ghost use Rattle.lra_parser_spec.specs.Files.{rest_at, part_at, begins_part, file_at};
 ghost use Rattle.lra_parse.specs.Heads.{signature_view};
 
 use crate::globals::read_globals;
 use lra_base::{Cause, NumberType, Place};
-use lra_phrases::read_type;
-use lra_readers::{Lead, Stopped, expect, next_is, next_is_name, read_name, stop, tail};
-use lra_statements::read_body;
-use lra_tree::{Block, Function, Identifier, Item, Kind, Mark, Parameter, Parameters, Token, Tree};
+use lra_parse_expressions::read_type;
+use lra_parse_statements::read_body;
+use lra_parser_spec::{Lead, Stopped, expect, next_is, next_is_name, read_name, stop, tail};
+use lra_syntax::{
+    Block, ExternalDeclaration, Function, Identifier, Kind, Mark, Parameter, Parameters, Token,
+    TranslationUnit,
+};
 use std::alloc::{AllocError, Global};
 
 /// The part, behind what it begins with.
-fn read_rest(alloc: Global, lead: Lead, rest: &[Token]) -> Result<(Item, &[Token]), Stopped>
+fn read_rest(
+    alloc: Global,
+    lead: Lead,
+    rest: &[Token],
+) -> Result<(ExternalDeclaration, &[Token]), Stopped>
     ensures shorter { IfOk result (λ r. length r.1.now < length rest.now) }
-    ensures gives { Gives (λ r. (part_view r.0, r.1.now)) result (rest_at 63 lead rest.now) }
+    ensures gives { ParsesAs (λ r. (external_view r.0, r.1.now)) result (rest_at 63 lead rest.now) }
 {
     match lead.split() {
         Ok((number_type, name)) => read_typed(alloc, number_type, name, rest),
@@ -62,7 +71,7 @@ fn read_called(
     rest: &[Token],
 ) -> Result<(Lead, &[Token]), Stopped>
     ensures shorter { IfOk result (λ r. length r.1.now ≤ length rest.now) }
-    ensures gives { Gives (λ r. (r.0, r.1.now)) result (lead_behind result_type rest.now) }
+    ensures gives { ParsesAs (λ r. (r.0, r.1.now)) result (lead_behind result_type rest.now) }
 {
     if next_is_built_in(rest) {
         return Ok((Lead::Bare, tail(rest)));
@@ -74,7 +83,7 @@ fn read_called(
 /// A type, and a name or a word in its place.
 fn read_typed_lead(alloc: Global, rest: &[Token]) -> Result<(Lead, &[Token]), Stopped>
     ensures shorter { IfOk result (λ r. length r.1.now < length rest.now) }
-    ensures gives { Gives (λ r. (r.0, r.1.now)) result (lead_form (Some at_type) rest.now) }
+    ensures gives { ParsesAs (λ r. (r.0, r.1.now)) result (lead_form (Some at_type) rest.now) }
 {
     let (number_type, words) = read_type(rest)?;
     let (lead, after) = read_called(alloc, Some(number_type), words)?;
@@ -84,7 +93,7 @@ fn read_typed_lead(alloc: Global, rest: &[Token]) -> Result<(Lead, &[Token]), St
 /// `void`, and a name or a word in its place.
 fn read_void_lead(alloc: Global, rest: &[Token]) -> Result<(Lead, &[Token]), Stopped>
     ensures shorter { IfOk result (λ r. length r.1.now < length rest.now) }
-    ensures gives { Gives (λ r. (r.0, r.1.now)) result (lead_form (Some at_void) rest.now) }
+    ensures gives { ParsesAs (λ r. (r.0, r.1.now)) result (lead_form (Some at_void) rest.now) }
 {
     let word = expect(rest, Mark::Void)?;
     let (lead, after) = read_called(alloc, None, word)?;
@@ -94,7 +103,7 @@ fn read_void_lead(alloc: Global, rest: &[Token]) -> Result<(Lead, &[Token]), Sto
 /// What a part begins with behind `extern`, or without it.
 fn read_plain_lead(alloc: Global, rest: &[Token]) -> Result<(Lead, &[Token]), Stopped>
     ensures shorter { IfOk result (λ r. length r.1.now < length rest.now) }
-    ensures gives { Gives (λ r. (r.0, r.1.now)) result (plain_lead rest.now) }
+    ensures gives { ParsesAs (λ r. (r.0, r.1.now)) result (plain_lead rest.now) }
 {
     if next_is(rest, Mark::Int) {
         return read_typed_lead(alloc, rest);
@@ -111,7 +120,7 @@ fn read_plain_lead(alloc: Global, rest: &[Token]) -> Result<(Lead, &[Token]), St
 /// What a part begins with.
 fn read_lead(alloc: Global, rest: &[Token]) -> Result<(Lead, &[Token]), Stopped>
     ensures shorter { IfOk result (λ r. length r.1.now < length rest.now) }
-    ensures gives { Gives (λ r. (r.0, r.1.now)) result (read_lead rest.now) }
+    ensures gives { ParsesAs (λ r. (r.0, r.1.now)) result (read_lead rest.now) }
 {
     if next_is(rest, Mark::Extern) {
         let word = expect(rest, Mark::Extern)?;
@@ -139,7 +148,7 @@ fn read_name_or_none(
     rest: &[Token],
 ) -> Result<(Option<Parameter>, &[Token]), Stopped>
     ensures shorter { IfOk result (λ r. length r.1.now ≤ length rest.now) }
-    ensures gives { Gives (λ r. (r.0, r.1.now)) result (name_or_none number_type rest.now) }
+    ensures gives { ParsesAs (λ r. (r.0, r.1.now)) result (name_or_none number_type rest.now) }
 {
     if next_is_name(rest) {
         let (name, after) = read_name(alloc, rest)?;
@@ -154,7 +163,7 @@ fn read_name_or_none(
 /// A parameter, if it has a name.
 fn read_parameter(alloc: Global, rest: &[Token]) -> Result<(Option<Parameter>, &[Token]), Stopped>
     ensures shorter { IfOk result (λ r. length r.1.now < length rest.now) }
-    ensures gives { Gives (λ r. (r.0, r.1.now)) result (parameter_at rest.now) }
+    ensures gives { ParsesAs (λ r. (r.0, r.1.now)) result (parameter_at rest.now) }
 {
     let (number_type, words) = read_type(rest)?;
     let (parameter, after) = read_name_or_none(alloc, number_type, words)?;
@@ -173,7 +182,7 @@ fn start_list(alloc: Global, first: Option<Parameter>) -> Result<Vec<Option<Para
 /// Parameters with commas between them.
 fn read_many(alloc: Global, rest: &[Token]) -> Result<(Vec<Option<Parameter>>, &[Token]), Stopped>
     ensures shorter { IfOk result (λ r. length r.1.now ≤ length rest.now) }
-    ensures gives { Gives (λ r. (r.0.items, r.1.now)) result (map_read listed (commas parameter_at) rest.now) }
+    ensures gives { ParsesAs (λ r. (r.0.items, r.1.now)) result (map_read listed (commas parameter_at) rest.now) }
 {
     let (first, mut left) = read_parameter(alloc, rest)?;
     let mut items = start_list(alloc, first)?;
@@ -191,7 +200,7 @@ fn read_parameters(
     rest: &[Token],
 ) -> Result<(Vec<Option<Parameter>>, &[Token]), Stopped>
     ensures shorter { IfOk result (λ r. length r.1.now ≤ length rest.now) }
-    ensures gives { Gives (λ r. (r.0.items, r.1.now)) result (parameters_at rest.now) }
+    ensures gives { ParsesAs (λ r. (r.0.items, r.1.now)) result (parameters_at rest.now) }
 {
     if next_is(rest, Mark::CloseParen) {
         return Ok((Vec::new(alloc), tail(rest)));
@@ -290,23 +299,26 @@ fn read_ending(
     alloc: Global,
     signature: Option<Signature>,
     rest: &[Token],
-) -> Result<(Item, &[Token]), Stopped>
+) -> Result<(ExternalDeclaration, &[Token]), Stopped>
     ensures shorter { IfOk result (λ r. length r.1.now < length rest.now) }
-    ensures gives { Gives (λ r. (part_view r.0, r.1.now)) result
+    ensures gives { ParsesAs (λ r. (external_view r.0, r.1.now)) result
         (ending 63 (option_map signature_view signature) rest.now) }
 {
     match signature {
         Some(signature) => {
             if next_is(rest, Mark::OpenBrace) {
                 let (body, after) = read_body(alloc, rest)?;
-                return Ok((Item::Function(signature.into_function(body)), after));
+                return Ok((
+                    ExternalDeclaration::Function(signature.into_function(body)),
+                    after,
+                ));
             }
             let after = expect(rest, Mark::Semicolon)?;
-            Ok((Item::Prototype, after))
+            Ok((ExternalDeclaration::Prototype, after))
         }
         None => {
             let after = expect(rest, Mark::Semicolon)?;
-            Ok((Item::Prototype, after))
+            Ok((ExternalDeclaration::Prototype, after))
         }
     }
 }
@@ -316,9 +328,10 @@ fn read_signature(
     alloc: Global,
     head: Option<(Option<NumberType>, Identifier)>,
     rest: &[Token],
-) -> Result<(Item, &[Token]), Stopped>
+) -> Result<(ExternalDeclaration, &[Token]), Stopped>
     ensures shorter { IfOk result (λ r. length r.1.now < length rest.now) }
-    ensures gives { Gives (λ r. (part_view r.0, r.1.now)) result (signature_at 63 head rest.now) }
+    ensures gives { ParsesAs (λ r. (external_view r.0, r.1.now)) result
+        (signature_at 63 head rest.now) }
 {
     let opened = expect(rest, Mark::OpenParen)?;
     let (parameters, closed) = read_parameters(alloc, opened)?;
@@ -333,9 +346,9 @@ fn read_typed(
     number_type: NumberType,
     name: Identifier,
     rest: &[Token],
-) -> Result<(Item, &[Token]), Stopped>
+) -> Result<(ExternalDeclaration, &[Token]), Stopped>
     ensures shorter { IfOk result (λ r. length r.1.now < length rest.now) }
-    ensures gives { Gives (λ r. (part_view r.0, r.1.now)) result
+    ensures gives { ParsesAs (λ r. (external_view r.0, r.1.now)) result
         (rest_at 63 (lead.Typed number_type name) rest.now) }
 {
     if next_is(rest, Mark::OpenParen) {
@@ -347,9 +360,9 @@ fn read_typed(
 }
 
 /// A function, a prototype or globals.
-fn read_part(alloc: Global, rest: &[Token]) -> Result<(Item, &[Token]), Stopped>
+fn read_part(alloc: Global, rest: &[Token]) -> Result<(ExternalDeclaration, &[Token]), Stopped>
     ensures shorter { IfOk result (λ r. length r.1.now < length rest.now) }
-    ensures gives { Gives (λ r. (part_view r.0, r.1.now)) result (part_at 63 rest.now) }
+    ensures gives { ParsesAs (λ r. (external_view r.0, r.1.now)) result (part_at 63 rest.now) }
 {
     let (lead, behind) = read_lead(alloc, rest)?;
     let (item, after) = read_rest(alloc, lead, behind)?;
@@ -374,7 +387,7 @@ fn begins_part(rest: &[Token]) -> bool
 
 /// The place of the end, if it is the next token.
 fn read_end(rest: &[Token]) -> Result<(Place, &[Token]), Stopped>
-    ensures { Gives (λ r. (r.0, r.1.now)) result (take_by next_end rest.now) }
+    ensures { ParsesAs (λ r. (r.0, r.1.now)) result (take_by next_end rest.now) }
 {
     match rest.first() {
         Some(token) => match &token.kind {
@@ -386,8 +399,8 @@ fn read_end(rest: &[Token]) -> Result<(Place, &[Token]), Stopped>
 }
 
 /// Parts, and the end.
-pub fn read_file(alloc: Global, rest: &[Token]) -> Result<(Tree, &[Token]), Stopped>
-    ensures { Gives (λ r. (tree_view r.0, r.1.now)) result (file_at 63 rest.now) }
+pub fn read_file(alloc: Global, rest: &[Token]) -> Result<(TranslationUnit, &[Token]), Stopped>
+    ensures { ParsesAs (λ r. (tree_view r.0, r.1.now)) result (file_at 63 rest.now) }
 {
     let mut left = rest;
     let mut items = Vec::new(alloc);
@@ -397,5 +410,5 @@ pub fn read_file(alloc: Global, rest: &[Token]) -> Result<(Tree, &[Token]), Stop
         left = after;
     }
     let (end, behind) = read_end(left)?;
-    Ok((Tree { items, end }, behind))
+    Ok((TranslationUnit { items, end }, behind))
 }

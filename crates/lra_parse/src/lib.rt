@@ -1,6 +1,6 @@
 //! The tree of a list of tokens: functions, globals and whole sources.
 //!
-//! Each function computes a reader of `lra_readers`, which has what the reader is and that it is exact.
+//! Each function computes a reader of `lra_parser_spec`, which has what the reader is and that it is exact.
 #![tactic(auto)]
 
 mod functions;

@@ -2,15 +2,15 @@
 
 ghost use Rattle.std.specs.Prelude.{◌≡◌, Err, IfOk};
 ghost use Rattle.lra_base.specs.Refused.{IfRefused};
-ghost use Rattle.lra_tree.specs.Grammar.{Spells};
-ghost use Rattle.lra_tree.specs.Faults.{IsTree, IsTextFault};
-ghost use Rattle.lra_tree.specs.Views.{tree_view};
-ghost use Rattle.lra_readers.specs.Files.{EndsOnce, file_at};
+ghost use Rattle.lra_syntax.specs.Grammar.{Spells};
+ghost use Rattle.lra_syntax.specs.Faults.{IsTree, IsTextFault};
+ghost use Rattle.lra_syntax.specs.Views.{tree_view};
+ghost use Rattle.lra_parser_spec.specs.Files.{EndsOnce, file_at};
 
 use crate::functions::read_file;
 use lra_base::{Refusal, SourceError};
-use lra_readers::{Fault, Stopped};
-use lra_tree::{Token, Tree};
+use lra_parser_spec::{Fault, Stopped};
+use lra_syntax::{Token, TranslationUnit};
 use std::alloc::Global;
 
 /// The refusal for the fault at which reading stops.
@@ -29,7 +29,7 @@ fn refusal(tokens: &[Token], fault: Fault) -> Refusal
 /// The tree of the tokens, whose last and no other is the end; or the first fault: the first token with which no source
 /// begins, or that opens a level past the 64th. Both are exact: no text has two trees, and a fault is the only one
 /// (`one_tree`). The time is linear in the number of tokens, and calls nest at most in proportion to the levels.
-pub fn parse(alloc: Global, tokens: &[Token]) -> Result<Tree, SourceError>
+pub fn parse(alloc: Global, tokens: &[Token]) -> Result<TranslationUnit, SourceError>
     requires ends { EndsOnce tokens.now }
     ensures found { IfOk result (λ t. IsTree Spells tokens.now (tree_view t)) }
     ensures refused { IfRefused result (λ r. IsTextFault Spells tokens.now r.cause r.place) }

@@ -4,19 +4,19 @@ use Rattle.std.proofs.Common.{◌≡◌, ℕ, ◌+◌, ◌≤◌, true, List, []
 use Rattle.std.proofs.Common.{append-nil, Option, Some, None}
 use Rattle.std.specs.List.{AllByRecursion, flat_map}
 use Rattle.lra_base.specs.declared.refusals.Place.{Place}
-use Rattle.lra_tree.specs.declared.trees.Identifier.{Identifier}
-use Rattle.lra_tree.specs.declared.trees.Parameter.{Parameter}
-use Rattle.lra_tree.specs.Lexeme.{is_name_word}
-use Rattle.lra_tree.specs.Texts.{Piece, Pieces, Texts, name, further, separated}
-use Rattle.lra_tree.specs.Trees.{AssignTree, DeclaratorTree, DeclarationTree, InitTree, no_init, declared, assigned, StmtTree, block, nothing, assign, call}
-use Rattle.lra_tree.specs.Trees.{ShapeTree, scalar, array, if_only, if_else, while, for, break}
-use Rattle.lra_tree.specs.Trees.{continue, return, assert, assume, switch, CasesTree, no_cases, labelled, stated, ItemsTree, no_items, declaration, statement}
-use Rattle.lra_tree.specs.Trees.{FunctionTree, GlobalsTree, PartTree, prototype, globals, function}
-use Rattle.lra_tree.specs.Grammar.{IsDeclarator, IsDeclaration, IsInit, opened_by, level_of, IsStmt, AreCases, AreLabelled, AreStated, AreItems, IsParameter}
-use Rattle.lra_tree.specs.Grammar.{AreParameters, IsFunction, IsGlobal, AreGlobals, AreParts}
-use Rattle.lra_tree.specs.Functions.{functions_in}
-use Rattle.lra_tree.specs.Labels.{Labelled, name_in, names_of, with_names, declarator_labels, init_labels, live_in_for, step_labels, stmt_labels, cases_labels, items_labels}
-use Rattle.lra_tree.specs.Labels.{function_labels}
+use Rattle.lra_syntax.specs.declared.trees.Identifier.{Identifier}
+use Rattle.lra_syntax.specs.declared.trees.Parameter.{Parameter}
+use Rattle.lra_syntax.specs.Lexeme.{is_name_word}
+use Rattle.lra_syntax.specs.Texts.{Piece, Pieces, Texts, name, further, separated}
+use Rattle.lra_syntax.specs.Trees.{AssignTree, DeclaratorTree, DeclarationTree, InitTree, no_init, declared, assigned, StmtTree, block, nothing, assign, call}
+use Rattle.lra_syntax.specs.Trees.{ScalarOrArrayTree, scalar, array, if_only, if_else, while, for, break}
+use Rattle.lra_syntax.specs.Trees.{continue, return, assert, assume, switch, CasesTree, no_cases, labelled, stated, ItemsTree, no_items, declaration, statement}
+use Rattle.lra_syntax.specs.Trees.{FunctionTree, GlobalsTree, ExternalTree, prototype, globals, function}
+use Rattle.lra_syntax.specs.Grammar.{IsDeclarator, IsDeclaration, IsInit, opened_by, level_of, IsStmt, AreCases, AreLabelled, AreStated, AreItems, IsParameter}
+use Rattle.lra_syntax.specs.Grammar.{AreParameters, IsFunction, IsGlobal, AreGlobals, AreExternalDeclarations}
+use Rattle.lra_syntax.specs.Functions.{functions_in}
+use Rattle.lra_syntax.specs.Labels.{Labelled, name_in, names_of, with_names, declarator_labels, init_labels, live_in_for, step_labels, stmt_labels, cases_labels, items_labels}
+use Rattle.lra_syntax.specs.Labels.{function_labels}
 use Rattle.lra_meaning.specs.LiveNames.{live_name, globals_named}
 use Rattle.lra_report.proofs.Every.{every_append, every_front, every_back}
 use Rattle.lra_report.proofs.TokenWords.{HasWord}
@@ -83,7 +83,7 @@ last_declares ws z a b e d h =
     (own.0, omega (arith, some, n, length-append a b))
 
 -- behind its name, a scalar declares that, an array nothing
-shape_declares : {A : Type 0} (x : Identifier) (shape : ShapeTree A) (z a b : Pieces) → z ≡ a ++ b → name x 0 a → Declares (name_in x.word shape) z
+shape_declares : {A : Type 0} (x : Identifier) (shape : ScalarOrArrayTree A) (z a b : Pieces) → z ≡ a ++ b → name x 0 a → Declares (name_in x.word shape) z
 shape_declares x (scalar v) z a b e is h = first_declares (x.word ∷ []) z a b e (name_declares x 0 a is) h
 shape_declares x (array n) z a b e is h = (tt, omega arith)
 
@@ -277,7 +277,7 @@ function_few most f z (a, b, e, head, (c, d, e1, paren, (p, q, e2, are, (r, s, e
     items_few most 1 f.body f.end names v items (room_first most names u v w e5 (room_last most names s t u e4 (room_last most names q r s e3 room)))
 
 -- at each label of the parts
-pub labels_few : (most : ℕ) (ps : List PartTree) (z : Pieces) → AreParts ps z → HasRoom most [] z → AllByRecursion (AreFewAt most)
+pub labels_few : (most : ℕ) (ps : List ExternalTree) (z : Pieces) → AreExternalDeclarations ps z → HasRoom most [] z → AllByRecursion (AreFewAt most)
     (flat_map function_labels (functions_in ps))
 labels_few most [] z are h = tt
 labels_few most (prototype ∷ ps) z (x, y, e, is, are) h = labels_few most ps y are (room_last most [] z x y e h)
@@ -294,7 +294,7 @@ globals_room most g live x y (t, z, e, type, (s, m, e', are, semicolon)) h =
     (m ++ y) are here in
     room_last most (live ++ flat_map live_name (g.first ∷ g.rest)) (m ++ y) m y refl behind
 
-pub globals_few : (most : ℕ) (ps : List PartTree) (live : List (List ℕ)) (z : Pieces) → AreParts ps z → HasRoom most live z → AreFew most
+pub globals_few : (most : ℕ) (ps : List ExternalTree) (live : List (List ℕ)) (z : Pieces) → AreExternalDeclarations ps z → HasRoom most live z → AreFew most
     (live ++ globals_named ps)
 globals_few most [] live z are h = subst (AreFew most) (sym (append-nil live)) (room_few most live z h)
 globals_few most (prototype ∷ ps) live z (x, y, e, is, are) h = globals_few most ps live y are (room_last most live z x y e h)

@@ -3,7 +3,7 @@ use Rattle.std.proofs.Common.{◌≡◌, ℕ, [], ◌∷◌, refl}
 use Rattle.std.specs.Prelude.{codes, nat_eq, nat_lt, cond}
 use Rattle.std.specs.Fmt.{digits}
 use Rattle.lra_report.specs.Report.{PointReport}
-use Rattle.lra_tree.specs.Labels.{labels_of}
+use Rattle.lra_syntax.specs.Labels.{labels_of}
 use Rattle.lra_program.specs.Sites.{Site, sites_of}
 use Rattle.lra_meaning.specs.Resolve.{resolve}
 use Rattle.lra_operations.specs.Agree.{IsInlinedTree}
@@ -14,7 +14,7 @@ use Rattle.lra_program.specs.Program.{Element, input}
 use Rattle.lra_report.specs.declared.verdict_kinds.VerdictKind.TheVariants.{Access}
 use Rattle.lra_report.specs.Listing.{listed_point, computing_from, Subject, subjects, accesses_from, AreListed, AreJudged}
 use Rattle.lra_meaning.specs.LiveNames.{globals_named}
-use Rattle.lra_tree.proofs.TreeSamples.{at, number, one_variable, called_twice, call_in_step}
+use Rattle.lra_syntax.proofs.TreeSamples.{at, literal_text, one_variable, called_twice, call_in_step}
 use Rattle.lra_report.proofs.ReportTextExamples as report
 use Rattle.lra_meaning.proofs.SiteExamples.{site}
 

@@ -2,13 +2,13 @@
 use Rattle.std.proofs.Common.{◌≡◌, ℕ, zero, suc, ◌*◌, ◌≤◌, true, List, [], ◌∷◌, ◌++◌, length, ap, sym, subst, arith, length-append, slice_get}
 use Rattle.std.specs.List.{AllByRecursion}
 use Rattle.std.proofs.lemmas.List.{length-map}
-use Rattle.lra_tree.specs.declared.tokens.Token.{Token}
-use Rattle.lra_tree.specs.Lexeme.{is_name_word}
-use Rattle.lra_tree.specs.Texts.{Piece, Pieces, plain}
-use Rattle.lra_tree.specs.Trees.{FileTree}
-use Rattle.lra_tree.specs.Grammar.{Spells}
-use Rattle.lra_tree.specs.Faults.{Language}
-use Rattle.lra_tree.specs.Labels.{Labelled, labels_of, label_at}
+use Rattle.lra_syntax.specs.declared.tokens.Token.{Token}
+use Rattle.lra_syntax.specs.Lexeme.{is_name_word}
+use Rattle.lra_syntax.specs.Texts.{Piece, Pieces, plain}
+use Rattle.lra_syntax.specs.Trees.{FileTree}
+use Rattle.lra_syntax.specs.Grammar.{Spells}
+use Rattle.lra_syntax.specs.Faults.{Language}
+use Rattle.lra_syntax.specs.Labels.{Labelled, labels_of, label_at}
 use Rattle.lra_meaning.specs.Resolve.{resolve}
 use Rattle.lra_program.specs.Sites.{Site, greatest_calls, sites_of}
 use Rattle.lra_base.specs.Places.{greatest_length}

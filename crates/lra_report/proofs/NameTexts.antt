@@ -8,7 +8,7 @@ use Rattle.std.proofs.lemmas.Bool.{and_parts}
 use Rattle.std.proofs.lemmas.Bool.Decides.{nat_tests}
 use Rattle.std.proofs.lemmas.Slice.Eq.{bytes_eq-Decides}
 use Rattle.std.proofs.lemmas.List.Sums.{sum_by-cons, count_by-le-length}
-use Rattle.lra_tree.specs.Lexeme.{is_letter, is_word_byte, is_name_word}
+use Rattle.lra_syntax.specs.Lexeme.{is_letter, is_word_byte, is_name_word}
 use Rattle.lra_meaning.specs.ShownNames.{shown_name, shown_names}
 use Rattle.lra_report.specs.Spelled.{AreWords}
 use Rattle.lra_report.proofs.Fronts.{is_visible, AllVisible, IsShownName, AreShownNames, Passes, Ends, front_same, rest_same}

@@ -4,7 +4,7 @@ use Rattle.std.specs.List.{AllByRecursion, flat_map}
 use Rattle.std.specs.Fmt.{decimal}
 use Rattle.std.proofs.lemmas.List.{append_cancel_left}
 use Rattle.std.proofs.lemmas.Bool.{eqb-false}
-use Rattle.lra_tree.specs.Labels.{Labelled, labels_of, label_at, label_place}
+use Rattle.lra_syntax.specs.Labels.{Labelled, labels_of, label_at, label_place}
 use Rattle.lra_meaning.specs.Resolve.{resolve}
 use Rattle.lra_program.specs.Sites.{Site, sites_of}
 use Rattle.lra_report.specs.Report.{PointReport, Verdict, Report}

@@ -5,7 +5,7 @@ use Rattle.lra_options.specs.declared.options.Domain.TheVariants.{Poly, Box}
 use Rattle.lra_options.specs.declared.options.Options.{Options}
 use Rattle.lra_show.specs.Part.{Part}
 use Rattle.lra_report.specs.Parts.{Tells}
-use Rattle.lra_tree.specs.Grammar.{Spells}
+use Rattle.lra_syntax.specs.Grammar.{Spells}
 use Rattle.lra_report.specs.Listing.{AreParts, IsReportOf}
 use Rattle.lra_report.proofs.ReportTextExamples.{defaults, both, a_point, empty_main, one_variable}
 use Rattle.lra_report.proofs.PartExamples.{box_with_generator}

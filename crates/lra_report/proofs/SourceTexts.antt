@@ -1,9 +1,9 @@
 -- Reports of one accepted source are told by their texts.
 use Rattle.std.proofs.Common.{sym, ◌∙◌, subst}
-use Rattle.lra_tree.specs.Texts.{Pieces}
-use Rattle.lra_tree.specs.Trees.{FileTree}
-use Rattle.lra_tree.specs.Grammar.{Spells}
-use Rattle.lra_tree.specs.Faults.{Language}
+use Rattle.lra_syntax.specs.Texts.{Pieces}
+use Rattle.lra_syntax.specs.Trees.{FileTree}
+use Rattle.lra_syntax.specs.Grammar.{Spells}
+use Rattle.lra_syntax.specs.Faults.{Language}
 use Rattle.lra_report.specs.Report.{Report}
 use Rattle.lra_report.specs.Listing.{Lists}
 use Rattle.lra_report.specs.Spelled.{OneAcceptedText, OneSourceText}

@@ -3,13 +3,13 @@ use Rattle.std.proofs.Common.{◌≡◌, ℕ, ◌+◌, ◌≤◌, ◌<◌, true,
 use Rattle.std.specs.Prelude.{nat_le, ⊤}
 use Rattle.std.specs.List.{AllByRecursion}
 use Rattle.std.proofs.lemmas.Bool.{leb-true}
-use Rattle.lra_tree.specs.declared.tokens.Mark.{Mark}
-use Rattle.lra_tree.specs.declared.tokens.Mark.TheVariants as mark
-use Rattle.lra_tree.specs.declared.tokens.Kind.{Kind}
-use Rattle.lra_tree.specs.declared.tokens.Kind.TheVariants as kind
-use Rattle.lra_tree.specs.declared.tokens.Token.{Token}
-use Rattle.lra_tree.specs.Lexeme.{is_name_word, mark_text, Lexeme, word, number_word, mark_word, unclosed, SpellsToken, name, number, mark_of, reserved, comment}
-use Rattle.lra_tree.specs.Tokens.{Fragment, gap, token, bytes_of, tokens_of, IsReading, end_token, Lex}
+use Rattle.lra_syntax.specs.declared.tokens.Mark.{Mark}
+use Rattle.lra_syntax.specs.declared.tokens.Mark.TheVariants as mark
+use Rattle.lra_syntax.specs.declared.tokens.Kind.{Kind}
+use Rattle.lra_syntax.specs.declared.tokens.Kind.TheVariants as kind
+use Rattle.lra_syntax.specs.declared.tokens.Token.{Token}
+use Rattle.lra_syntax.specs.Lexeme.{is_name_word, mark_text, Lexeme, word, number_word, mark_word, unclosed, SpellsToken, name, literal_text, mark_of, reserved, comment}
+use Rattle.lra_syntax.specs.Tokens.{Fragment, gap, token, bytes_of, tokens_of, IsReading, end_token, Lex}
 use Rattle.lra_report.proofs.Every.{every_append}
 
 -- where it is a name, a word
@@ -19,7 +19,7 @@ HasWord k = ⊤
 
 named_word : (s : List ℕ) (k : Kind) → SpellsToken s k → HasWord k
 named_word s _ (name w named further) = w
-named_word s _ (number n t w value same most) = tt
+named_word s _ (literal_text n t w value same most) = tt
 named_word s _ (mark_of m e) = tt
 named_word s _ (reserved among) = tt
 named_word s _ (comment u) = tt

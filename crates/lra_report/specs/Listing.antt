@@ -5,7 +5,7 @@
 use Rattle.std.specs.Prelude.{◌≡◌, ℕ, suc, Bool, true, false, List, [], ◌∷◌, ◌++◌, length, map, Option, Some, None, ⊤}
 use Rattle.std.specs.Prelude.{◌<◌, ◌≤◌, cond, nat_eq, nat_lt}
 use Rattle.std.specs.List.{AllByRecursion, list_any, flat_map}
-use Rattle.lra_tree.specs.declared.trees.Identifier.{Identifier}
+use Rattle.lra_syntax.specs.declared.trees.Identifier.{Identifier}
 use Rattle.lra_options.specs.declared.options.Options.{Options}
 use Rattle.lra_base.specs.declared.refusals.Place.{Place}
 use Rattle.lra_report.specs.declared.verdict_kinds.VerdictKind.{VerdictKind}
@@ -16,11 +16,11 @@ use Rattle.lra_show.specs.Rows.{Row}
 use Rattle.lra_report.specs.ReportText.{CallPlace, path_text}
 use Rattle.lra_meaning.specs.ShownNames.{shown_names}
 use Rattle.lra_report.specs.Parts.{Tells}
-use Rattle.lra_tree.specs.Trees.{FileTree}
-use Rattle.lra_tree.specs.Labels.{Labelled, labels_of, label_at, label_place}
+use Rattle.lra_syntax.specs.Trees.{FileTree}
+use Rattle.lra_syntax.specs.Labels.{Labelled, labels_of, label_at, label_place}
 use Rattle.lra_meaning.specs.Resolve.{resolve}
 use Rattle.lra_program.specs.Sites.{Site, sites_of}
-use Rattle.lra_tree.specs.Faults.{Language}
+use Rattle.lra_syntax.specs.Faults.{Language}
 use Rattle.lra_meaning.specs.Refuse.{Accepts}
 use Rattle.lra_meaning.specs.LiveNames.{globals_named, live_names}
 use Rattle.lra_program.specs.Accesses.{op_accesses}

@@ -1,6 +1,6 @@
 //! One text, one report.
 
-ghost use Rattle.lra_tree.specs.Grammar.{Spells};
+ghost use Rattle.lra_syntax.specs.Grammar.{Spells};
 ghost use Rattle.lra_report.specs.Spelled.{OneText, OneAcceptedText, OneSourceText};
 ghost use Rattle.lra_report.specs.View.{report_of};
 

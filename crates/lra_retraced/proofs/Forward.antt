@@ -3,7 +3,7 @@ use Rattle.std.proofs.Common.{◌≡◌, ◌≤◌, ◌<◌, ℕ, ℤ, Bool, fal
 use Rattle.std.specs.Prelude.{Option, None, Some, slice_get}
 use Rattle.lra_base.specs.declared.refusals.Place.{Place}
 use Rattle.lra_linear_spec.specs.Polyhedra.{Polyhedron}
-use Rattle.lra_tree.specs.Trees.{FileTree}
+use Rattle.lra_syntax.specs.Trees.{FileTree}
 use Rattle.lra_meaning.specs.Resolve.{resolve}
 use Rattle.lra_program.specs.declared.program.GlobalVariable.{GlobalVariable}
 use Rattle.lra_program.specs.Sites.{Site, sites_of}

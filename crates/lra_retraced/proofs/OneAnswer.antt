@@ -1,7 +1,7 @@
 -- A source that can be gone back over isn't refused.
 use Rattle.std.proofs.Common.{ℕ, List}
 use Rattle.lra_base.specs.declared.refusals.Refusal.{Refusal}
-use Rattle.lra_tree.specs.Grammar.{Spells}
+use Rattle.lra_syntax.specs.Grammar.{Spells}
 use Rattle.lra_meaning.specs.Refuse.{Refuse}
 use Rattle.lra_program.specs.Sites.{sites_of}
 use Rattle.lra_front.proofs.EachAnswer.{each_answer}

@@ -6,9 +6,9 @@ use Rattle.std.specs.Prelude.{option_map, slice_get}
 use Rattle.std.specs.List.{AllByRecursion}
 use Rattle.lra_base.specs.declared.refusals.Place.{Place}
 use Rattle.lra_linear_spec.specs.Polyhedra.{Polyhedron}
-use Rattle.lra_tree.specs.Grammar.{Spells}
-use Rattle.lra_tree.specs.Labels.{labels_of}
-use Rattle.lra_tree.specs.Trees.{FileTree}
+use Rattle.lra_syntax.specs.Grammar.{Spells}
+use Rattle.lra_syntax.specs.Labels.{labels_of}
+use Rattle.lra_syntax.specs.Trees.{FileTree}
 use Rattle.lra_meaning.specs.LiveNames.{globals_named}
 use Rattle.lra_meaning.specs.Refuse.{Refuse}
 use Rattle.lra_meaning.specs.Resolve.{resolve}

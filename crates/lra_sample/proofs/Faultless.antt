@@ -2,16 +2,16 @@
 use Rattle.std.proofs.Common.{◌≡◌, ℕ, List, [], ◌∷◌, ◌++◌, refl, sym, ap, ◌∙◌, map, length, arith}
 use Rattle.std.proofs.lemmas.List.{length-append}
 use Rattle.lra_base.specs.declared.refusals.Place.{Place}
-use Rattle.lra_tree.specs.declared.trees.Identifier.{Identifier}
-use Rattle.lra_tree.specs.Trees.{ItemsTree}
-use Rattle.lra_tree.specs.Functions.{functions_of}
-use Rattle.lra_tree.specs.Labels.{items_labels}
-use Rattle.lra_tree.specs.Reach.{called_names, calls_in, NotRecursive}
+use Rattle.lra_syntax.specs.declared.trees.Identifier.{Identifier}
+use Rattle.lra_syntax.specs.Trees.{ItemsTree}
+use Rattle.lra_syntax.specs.Functions.{functions_of}
+use Rattle.lra_syntax.specs.Labels.{items_labels}
+use Rattle.lra_syntax.specs.Reach.{called_names, calls_in, NotRecursive}
 use Rattle.lra_meaning.specs.Scope.{function_scope}
 use Rattle.lra_meaning.specs.NameFaults.{Around, items_faults, name_faults}
 use Rattle.lra_sample.specs.declared.block.Kind.{Kind}
 use Rattle.lra_sample.specs.declared.block.Kind.TheVariants.{Sum, Choice, Count, Input}
-use Rattle.lra_tree.proofs.Lexemes.{behind, item_place}
+use Rattle.lra_syntax.proofs.Lexemes.{behind, item_place}
 use Rattle.lra_sample.proofs.Numerals.{four}
 use Rattle.lra_sample.proofs.Lines.{Line, items_of, tree_as}
 use Rattle.lra_sample.proofs.Whole.{head_items, lines_tree, last_tree, body_tree, main_tree, file_tree}

@@ -1,14 +1,14 @@
 -- The tokens of a line of a sample source are the longest at their places, and its bytes are those of the source.
 use Rattle.std.proofs.Common.{◌≡◌, ℕ, false, List, [], ◌∷◌, ◌++◌, refl, append_assoc}
 use Rattle.lra_base.specs.declared.number_types.NumberType.TheVariants.{Int}
-use Rattle.lra_tree.specs.declared.tokens.Kind.TheVariants.{Number}
-use Rattle.lra_tree.specs.declared.tokens.Mark.TheVariants as mark
-use Rattle.lra_tree.specs.Lexeme.{is_word_byte}
+use Rattle.lra_syntax.specs.declared.tokens.Kind.TheVariants.{Number}
+use Rattle.lra_syntax.specs.declared.tokens.Mark.TheVariants as mark
+use Rattle.lra_syntax.specs.Lexeme.{is_word_byte}
 use Rattle.lra_show.specs.Texts.{text_line}
 use Rattle.lra_sample.specs.Sample.{statements_text}
 use Rattle.lra_sample.specs.declared.block.Kind.{Kind}
 use Rattle.lra_sample.specs.declared.block.Kind.TheVariants.{Sum, Choice, Count, Input}
-use Rattle.lra_tree.proofs.Lexemes.{Item, written, IsRead, AreRead, ◌⨾◌, as_read, is_mark}
+use Rattle.lra_syntax.proofs.Lexemes.{ExternalDeclaration, written, IsRead, AreRead, ◌⨾◌, as_read, is_mark}
 use Rattle.lra_sample.proofs.Numerals.{word_ends, zero_good, one_good, is_name}
 use Rattle.lra_sample.proofs.Lines.{Line, items_as}
 
@@ -16,7 +16,7 @@ is_constant : (l : Line) (c : ℕ) {cs : List ℕ} → is_word_byte c ≡ false 
     IsRead l.head l.tail (Number Int l.value) 0 (c ∷ cs)
 is_constant l c e = as_read l.good (word_ends l.head l.digit.only l.tail c e) refl
 
-pub line_read : (k : Kind) (l : Line) (xs : List Item) → AreRead xs → AreRead (items_as k l ++ xs)
+pub line_read : (k : Kind) (l : Line) (xs : List ExternalDeclaration) → AreRead xs → AreRead (items_as k l ++ xs)
 line_read Sum l xs r =
     is_name l.is_first 61 refl refl ⨾ is_mark mark.Assign refl refl refl (λ u. refl)
     ⨾ is_name l.is_second 43 refl refl ⨾ is_mark mark.Plus refl refl refl l.digit.behind_plus

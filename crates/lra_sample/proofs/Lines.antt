@@ -3,20 +3,20 @@ use Rattle.std.proofs.Common.{ℕ, ◌+◌, List, [], ◌∷◌, ◌++◌, refl,
 use Rattle.lra_base.specs.declared.number_types.NumberType.TheVariants.{Int}
 use Rattle.lra_base.specs.declared.refusals.Place.{Place}
 use Rattle.lra_base.specs.Operators.{below, at_least, at_most}
-use Rattle.lra_tree.specs.declared.tokens.Kind.TheVariants.{Name, Number, Mark as MarkOf}
-use Rattle.lra_tree.specs.declared.tokens.Mark.{Mark}
-use Rattle.lra_tree.specs.declared.tokens.Mark.TheVariants as mark
-use Rattle.lra_tree.specs.declared.trees.Identifier.{Identifier}
-use Rattle.lra_tree.specs.Lexeme.{mark_text}
-use Rattle.lra_tree.specs.Trees.{literal, input, unary, ExprTree, plus, compare, conjunction, test, and, expression}
-use Rattle.lra_tree.specs.Trees.{set, StmtTree, assign, if_else, while, assume}
-use Rattle.lra_tree.specs.Trees.{ItemsTree, statement}
-use Rattle.lra_tree.specs.Texts.{Pieces, Texts, ◌⋅◌}
-use Rattle.lra_tree.specs.Grammar.{AreItems}
-use Rattle.lra_tree.proofs.TreeSamples.{alone, number, use_of, tested}
+use Rattle.lra_syntax.specs.declared.tokens.Kind.TheVariants.{Name, Number, Mark as MarkOf}
+use Rattle.lra_syntax.specs.declared.tokens.Mark.{Mark}
+use Rattle.lra_syntax.specs.declared.tokens.Mark.TheVariants as mark
+use Rattle.lra_syntax.specs.declared.trees.Identifier.{Identifier}
+use Rattle.lra_syntax.specs.Lexeme.{mark_text}
+use Rattle.lra_syntax.specs.Trees.{literal, input, unary, ExprTree, plus, compare, conjunction, test, and, expression}
+use Rattle.lra_syntax.specs.Trees.{set, StmtTree, assign, if_else, while, assume}
+use Rattle.lra_syntax.specs.Trees.{ItemsTree, statement}
+use Rattle.lra_syntax.specs.Texts.{Pieces, Texts, ◌⋅◌}
+use Rattle.lra_syntax.specs.Grammar.{AreItems}
+use Rattle.lra_syntax.proofs.TreeSamples.{alone, literal_text, use_of, tested}
 use Rattle.lra_sample.specs.declared.block.Kind.{Kind}
 use Rattle.lra_sample.specs.declared.block.Kind.TheVariants.{Sum, Choice, Count, Input}
-use Rattle.lra_tree.proofs.Lexemes.{Item, skip, lexeme, pieces, item_place, IsGood}
+use Rattle.lra_syntax.proofs.Lexemes.{ExternalDeclaration, skip, lexeme, pieces, item_place, IsGood}
 use Rattle.lra_sample.proofs.Numerals.{IsFirstDigit, IsVariable}
 
 -- the digits of two variables, and a numeral with its value
@@ -34,24 +34,24 @@ pub record Line : Type 0 where
 
 -- tokens -------------------------------------------------------------------------------------------------------------
 
-abbrev pub opening : Mark → ℕ → Item
+abbrev pub opening : Mark → ℕ → ExternalDeclaration
 opening m o = lexeme (get_or (mark_text m) 0 0) (drop 1 (mark_text m)) (MarkOf m) o
 
-abbrev pub sign : Mark → Item
+abbrev pub sign : Mark → ExternalDeclaration
 sign m = opening m 0
 
 -- a variable, which may open a level
-abbrev pub named : ℕ → ℕ → Item
+abbrev pub named : ℕ → ℕ → ExternalDeclaration
 named x o = lexeme 118 (x ∷ []) (Name (118 ∷ x ∷ [])) o
 
 -- a numeral of one digit
-abbrev pub small : ℕ → Item
+abbrev pub small : ℕ → ExternalDeclaration
 small n = lexeme (48 + n) [] (Number Int n) 0
 
-abbrev pub constant : Line → Item
+abbrev pub constant : Line → ExternalDeclaration
 constant l = lexeme l.head l.tail (Number Int l.value) 0
 
-abbrev pub items_as : Kind → Line → List Item
+abbrev pub items_as : Kind → Line → List ExternalDeclaration
 items_as Sum l = named l.first 0 ∷ sign mark.Assign ∷ named l.second 0 ∷ sign mark.Plus ∷ constant l ∷
     sign mark.Semicolon ∷ skip 10 ∷ []
 items_as Choice l = sign mark.If ∷ sign mark.OpenParen ∷ named l.first 0 ∷ sign mark.Less ∷ constant l ∷
@@ -68,7 +68,7 @@ items_as Input l = named l.first 0 ∷ sign mark.Assign ∷ sign mark.Input ∷ 
     named l.first 0 ∷ sign mark.AtMost ∷ constant l
     ∷ sign mark.CloseParen ∷ sign mark.Semicolon ∷ skip 10 ∷ []
 
-abbrev pub items_of : Line → List Item
+abbrev pub items_of : Line → List ExternalDeclaration
 items_of l = items_as l.kind l
 
 -- trees --------------------------------------------------------------------------------------------------------------
@@ -88,14 +88,14 @@ sum_of x at n = plus (use_of (var x at)) (unary (literal Int n))
 abbrev pub tree_as : Kind → Line → (ℕ → Place) → ItemsTree → ItemsTree
 tree_as Sum l at rest = statement (given l.first (at 0) (sum_of l.second (at 2) l.value)) rest
 tree_as Choice l at rest = statement (if_else (at 0)
-    (tested (compare (use_of (var l.first (at 2))) below (number l.value)))
-    (given l.second (at 6) (sum_of l.second (at 8) 1)) (given l.second (at 14) (number l.value))) rest
-tree_as Count l at rest = statement (given l.first (at 0) (number 0))
-    (statement (while (at 4) (tested (compare (use_of (var l.first (at 6))) below (number l.value)))
+    (tested (compare (use_of (var l.first (at 2))) below (literal_text l.value)))
+    (given l.second (at 6) (sum_of l.second (at 8) 1)) (given l.second (at 14) (literal_text l.value))) rest
+tree_as Count l at rest = statement (given l.first (at 0) (literal_text 0))
+    (statement (while (at 4) (tested (compare (use_of (var l.first (at 6))) below (literal_text l.value)))
     (given l.first (at 10) (sum_of l.first (at 12) 1))) rest)
 tree_as Input l at rest = statement (given l.first (at 0) (alone input)) (statement (assume (at 6)
-    (conjunction (and (test (compare (use_of (var l.first (at 8))) at_least (number 0)))
-    (compare (use_of (var l.first (at 12))) at_most (number l.value))))) rest)
+    (conjunction (and (test (compare (use_of (var l.first (at 8))) at_least (literal_text 0)))
+    (compare (use_of (var l.first (at 12))) at_most (literal_text l.value))))) rest)
 
 abbrev pub tree_of : List ℕ → Line → ItemsTree → ItemsTree
 tree_of before l rest = tree_as l.kind l (item_place before (items_of l)) rest

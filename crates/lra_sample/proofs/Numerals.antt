@@ -8,14 +8,14 @@ use Rattle.std.specs.List.{list_all}
 use Rattle.std.specs.Prelude.{codes, nat_le, Some}
 use Rattle.std.proofs.lemmas.Bool.Decides.{nat_tests}
 use Rattle.lra_base.specs.declared.number_types.NumberType.TheVariants.{Int, Long}
-use Rattle.lra_tree.specs.declared.tokens.Kind.TheVariants.{Name, Number}
-use Rattle.lra_tree.specs.Lexeme.{is_between, is_digit, is_word_byte, is_letter, digit_value, number_behind}
-use Rattle.lra_tree.specs.Lexeme.{decimal_base, octal, greatest_literal, greatest_int_literal, literal_type, number_word, word, name, number}
-use Rattle.lra_tree.proofs.LongestByTest.{is_lexeme, begins_gap}
+use Rattle.lra_syntax.specs.declared.tokens.Kind.TheVariants.{Name, Number}
+use Rattle.lra_syntax.specs.Lexeme.{is_between, is_digit, is_word_byte, is_letter, digit_value, number_after}
+use Rattle.lra_syntax.specs.Lexeme.{decimal_base, octal, greatest_literal, greatest_int_literal, literal_type, number_word, word, name, literal_text}
+use Rattle.lra_syntax.proofs.LongestByTest.{is_lexeme, begins_gap}
 use Rattle.lra_meaning.specs.Scope.{Entry, Scope, found_of, scalar}
 use Rattle.lra_program.specs.Program.{Slot, local}
-use Rattle.lra_tree.specs.Faults.{greatest_level}
-use Rattle.lra_tree.proofs.Lexemes.{IsGood, IsRead, as_read}
+use Rattle.lra_syntax.specs.Faults.{greatest_level}
+use Rattle.lra_syntax.proofs.Lexemes.{IsGood, IsRead, as_read}
 
 -- words --------------------------------------------------------------------------------------------------------------
 
@@ -126,7 +126,7 @@ is_int n l = let small : nat_le n greatest_int_literal ≡ true = grind (arith, 
 pub zero_good : IsGood 48 [] (Number Int 0)
 zero_good = record {
   lexeme = number_word refl;
-  spells = number 0 Int refl (record {
+  spells = literal_text 0 Int refl (record {
     base = octal;
     front = codes "0";
     digits = [];
@@ -140,10 +140,10 @@ zero_good = record {
   gapless = refl;
 }
 
-one_digit : (x : ℕ) → IsFront x → IsDigit x → IsGood x [] (Number Int (number_behind decimal_base 0 (x ∷ [])))
+one_digit : (x : ℕ) → IsFront x → IsDigit x → IsGood x [] (Number Int (number_after decimal_base 0 (x ∷ [])))
 one_digit x f d = record {
   lexeme = number_word (rw d.digit refl);
-  spells = number (number_behind decimal_base 0 (x ∷ [])) Int (rw d.digit refl)
+  spells = literal_text (number_after decimal_base 0 (x ∷ [])) Int (rw d.digit refl)
       (record {
         base = decimal_base;
         front = [];
@@ -155,7 +155,7 @@ one_digit x f d = record {
         is_suffix = refl;
         number = refl;
       })
-      (is_int (number_behind decimal_base 0 (x ∷ [])) (few (digit_value x) d.small)) (fits (digit_value x) d.small);
+      (is_int (number_after decimal_base 0 (x ∷ [])) (few (digit_value x) d.small)) (fits (digit_value x) d.small);
   gapless = f.gapless;
 }
   where
@@ -168,10 +168,10 @@ one_digit x f d = record {
 pub one_good : IsGood 49 [] (Number Int 1)
 one_good = one_digit 49 (a_front 1 (omega arith) (omega arith)) (a_digit 1 (omega arith))
 
-two_digits : (x y : ℕ) → IsFront x → IsDigit x → IsDigit y → IsGood x (y ∷ []) (Number Int (number_behind decimal_base 0 (x ∷ y ∷ [])))
+two_digits : (x y : ℕ) → IsFront x → IsDigit x → IsDigit y → IsGood x (y ∷ []) (Number Int (number_after decimal_base 0 (x ∷ y ∷ [])))
 two_digits x y f d b = record {
   lexeme = number_word (rw (d.digit, digit_is y b.digit) refl);
-  spells = number (number_behind decimal_base 0 (x ∷ y ∷ [])) Int (rw (d.digit, digit_is y b.digit) refl)
+  spells = literal_text (number_after decimal_base 0 (x ∷ y ∷ [])) Int (rw (d.digit, digit_is y b.digit) refl)
       (record {
         base = decimal_base;
         front = [];
@@ -183,7 +183,7 @@ two_digits x y f d b = record {
         is_suffix = refl;
         number = refl;
       })
-      (is_int (number_behind decimal_base 0 (x ∷ y ∷ [])) (few (digit_value x) (digit_value y) d.small b.small)) (fits (digit_value x) (digit_value y) d.small b.small);
+      (is_int (number_after decimal_base 0 (x ∷ y ∷ [])) (few (digit_value x) (digit_value y) d.small b.small)) (fits (digit_value x) (digit_value y) d.small b.small);
   gapless = f.gapless;
 }
   where
@@ -217,7 +217,7 @@ one_of zero l = record {
 one_of (suc n) l = record {
   head = 48 + suc n;
   tail = [];
-  value = number_behind decimal_base 0 ((48 + suc n) ∷ []);
+  value = number_after decimal_base 0 ((48 + suc n) ∷ []);
   spelled = decimal_digit (suc n) l;
   first = first_digit (suc n) l;
   good = one_digit (48 + suc n) (a_front (suc n) l (omega arith)) (a_digit (suc n) l);
@@ -231,7 +231,7 @@ two_of n l g =
     record {
       head = 48 + n / 10;
       tail = (48 + n % 10) ∷ [];
-      value = number_behind decimal_base 0 ((48 + n / 10) ∷ (48 + n % 10) ∷ []);
+      value = number_after decimal_base 0 ((48 + n / 10) ∷ (48 + n % 10) ∷ []);
       spelled = decimal_step n g (omega (arith, l)) ∙ ap (λ t. t ++ (48 + n % 10) ∷ []) (decimal_digit (n / 10) tens);
       first = first_digit (n / 10) tens;
       good = two_digits (48 + n / 10) (48 + n % 10) (a_front (n / 10) tens some) (a_digit (n / 10) tens) (a_digit (n % 10) ones);

@@ -6,7 +6,7 @@ use Rattle.std.proofs.lemmas.List.FromFn.{length-map-range_with_len}
 use Rattle.std.specs.Fmt.{decimal}
 use Rattle.std.specs.List.{flat_map, range_with_len}
 use Rattle.std.specs.Prelude.{codes}
-use Rattle.lra_tree.specs.Grammar.{Spells}
+use Rattle.lra_syntax.specs.Grammar.{Spells}
 use Rattle.lra_base.specs.Places.{greatest_length}
 use Rattle.lra_meaning.specs.Refuse.{Accepts}
 use Rattle.lra_show.specs.Texts.{text_line}
@@ -15,7 +15,7 @@ use Rattle.lra_sample.specs.Sample.{statements_text, kind_of, block_from, block_
 use Rattle.lra_sample.specs.Accepted.{SamplesAreAccepted}
 use Rattle.lra_sample.specs.declared.block.Kind.{Kind}
 use Rattle.lra_sample.proofs.Lengths.{short_source}
-use Rattle.lra_tree.proofs.Lexemes.{written}
+use Rattle.lra_syntax.proofs.Lexemes.{written}
 use Rattle.lra_sample.proofs.Numerals.{numeral, variable}
 use Rattle.lra_sample.proofs.Lines.{Line, items_of}
 use Rattle.lra_sample.proofs.LineTokens.{text_as}

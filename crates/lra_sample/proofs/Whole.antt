@@ -6,37 +6,37 @@ use Rattle.std.specs.Prelude.{codes}
 use Rattle.lra_base.specs.declared.number_types.NumberType.TheVariants.{Int, Long}
 use Rattle.lra_base.specs.declared.refusals.Place.{Place}
 use Rattle.lra_base.specs.Operators.{at_most}
-use Rattle.lra_tree.specs.declared.tokens.Kind.TheVariants.{Name}
-use Rattle.lra_tree.specs.declared.tokens.Mark.TheVariants as mark
-use Rattle.lra_tree.specs.declared.tokens.Token.{Token}
-use Rattle.lra_tree.specs.Lexeme.{word, name}
+use Rattle.lra_syntax.specs.declared.tokens.Kind.TheVariants.{Name}
+use Rattle.lra_syntax.specs.declared.tokens.Mark.TheVariants as mark
+use Rattle.lra_syntax.specs.declared.tokens.Token.{Token}
+use Rattle.lra_syntax.specs.Lexeme.{word, name}
 use Rattle.lra_base.specs.Places.{place_after}
-use Rattle.lra_tree.specs.Tokens.{tokens_of, end_token, Lex}
-use Rattle.lra_tree.specs.Trees.{compare, expression, scalar, ItemsTree, no_items, declaration, statement, assert, FunctionTree}
-use Rattle.lra_tree.specs.Trees.{function, FileTree}
-use Rattle.lra_tree.specs.Texts.{Pieces}
-use Rattle.lra_tree.specs.Grammar.{AreItems, IsFunction, Spells}
-use Rattle.lra_tree.specs.Faults.{IsTree}
-use Rattle.lra_tree.proofs.TreeSamples.{number, use_of, tested}
-use Rattle.lra_tree.proofs.Lexemes.{Item, skip, lexeme, written, behind, reading, pieces, item_place, IsGood, AreRead}
-use Rattle.lra_tree.proofs.Lexemes.{◌⨾◌, as_read, is_mark, written_append, pieces_append, lexed, plain_pieces}
-use Rattle.lra_tree.proofs.Lexemes.{low_pieces}
+use Rattle.lra_syntax.specs.Tokens.{tokens_of, end_token, Lex}
+use Rattle.lra_syntax.specs.Trees.{compare, expression, scalar, ItemsTree, no_items, declaration, statement, assert, FunctionTree}
+use Rattle.lra_syntax.specs.Trees.{function, FileTree}
+use Rattle.lra_syntax.specs.Texts.{Pieces}
+use Rattle.lra_syntax.specs.Grammar.{AreItems, IsFunction, Spells}
+use Rattle.lra_syntax.specs.Faults.{IsTree}
+use Rattle.lra_syntax.proofs.TreeSamples.{literal_text, use_of, tested}
+use Rattle.lra_syntax.proofs.Lexemes.{ExternalDeclaration, skip, lexeme, written, behind, reading, pieces, item_place, IsGood, AreRead}
+use Rattle.lra_syntax.proofs.Lexemes.{◌⨾◌, as_read, is_mark, written_append, pieces_append, lexed, plain_pieces}
+use Rattle.lra_syntax.proofs.Lexemes.{low_pieces}
 use Rattle.lra_sample.proofs.Numerals.{zero_good, IsVariable, variable, is_name}
 use Rattle.lra_sample.proofs.Lines.{Line, opening, sign, named, small, var, items_of, tree_of, both, spells_as}
 use Rattle.lra_sample.proofs.LineTokens.{line_read}
 
 -- tokens -------------------------------------------------------------------------------------------------------------
 
-abbrev pub head_items : List Item
+abbrev pub head_items : List ExternalDeclaration
 head_items = sign mark.Int ∷ skip 32 ∷ lexeme 109 (codes "ain") (Name (codes "main")) 0 ∷ sign mark.OpenParen ∷
     sign mark.Void ∷ sign mark.CloseParen
     ∷ opening mark.OpenBrace 1 ∷ skip 10 ∷ []
 
-abbrev pub declared_items : ℕ → List Item
+abbrev pub declared_items : ℕ → List ExternalDeclaration
 declared_items x = sign mark.Long ∷ skip 32 ∷ named x 0 ∷ sign mark.Assign ∷ small 0 ∷ sign mark.Semicolon ∷ skip 10 ∷
     []
 
-abbrev pub declarations_items : List ℕ → List Item → List Item
+abbrev pub declarations_items : List ℕ → List ExternalDeclaration → List ExternalDeclaration
 declarations_items [] end = end
 declarations_items (x ∷ xs) end = declared_items x ++ declarations_items xs end
 
@@ -44,37 +44,37 @@ declarations_items (x ∷ xs) end = declared_items x ++ declarations_items xs en
 abbrev pub four_digits : List ℕ
 four_digits = 48 ∷ 49 ∷ 50 ∷ 51 ∷ []
 
-abbrev pub four_declared : List Item → List Item
+abbrev pub four_declared : List ExternalDeclaration → List ExternalDeclaration
 four_declared end = declarations_items four_digits end
 
-abbrev pub last_items : List Item
+abbrev pub last_items : List ExternalDeclaration
 last_items = sign mark.Assert ∷ sign mark.OpenParen ∷ named 48 0 ∷ sign mark.AtMost ∷ named 48 0 ∷
     sign mark.CloseParen ∷ sign mark.Semicolon ∷ skip 10 ∷ []
 
-abbrev pub close_items : List Item
+abbrev pub close_items : List ExternalDeclaration
 close_items = sign mark.CloseBrace ∷ skip 10 ∷ []
 
-abbrev pub lines_items : List Line → List Item → List Item
+abbrev pub lines_items : List Line → List ExternalDeclaration → List ExternalDeclaration
 lines_items [] end = end
 lines_items (l ∷ ls) end = items_of l ++ lines_items ls end
 
 -- of the function's body
-abbrev pub body_items : List Line → List Item
+abbrev pub body_items : List Line → List ExternalDeclaration
 body_items ls = four_declared (lines_items ls last_items)
 
-abbrev pub whole_items : List Line → List Item
+abbrev pub whole_items : List Line → List ExternalDeclaration
 whole_items ls = head_items ++ (body_items ls ++ close_items)
 
-lines_append : (ls : List Line) (xs ys : List Item) → lines_items ls xs ++ ys ≡ lines_items ls (xs ++ ys)
+lines_append : (ls : List Line) (xs ys : List ExternalDeclaration) → lines_items ls xs ++ ys ≡ lines_items ls (xs ++ ys)
 lines_append [] xs ys = refl
 lines_append (l ∷ ls) xs ys = append_assoc (items_of l) (lines_items ls xs) ys ∙
     ap (λ t. items_of l ++ t) (lines_append ls xs ys)
 
-lines_read : (ls : List Line) (end : List Item) → AreRead end → AreRead (lines_items ls end)
+lines_read : (ls : List Line) (end : List ExternalDeclaration) → AreRead end → AreRead (lines_items ls end)
 lines_read [] end g = g
 lines_read (l ∷ ls) end g = line_read l.kind l (lines_items ls end) (lines_read ls end g)
 
-declared_read : (x : ℕ) → IsVariable x → (xs : List Item) → AreRead xs → AreRead (declared_items x ++ xs)
+declared_read : (x : ℕ) → IsVariable x → (xs : List ExternalDeclaration) → AreRead xs → AreRead (declared_items x ++ xs)
 declared_read x v xs r =
     is_mark mark.Long refl refl refl (λ u. refl) ⨾ refl ⨾ is_name v 61 refl refl
     ⨾ is_mark mark.Assign refl refl refl (λ u. refl) ⨾ as_read zero_good (λ u. refl) refl
@@ -90,7 +90,7 @@ end_read =
 main_good : IsGood 109 (codes "ain") (Name (codes "main"))
 main_good = record { lexeme = word refl; spells = name refl refl refl; gapless = refl }
 
-front_read : (xs : List Item) → AreRead xs → AreRead (head_items ++ four_declared xs)
+front_read : (xs : List ExternalDeclaration) → AreRead xs → AreRead (head_items ++ four_declared xs)
 front_read xs r =
     is_mark mark.Int refl refl refl (λ u. refl) ⨾ refl ⨾ as_read main_good (λ u. refl) refl
     ⨾ is_mark mark.OpenParen refl refl refl (λ u. refl) ⨾ is_mark mark.Void refl refl refl (λ u. refl)
@@ -113,7 +113,7 @@ abbrev pub lines_text : List Line → List ℕ
 lines_text [] = []
 lines_text (l ∷ ls) = written (items_of l) ++ lines_text ls
 
-lines_written : (ls : List Line) (end : List Item) → written (lines_items ls end) ≡ lines_text ls ++ written end
+lines_written : (ls : List Line) (end : List ExternalDeclaration) → written (lines_items ls end) ≡ lines_text ls ++ written end
 lines_written [] end = refl
 lines_written (l ∷ ls) end = written_append (items_of l) (lines_items ls end) ∙
     ap (λ t. written (items_of l) ++ t) (lines_written ls end)
@@ -130,7 +130,7 @@ abbrev pub declared_tree : ℕ → Place → ItemsTree → ItemsTree
 declared_tree x at rest = declaration (record {
   number_type = Long;
   first = record
-      { name = var x at; shape = scalar (Some (expression (number 0))) };
+      { name = var x at; shape = scalar (Some (expression (literal_text 0))) };
   rest = [];
 }) rest
 
@@ -166,7 +166,7 @@ file_tree source ls = record { parts = function (main_tree ls) ∷ []; end = pla
 
 -- the tokens have the tree -------------------------------------------------------------------------------------------
 
-lines_spell : (ls : List Line) (before : List ℕ) (end : List Item) (last : List ℕ → ItemsTree) →
+lines_spell : (ls : List Line) (before : List ℕ) (end : List ExternalDeclaration) (last : List ℕ → ItemsTree) →
     ((b : List ℕ) → AreItems 1 (last b) (pieces b end)) →
     AreItems 1 (lines_tree before ls last) (pieces before (lines_items ls end))
 lines_spell [] before end last e = e before
@@ -189,7 +189,7 @@ last_spells before = both _ _ (both _ _ refl (both _ _
     -- the condition, `;`
     (both _ _ (_, refl) (both _ _ (both _ _ refl (both _ _ (_, refl) refl)) (_, refl))) (_, refl))) refl
 
-declarations_spell : (xs : List ℕ) (before : List ℕ) (end : List Item) (last : List ℕ → ItemsTree) →
+declarations_spell : (xs : List ℕ) (before : List ℕ) (end : List ExternalDeclaration) (last : List ℕ → ItemsTree) →
     ((b : List ℕ) → AreItems 1 (last b) (pieces b end)) →
     AreItems 1 (declarations_tree before xs last) (pieces before (declarations_items xs end))
 declarations_spell [] before end last e = e before

@@ -4,9 +4,9 @@ use Rattle.std.proofs.lemmas.Bool.Decides.{nat_tests}
 use Rattle.std.proofs.lemmas.List.{length-append}
 use Rattle.std.specs.Prelude.{⊤, nat_lt}
 use Rattle.lra_base.specs.declared.refusals.Place.{Place}
-use Rattle.lra_tree.specs.Trees.{FunctionTree, ItemsTree}
-use Rattle.lra_tree.specs.Functions.{functions_of}
-use Rattle.lra_tree.specs.Labels.{Labelled, labels_of}
+use Rattle.lra_syntax.specs.Trees.{FunctionTree, ItemsTree}
+use Rattle.lra_syntax.specs.Functions.{functions_of}
+use Rattle.lra_syntax.specs.Labels.{Labelled, labels_of}
 use Rattle.lra_program.specs.Program.{Call}
 use Rattle.lra_program.specs.Sites.{Event, comes, one_call_more, plain_site, live_after_items, items_events, greatest_calls}
 use Rattle.lra_program.specs.Sites.{call_events, events_of}
@@ -15,7 +15,7 @@ use Rattle.lra_meaning.specs.Resolve.{resolve_items, resolve}
 use Rattle.lra_meaning.specs.Refuse.{greatest_live, greatest_points, limit_fault}
 use Rattle.lra_sample.specs.declared.block.Kind.{Kind}
 use Rattle.lra_sample.specs.declared.block.Kind.TheVariants.{Sum, Choice, Count, Input}
-use Rattle.lra_tree.proofs.Lexemes.{behind, item_place}
+use Rattle.lra_syntax.proofs.Lexemes.{behind, item_place}
 use Rattle.lra_sample.proofs.Lines.{Line, items_of, tree_as}
 use Rattle.lra_sample.proofs.Numerals.{four}
 use Rattle.lra_sample.proofs.Whole.{four_declared, head_items, lines_tree, last_tree, file_tree}

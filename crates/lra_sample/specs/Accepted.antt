@@ -1,7 +1,7 @@
 -- Which sample sources are accepted.
 use Rattle.std.specs.Prelude.{ℕ, ◌≤◌}
-use Rattle.lra_tree.specs.Grammar.{Spells}
-use Rattle.lra_tree.specs.Trees.{FileTree}
+use Rattle.lra_syntax.specs.Grammar.{Spells}
+use Rattle.lra_syntax.specs.Trees.{FileTree}
 use Rattle.lra_meaning.specs.Refuse.{Accepts}
 use Rattle.lra_sample.specs.Sample.{sample_source}
 

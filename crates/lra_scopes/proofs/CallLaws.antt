@@ -4,11 +4,11 @@ use Rattle.std.specs.List.{flat_map}
 use Rattle.std.proofs.lemmas.List.Folds.{flat_map-map}
 use Rattle.std.proofs.lemmas.Simd.{map-map}
 use Rattle.std.proofs.lemmas.List.{length-map}
-use Rattle.lra_tree.specs.declared.trees.Call.{Call}
-use Rattle.lra_tree.specs.Trees.{FunctionTree}
-use Rattle.lra_tree.specs.Views.{expr_view, call_view}
+use Rattle.lra_syntax.specs.declared.trees.Call.{Call}
+use Rattle.lra_syntax.specs.Trees.{FunctionTree}
+use Rattle.lra_syntax.specs.Views.{expr_view, call_view}
 use Rattle.lra_meaning.specs.Scope.{Scope}
-use Rattle.lra_tree.specs.Functions.{function_named}
+use Rattle.lra_syntax.specs.Functions.{function_named}
 use Rattle.lra_meaning.specs.NameFaults.{called_faults, call_faults, expr_faults}
 use Rattle.lra_meaning.specs.Resolve.{resolve_expr}
 use Rattle.lra_scopes.specs.Calls.{argument_faults, resolve_argument}

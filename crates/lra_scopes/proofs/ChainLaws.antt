@@ -2,22 +2,22 @@
 use Rattle.std.proofs.Common.{◌≡◌, List, [], ◌∷◌, ◌++◌, map, refl, sym, ap, ◌∙◌, append_assoc, append-nil, ℕ, ◌≤◌, take, length}
 use Rattle.std.specs.List.{flat_map}
 use Rattle.lra_base.specs.declared.refusals.Refusal.{Refusal}
-use Rattle.lra_tree.specs.declared.trees.FactorOperator.{FactorOperator}
-use Rattle.lra_tree.specs.declared.trees.FactorOperator.TheVariants as factor
-use Rattle.lra_tree.specs.declared.trees.SumOperator.{SumOperator}
-use Rattle.lra_tree.specs.declared.trees.SumOperator.TheVariants as sum
-use Rattle.lra_tree.specs.declared.trees.Unary.TheFolds.{fold_out-Term, fold_out-Expr}
-use Rattle.lra_tree.specs.declared.trees.Term.{Term, out-Term}
-use Rattle.lra_tree.specs.declared.trees.Expr.{Expr, out-Expr}
+use Rattle.lra_syntax.specs.declared.trees.FactorOperator.{FactorOperator}
+use Rattle.lra_syntax.specs.declared.trees.FactorOperator.TheVariants as factor
+use Rattle.lra_syntax.specs.declared.trees.SumOperator.{SumOperator}
+use Rattle.lra_syntax.specs.declared.trees.SumOperator.TheVariants as sum
+use Rattle.lra_syntax.specs.declared.trees.Unary.TheFolds.{fold_out-Term, fold_out-Expr}
+use Rattle.lra_syntax.specs.declared.trees.Term.{Term, out-Term}
+use Rattle.lra_syntax.specs.declared.trees.Expr.{Expr, out-Expr}
 use Rattle.std.proofs.lemmas.List.Folds.{flat_map-map}
 use Rattle.std.proofs.lemmas.Simd.{map-map}
 use Rattle.std.proofs.lemmas.List.{take_all}
-use Rattle.lra_tree.specs.declared.trees.Factor.{Factor}
-use Rattle.lra_tree.specs.declared.trees.Summand.{Summand}
+use Rattle.lra_syntax.specs.declared.trees.Factor.{Factor}
+use Rattle.lra_syntax.specs.declared.trees.Summand.{Summand}
 use Rattle.lra_scopes.proofs.Telling.{tells_front, tells_behind}
-use Rattle.lra_tree.specs.Trees.{UnaryTree, TermTree, unary, ExprTree, term}
-use Rattle.lra_tree.specs.Views.{further_factor, product, further_term, sum_of, unary_view, factor_view, term_view, summand_view, expr_view, unary_step, expr_step, factor_step, summand_step}
-use Rattle.lra_tree.specs.Views.{term_step}
+use Rattle.lra_syntax.specs.Trees.{UnaryTree, TermTree, unary, ExprTree, term}
+use Rattle.lra_syntax.specs.Views.{further_factor, product, further_term, sum_of, unary_view, factor_view, term_view, summand_view, expr_view, unary_step, expr_step, factor_step, summand_step}
+use Rattle.lra_syntax.specs.Views.{term_step}
 use Rattle.lra_program.specs.Program as program
 use Rattle.lra_base.specs.Operators as operators
 use Rattle.lra_program.specs.ProgramViews.{chained}

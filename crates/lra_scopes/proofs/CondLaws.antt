@@ -5,18 +5,18 @@ use Rattle.std.proofs.lemmas.List.Folds.{flat_map-map}
 use Rattle.std.proofs.lemmas.Simd.{map-map}
 use Rattle.std.proofs.lemmas.List.{take_all}
 use Rattle.lra_base.specs.declared.refusals.Refusal.{Refusal}
-use Rattle.lra_tree.specs.declared.trees.Negation.TheFolds.{fold_out-Conjunction, fold_out-Cond}
-use Rattle.lra_tree.specs.declared.trees.Negation.{Negation, the_lemmas as cond_lemmas}
-use Rattle.lra_tree.specs.declared.trees.Negation as code_negation
-use Rattle.lra_tree.specs.declared.trees.Test.{Test}
-use Rattle.lra_tree.specs.declared.trees.Test as code_test
-use Rattle.lra_tree.specs.declared.trees.Unary.{Unary}
-use Rattle.lra_tree.specs.declared.trees.Expr.{Expr}
+use Rattle.lra_syntax.specs.declared.trees.Negation.TheFolds.{fold_out-Conjunction, fold_out-Cond}
+use Rattle.lra_syntax.specs.declared.trees.Negation.{Negation, the_lemmas as cond_lemmas}
+use Rattle.lra_syntax.specs.declared.trees.Negation as code_negation
+use Rattle.lra_syntax.specs.declared.trees.Test.{Test}
+use Rattle.lra_syntax.specs.declared.trees.Test as code_test
+use Rattle.lra_syntax.specs.declared.trees.Unary.{Unary}
+use Rattle.lra_syntax.specs.declared.trees.Expr.{Expr}
 use Rattle.lra_base.specs.declared.operators.Comparison.{Comparison}
-use Rattle.lra_tree.specs.declared.trees.Conjunction.{Conjunction, out-Conjunction}
-use Rattle.lra_tree.specs.declared.trees.Cond.{Cond, out-Cond}
-use Rattle.lra_tree.specs.Trees.{NegationTree, opposite_again, value_of_unary, TestTree, opposite, value, compare, ConjunctionTree, test, and, CondTree, conjunction, or}
-use Rattle.lra_tree.specs.Views.{all_tests, any_conjunction, negation_step, test_step, conjunction_step, cond_step, unary_view, expr_view, negation_view, test_view, conjunction_view, cond_view}
+use Rattle.lra_syntax.specs.declared.trees.Conjunction.{Conjunction, out-Conjunction}
+use Rattle.lra_syntax.specs.declared.trees.Cond.{Cond, out-Cond}
+use Rattle.lra_syntax.specs.Trees.{NegationTree, opposite_again, value_of_unary, TestTree, opposite, value, compare, ConjunctionTree, test, and, CondTree, conjunction, or}
+use Rattle.lra_syntax.specs.Views.{all_tests, any_conjunction, negation_step, test_step, conjunction_step, cond_step, unary_view, expr_view, negation_view, test_view, conjunction_view, cond_view}
 use Rattle.lra_base.specs.OperatorViews.{comparison_view}
 use Rattle.lra_program.specs.Program as program
 use Rattle.lra_program.specs.ProgramViews as chain

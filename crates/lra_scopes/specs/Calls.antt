@@ -1,19 +1,19 @@
 -- The functions of a list of a source's parts, and the faults of one argument.
 use Rattle.std.specs.Prelude.{List, map}
 use Rattle.lra_base.specs.declared.refusals.Refusal.{Refusal}
-use Rattle.lra_tree.specs.declared.trees.Item.{Item}
-use Rattle.lra_tree.specs.declared.trees.Expr.{Expr}
-use Rattle.lra_tree.specs.Views.{part_view, expr_view}
-use Rattle.lra_tree.specs.Trees.{FunctionTree}
+use Rattle.lra_syntax.specs.declared.trees.ExternalDeclaration.{ExternalDeclaration}
+use Rattle.lra_syntax.specs.declared.trees.Expr.{Expr}
+use Rattle.lra_syntax.specs.Views.{external_view, expr_view}
+use Rattle.lra_syntax.specs.Trees.{FunctionTree}
 use Rattle.lra_meaning.specs.Scope.{Scope}
-use Rattle.lra_tree.specs.Functions.{functions_in}
+use Rattle.lra_syntax.specs.Functions.{functions_in}
 use Rattle.lra_meaning.specs.NameFaults.{expr_faults}
 use Rattle.lra_program.specs.Program as program
 use Rattle.lra_meaning.specs.Resolve.{resolve_expr}
 
 -- in text order
-abbrev pub functions_at : List Item → List FunctionTree
-functions_at parts = functions_in (map part_view parts)
+abbrev pub functions_at : List ExternalDeclaration → List FunctionTree
+functions_at parts = functions_in (map external_view parts)
 
 -- of one argument, and what it means
 abbrev pub argument_faults : Scope → Expr → List Refusal

@@ -1,11 +1,11 @@
 -- The operators of chains, each with its right operand: their faults, and what they mean.
 use Rattle.std.specs.Prelude.{List, None}
 use Rattle.lra_base.specs.declared.refusals.Refusal.{Refusal}
-use Rattle.lra_tree.specs.declared.trees.FactorOperator.{FactorOperator}
-use Rattle.lra_tree.specs.declared.trees.FactorOperator.TheVariants as factor
-use Rattle.lra_tree.specs.declared.trees.SumOperator.{SumOperator}
-use Rattle.lra_tree.specs.declared.trees.SumOperator.TheVariants as sum
-use Rattle.lra_tree.specs.Trees.{UnaryTree, TermTree, ConjunctionTree}
+use Rattle.lra_syntax.specs.declared.trees.FactorOperator.{FactorOperator}
+use Rattle.lra_syntax.specs.declared.trees.FactorOperator.TheVariants as factor
+use Rattle.lra_syntax.specs.declared.trees.SumOperator.{SumOperator}
+use Rattle.lra_syntax.specs.declared.trees.SumOperator.TheVariants as sum
+use Rattle.lra_syntax.specs.Trees.{UnaryTree, TermTree, ConjunctionTree}
 use Rattle.lra_program.specs.Program as program
 use Rattle.lra_base.specs.Operators as operators
 use Rattle.lra_meaning.specs.Scope.{Scope}

@@ -3,9 +3,9 @@ use Rattle.std.specs.Prelude.{◌≡◌, ℕ, suc, List, [], ◌∷◌, length, 
 use Rattle.std.specs.Option.{option_or}
 use Rattle.std.specs.declared.alloc.Global.{Global}
 use Rattle.indexmap.specs.IndexMap.{IndexMap, get_by_text}
-use Rattle.lra_tree.specs.declared.trees.Item.{Item}
-use Rattle.lra_tree.specs.Trees.{FunctionTree}
-use Rattle.lra_tree.specs.Functions.{is_named}
+use Rattle.lra_syntax.specs.declared.trees.ExternalDeclaration.{ExternalDeclaration}
+use Rattle.lra_syntax.specs.Trees.{FunctionTree}
+use Rattle.lra_syntax.specs.Functions.{is_named}
 use Rattle.lra_scopes.specs.declared.signatures.Signature.{Signature}
 use Rattle.lra_scopes.specs.Calls.{functions_at}
 
@@ -23,6 +23,6 @@ first_signature name place [] = None
 first_signature name place (f ∷ fs) = option_or (named_signature name place f) (first_signature name (suc place) fs)
 
 -- the index has the signature of the first function of each name
-abbrev pub HasSignatures : {S : Type 0} → IndexMap (String Global) Signature S → List Item → Type 0
+abbrev pub HasSignatures : {S : Type 0} → IndexMap (String Global) Signature S → List ExternalDeclaration → Type 0
 HasSignatures signatures parts = (name : List ℕ) → get_by_text signatures name
     ≡ first_signature name 0 (functions_at parts)

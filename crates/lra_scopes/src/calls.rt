@@ -5,10 +5,10 @@ ghost use Rattle.std.specs.Prelude.{None, option_map, IfOk};
 ghost use Rattle.lra_base.specs.declared.number_types.NumberType.TheVariants.{Int};
 ghost use Rattle.lra_program.specs.Program.{assign as assign_stmt, binary, literal, read, value};
 ghost use Rattle.lra_base.specs.OperatorViews.{operator_view};
-ghost use Rattle.lra_tree.specs.Views.{step_view, expr_view as tree_expr_view, call_view as tree_call_view};
-ghost use Rattle.lra_tree.specs.Views.{rvalue_view as tree_rvalue_view, assign_view};
+ghost use Rattle.lra_syntax.specs.Views.{step_view, expr_view as tree_expr_view, call_view as tree_call_view};
+ghost use Rattle.lra_syntax.specs.Views.{rvalue_view as tree_rvalue_view, assign_view};
 ghost use Rattle.lra_program.specs.ProgramViews.{variable_view, expr_view, call_view, rvalue_view, given_view, stmt_view};
-ghost use Rattle.lra_tree.specs.Functions.{function_named};
+ghost use Rattle.lra_syntax.specs.Functions.{function_named};
 ghost use Rattle.lra_meaning.specs.NameFaults.{use_faults, expr_faults, called_faults, call_faults, rvalue_faults};
 ghost use Rattle.lra_meaning.specs.NameFaults.{given_faults, assign_faults};
 ghost use Rattle.lra_meaning.specs.Resolve.{variable, function_place, resolve_expr, resolve_call, resolve_rvalue};
@@ -22,7 +22,7 @@ use crate::scopes::Scope;
 use crate::signatures::{Functions, Signature};
 use lra_base::{Cause, NumberType, Operator, SourceError};
 use lra_program::{Operation, Variable};
-use lra_tree::{Assign, Call, Expr, Identifier, Rvalue, Step};
+use lra_syntax::{Assign, Call, Expr, Identifier, Rvalue, Step};
 use std::alloc::{AllocError, Global};
 
 /// Whether a function can't be called so.

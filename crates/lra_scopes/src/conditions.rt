@@ -2,9 +2,9 @@
 
 ghost use Rattle.std.specs.Prelude.{◌≡◌, map, IfOk, IfErr};
 ghost use Rattle.lra_base.specs.OperatorViews.{comparison_view};
-ghost use Rattle.lra_tree.specs.Trees.{compare};
-ghost use Rattle.lra_tree.specs.Views.{expr_view, negation_view, test_view, conjunction_view};
-ghost use Rattle.lra_tree.specs.Views.{cond_view as tree_cond_view};
+ghost use Rattle.lra_syntax.specs.Trees.{compare};
+ghost use Rattle.lra_syntax.specs.Views.{expr_view, negation_view, test_view, conjunction_view};
+ghost use Rattle.lra_syntax.specs.Views.{cond_view as tree_cond_view};
 ghost use Rattle.lra_program.specs.ProgramViews.{cond_view, all_of, any_of};
 ghost use Rattle.lra_meaning.specs.NameFaults.{negation_faults, test_faults, conjunction_faults, cond_faults};
 ghost use Rattle.lra_meaning.specs.Resolve.{resolve_negation, resolve_test, resolve_cond};
@@ -14,7 +14,7 @@ ghost use Rattle.lra_scopes.specs.Outcome.{TellsOf};
 use crate::expressions::{resolve_expr, resolve_unary};
 use crate::scopes::Scope;
 use lra_base::{Comparison, SourceError};
-use lra_tree::{Cond, Conjunction, Expr, Negation, Test};
+use lra_syntax::{Cond, Conjunction, Expr, Negation, Test};
 use std::alloc::Global;
 
 /// A chain of `&&`, or its only operand.

@@ -2,7 +2,7 @@
 
 ghost use Rattle.std.specs.Prelude.{◌≡◌, ◌++◌, map, IfOk, IfErr, flat_map};
 ghost use Rattle.lra_base.specs.OperatorViews.{operator_view};
-ghost use Rattle.lra_tree.specs.Views.{unary_view, term_view, factor_view, summand_view, expr_view as tree_expr_view};
+ghost use Rattle.lra_syntax.specs.Views.{unary_view, term_view, factor_view, summand_view, expr_view as tree_expr_view};
 ghost use Rattle.lra_program.specs.ProgramViews.{variable_view, expr_view, element_view, operation_view, chained};
 ghost use Rattle.lra_meaning.specs.NameFaults.{use_faults, named_faults, unary_faults, term_faults, expr_faults};
 ghost use Rattle.lra_meaning.specs.Resolve.{variable, array_named, resolve_unary, resolve_term, resolve_expr};
@@ -16,7 +16,7 @@ use crate::meanings::Meaning;
 use crate::scopes::Scope;
 use lra_base::{Cause, Operator, SourceError};
 use lra_program::{Array, Element, Operation, Variable};
-use lra_tree::{Expr, Factor, FactorOperator, Identifier, SumOperator, Summand, Term, Unary};
+use lra_syntax::{Expr, Factor, FactorOperator, Identifier, SumOperator, Summand, Term, Unary};
 use std::alloc::Global;
 
 /// The scalar that a name means, with its type; `UnknownName` where nothing in scope has the name, `NotArray` where an

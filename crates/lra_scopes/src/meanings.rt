@@ -9,7 +9,7 @@ ghost use Rattle.lra_scopes.specs.Outcome.{TellsOf};
 use crate::errors::refuse;
 use lra_base::{Cause, NumberType, SourceError, is_length};
 use lra_program::{Array, Slot};
-use lra_tree::{ArrayLength, Identifier};
+use lra_syntax::{ArrayLength, Identifier};
 
 /// What a name means: a scalar of this type, or an array.
 #[derive(Clone, Copy)]

@@ -7,7 +7,7 @@ ghost use Rattle.indexmap.specs.IndexMap.{get_by_text};
 ghost use Rattle.lra_meaning.specs.Scope.{newest};
 
 use indexmap::IndexMap;
-use lra_tree::Word;
+use lra_syntax::Word;
 use std::alloc::{AllocError, Global};
 use std::marker::Model;
 

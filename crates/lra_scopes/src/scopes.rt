@@ -8,7 +8,7 @@ ghost use Rattle.lra_scopes.specs.Scopes.{left_to};
 use crate::meanings::{Found, Meaning};
 use crate::variables::Variables;
 use lra_program::Slot;
-use lra_tree::Word;
+use lra_syntax::Word;
 use std::alloc::{AllocError, Global};
 use std::marker::Model;
 

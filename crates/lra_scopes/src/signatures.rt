@@ -3,14 +3,14 @@
 ghost use Rattle.std.specs.Prelude.{◌≡◌, ℕ, List, option_map, bytes_eq, IfOk, OnOk};
 ghost use Rattle.std.specs.Option.{option_or};
 ghost use Rattle.indexmap.specs.IndexMap.{get_by_text};
-ghost use Rattle.lra_tree.specs.Views.{function_view};
-ghost use Rattle.lra_tree.specs.Functions.{function_named};
+ghost use Rattle.lra_syntax.specs.Views.{function_view};
+ghost use Rattle.lra_syntax.specs.Functions.{function_named};
 ghost use Rattle.lra_meaning.specs.Resolve.{function_place};
 ghost use Rattle.lra_scopes.specs.Calls.{functions_at};
 ghost use Rattle.lra_scopes.specs.Signatures.{signature_at, named_signature};
 
 use indexmap::IndexMap;
-use lra_tree::{Function, Item, Word};
+use lra_syntax::{ExternalDeclaration, Function, Word};
 use std::alloc::{AllocError, Global};
 use std::marker::Model;
 
@@ -27,7 +27,7 @@ pub struct Signature {
 
 /// The functions of a source's parts. The first of a name is found by its hash, and not by going through them.
 pub struct Functions<'a> {
-    parts: &'a [Item],
+    parts: &'a [ExternalDeclaration],
     signatures: IndexMap<String, Signature>,
 }
 
@@ -43,11 +43,11 @@ impl<'a> Drop for Functions<'a> {
 impl<'a> Model for Functions<'a> {
     ghost use Rattle.std.specs.Prelude.{List};
     ghost use Rattle.std.specs.Coded.{coded_list};
-    ghost use Rattle.lra_tree.specs.contracts.trees.Item as item;
-    ghost use Rattle.lra_tree.specs.declared.trees.Item.{Item};
+    ghost use Rattle.lra_syntax.specs.contracts.trees.ExternalDeclaration as item;
+    ghost use Rattle.lra_syntax.specs.declared.trees.ExternalDeclaration.{ExternalDeclaration};
     ghost use Rattle.lra_scopes.specs.Signatures.{HasSignatures};
 
-    ghost Value = { List Item };
+    ghost Value = { List ExternalDeclaration };
 
     ghost coded = { coded_list item.the_row.coded };
 
@@ -82,16 +82,16 @@ fn add_signature(
 
 impl<'a> Functions<'a> {
     /// The functions among these parts.
-    pub fn new(alloc: Global, parts: &'a [Item]) -> Result<Functions<'a>, AllocError>
+    pub fn new(alloc: Global, parts: &'a [ExternalDeclaration]) -> Result<Functions<'a>, AllocError>
         ensures { IfOk result (λ f. f ≡ parts.now) }
     {
         let mut signatures = IndexMap::new(alloc);
         let mut place = 0;
         'parts: for item in parts {
             match item {
-                Item::Prototype => {}
-                Item::Globals(_) => {}
-                Item::Function(function) => {
+                ExternalDeclaration::Prototype => {}
+                ExternalDeclaration::Globals(_) => {}
+                ExternalDeclaration::Function(function) => {
                     add_signature(alloc, &mut signatures, place, function)?;
                     place += 1;
                 }
@@ -101,7 +101,7 @@ impl<'a> Functions<'a> {
     }
 
     /// The parts of the source.
-    pub fn parts(&self) -> &'a [Item]
+    pub fn parts(&self) -> &'a [ExternalDeclaration]
         ensures { result.now ≡ self.now }
     {
         self.parts

@@ -9,7 +9,7 @@ ghost use Rattle.lra_scopes.specs.Variables.{placed_view};
 
 use crate::meanings::Meaning;
 use crate::names::Names;
-use lra_tree::Word;
+use lra_syntax::Word;
 use std::alloc::{AllocError, Global};
 use std::marker::Model;
 

@@ -4,7 +4,7 @@ use Rattle.std.proofs.lemmas.List.{map-append}
 use Rattle.lra_base.specs.declared.number_types.NumberType.{NumberType}
 use Rattle.lra_program.specs.declared.program.BlockItem.{BlockItem}
 use Rattle.lra_program.specs.ProgramViews.{item_view}
-use Rattle.lra_tree.specs.Trees.{FunctionTree, DeclaratorTree}
+use Rattle.lra_syntax.specs.Trees.{FunctionTree, DeclaratorTree}
 use Rattle.lra_program.specs.Program as program
 use Rattle.lra_meaning.specs.Scope.{Scope, with_local, declarator_entry}
 use Rattle.lra_meaning.specs.NameFaults.{declarators_faults}

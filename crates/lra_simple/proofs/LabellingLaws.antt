@@ -5,13 +5,13 @@ use Rattle.std.proofs.lemmas.Grind.{flat_map-append}
 use Rattle.std.proofs.lemmas.List.{map_more, take-append-le}
 use Rattle.std.proofs.Math.Seq.{take-length}
 use Rattle.lra_base.specs.declared.refusals.Place.{Place}
-use Rattle.lra_tree.specs.declared.trees.BlockItem.{BlockItem, the_lemmas}
-use Rattle.lra_tree.specs.declared.trees.BlockItem as code_item
-use Rattle.lra_tree.specs.declared.trees.Declaration.{Declaration}
-use Rattle.lra_tree.specs.declared.trees.Stmt.{Stmt}
-use Rattle.lra_tree.specs.Views.{item_view, declaration_view, stmt_view}
-use Rattle.lra_tree.specs.Trees.{AssignTree, DeclaratorTree, InitTree, no_init, declared, assigned, ItemsTree, no_items, declaration, statement, FunctionTree}
-use Rattle.lra_tree.specs.Labels.{Labelled, plain_label, names_of, with_names, called_for, declarator_labels, init_labels, step_labels, stmt_labels, items_labels, live_in_for}
+use Rattle.lra_syntax.specs.declared.trees.BlockItem.{BlockItem, the_lemmas}
+use Rattle.lra_syntax.specs.declared.trees.BlockItem as code_item
+use Rattle.lra_syntax.specs.declared.trees.Declaration.{Declaration}
+use Rattle.lra_syntax.specs.declared.trees.Stmt.{Stmt}
+use Rattle.lra_syntax.specs.Views.{item_view, declaration_view, stmt_view}
+use Rattle.lra_syntax.specs.Trees.{AssignTree, DeclaratorTree, InitTree, no_init, declared, assigned, ItemsTree, no_items, declaration, statement, FunctionTree}
+use Rattle.lra_syntax.specs.Labels.{Labelled, plain_label, names_of, with_names, called_for, declarator_labels, init_labels, step_labels, stmt_labels, items_labels, live_in_for}
 use Rattle.lra_meaning.specs.LabelTable.{with_live}
 use Rattle.lra_simple.specs.Labelling.{LabelsSoFar, Adds, Declares, Extends, Follows, Fills, for_front}
 

@@ -3,21 +3,21 @@ use Rattle.std.proofs.Common.{◌≡◌, suc, refl, sym, subst, arith, Option, B
 use Rattle.std.specs.Result.{IfOk, OnOk}
 use Rattle.lra_base.specs.declared.error.SourceError.{SourceError}
 use Rattle.lra_base.specs.declared.refusals.Place.{Place}
-use Rattle.lra_tree.specs.declared.trees.Stmt.{Stmt, Stmt-F, out-Stmt, roll-Stmt, roll-out-Stmt}
-use Rattle.lra_tree.specs.declared.trees.BlockItem.{BlockItem}
-use Rattle.lra_tree.specs.declared.trees.Stmt as code
-use Rattle.lra_tree.specs.declared.trees.Block.{Block}
-use Rattle.lra_tree.specs.declared.trees.Init.{Init}
-use Rattle.lra_tree.specs.declared.trees.Cond.{Cond}
-use Rattle.lra_tree.specs.declared.trees.Expr.{Expr}
-use Rattle.lra_tree.specs.declared.trees.CaseItem.{CaseItem}
-use Rattle.lra_tree.specs.declared.trees.Cases.{Cases}
-use Rattle.lra_tree.specs.declared.trees.Assign.{Assign}
-use Rattle.lra_tree.specs.declared.trees.Call.{Call}
-use Rattle.lra_tree.specs.declared.trees.Rvalue.{Rvalue}
-use Rattle.lra_tree.specs.Trees.{StmtTree}
-use Rattle.lra_tree.specs.Views.{stmt_view}
-use Rattle.lra_tree.specs.Labels.{stmt_labels}
+use Rattle.lra_syntax.specs.declared.trees.Stmt.{Stmt, Stmt-F, out-Stmt, roll-Stmt, roll-out-Stmt}
+use Rattle.lra_syntax.specs.declared.trees.BlockItem.{BlockItem}
+use Rattle.lra_syntax.specs.declared.trees.Stmt as code
+use Rattle.lra_syntax.specs.declared.trees.Block.{Block}
+use Rattle.lra_syntax.specs.declared.trees.Init.{Init}
+use Rattle.lra_syntax.specs.declared.trees.Cond.{Cond}
+use Rattle.lra_syntax.specs.declared.trees.Expr.{Expr}
+use Rattle.lra_syntax.specs.declared.trees.CaseItem.{CaseItem}
+use Rattle.lra_syntax.specs.declared.trees.Cases.{Cases}
+use Rattle.lra_syntax.specs.declared.trees.Assign.{Assign}
+use Rattle.lra_syntax.specs.declared.trees.Call.{Call}
+use Rattle.lra_syntax.specs.declared.trees.Rvalue.{Rvalue}
+use Rattle.lra_syntax.specs.Trees.{StmtTree}
+use Rattle.lra_syntax.specs.Views.{stmt_view}
+use Rattle.lra_syntax.specs.Labels.{stmt_labels}
 use Rattle.lra_program.specs.declared.program.Stmt.{Stmt as ProgramStmt}
 use Rattle.lra_program.specs.ProgramViews.{stmt_view as program_stmt_view}
 use Rattle.lra_meaning.specs.Scope.{Scope}

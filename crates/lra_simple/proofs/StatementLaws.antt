@@ -8,31 +8,31 @@ use Rattle.std.proofs.lemmas.List.{length-map, map-append, take-append-le}
 use Rattle.std.proofs.Math.Seq.{take-length}
 use Rattle.std.proofs.Math.Nat.{le-max_left, le-max_right}
 use Rattle.lra_base.specs.declared.refusals.Place.{Place}
-use Rattle.lra_tree.specs.Trees.{CondTree, AssignTree, DeclaratorTree, DeclarationTree, InitTree, no_init, declared, assigned, StmtTree, block, if_only, while, if_else, for, ItemsTree}
-use Rattle.lra_tree.specs.Trees.{declaration, statement, FunctionTree, nothing, assign, call, break, continue, return, assert, assume, switch}
+use Rattle.lra_syntax.specs.Trees.{CondTree, AssignTree, DeclaratorTree, DeclarationTree, InitTree, no_init, declared, assigned, StmtTree, block, if_only, while, if_else, for, ItemsTree}
+use Rattle.lra_syntax.specs.Trees.{declaration, statement, FunctionTree, nothing, assign, call, break, continue, return, assert, assume, switch}
 use Rattle.lra_program.specs.declared.program.BlockItem.{BlockItem, the_lemmas}
 use Rattle.lra_program.specs.declared.program.BlockItem as program_item
 use Rattle.lra_program.specs.declared.program.Stmt.{Stmt as ProgramStmt}
 use Rattle.lra_program.specs.declared.program.Stmt as program_stmt
-use Rattle.lra_tree.specs.declared.trees.BlockItem.{the_lemmas as tree_lemmas}
-use Rattle.lra_tree.specs.declared.trees.BlockItem as code_item
-use Rattle.lra_tree.specs.declared.trees.Block.{Block}
-use Rattle.lra_tree.specs.declared.trees.Declaration.{Declaration}
-use Rattle.lra_tree.specs.declared.trees.Init.{Init}
-use Rattle.lra_tree.specs.declared.trees.Init.TheVariants as code_init
-use Rattle.lra_tree.specs.declared.trees.Stmt.{Stmt, the_lemmas as stmt_lemmas}
-use Rattle.lra_tree.specs.declared.trees.Stmt as code_stmt
-use Rattle.lra_tree.specs.declared.trees.Cond.{Cond}
-use Rattle.lra_tree.specs.declared.trees.Expr.{Expr}
-use Rattle.lra_tree.specs.declared.trees.Cases.{Cases}
-use Rattle.lra_tree.specs.declared.trees.Assign.{Assign}
-use Rattle.lra_tree.specs.declared.trees.Call.{Call}
-use Rattle.lra_tree.specs.declared.trees.Rvalue.{Rvalue}
-use Rattle.lra_tree.specs.Views.{items_of, item_view, block_view, init_view, declaration_view, declarator_view, stmt_view, cases_view, expr_view, cond_view, assign_view, call_view, rvalue_view}
+use Rattle.lra_syntax.specs.declared.trees.BlockItem.{the_lemmas as tree_lemmas}
+use Rattle.lra_syntax.specs.declared.trees.BlockItem as code_item
+use Rattle.lra_syntax.specs.declared.trees.Block.{Block}
+use Rattle.lra_syntax.specs.declared.trees.Declaration.{Declaration}
+use Rattle.lra_syntax.specs.declared.trees.Init.{Init}
+use Rattle.lra_syntax.specs.declared.trees.Init.TheVariants as code_init
+use Rattle.lra_syntax.specs.declared.trees.Stmt.{Stmt, the_lemmas as stmt_lemmas}
+use Rattle.lra_syntax.specs.declared.trees.Stmt as code_stmt
+use Rattle.lra_syntax.specs.declared.trees.Cond.{Cond}
+use Rattle.lra_syntax.specs.declared.trees.Expr.{Expr}
+use Rattle.lra_syntax.specs.declared.trees.Cases.{Cases}
+use Rattle.lra_syntax.specs.declared.trees.Assign.{Assign}
+use Rattle.lra_syntax.specs.declared.trees.Call.{Call}
+use Rattle.lra_syntax.specs.declared.trees.Rvalue.{Rvalue}
+use Rattle.lra_syntax.specs.Views.{items_of, item_view, block_view, init_view, declaration_view, declarator_view, stmt_view, cases_view, expr_view, cond_view, assign_view, call_view, rvalue_view}
 use Rattle.lra_program.specs.Program as program
 use Rattle.lra_program.specs.ProgramViews as view
 use Rattle.lra_meaning.specs.Scope.{Entry, Scope, with_local, declarator_entry, with_declarators, inner, for_scope}
-use Rattle.lra_tree.specs.Labels.{init_labels, step_labels, stmt_labels, live_in_for}
+use Rattle.lra_syntax.specs.Labels.{init_labels, step_labels, stmt_labels, live_in_for}
 use Rattle.lra_meaning.specs.Resolve.{resolve_stmt, resolve_items, stmt_count, items_count, init_count, step_count}
 use Rattle.lra_meaning.proofs.LabelCounts.{count_stmt, count_declarators, count_items, count_step}
 use Rattle.lra_scopes.specs.Scopes.{with_more, Extends, left_to}

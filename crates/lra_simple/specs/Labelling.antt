@@ -2,9 +2,9 @@
 use Rattle.std.specs.Prelude.{◌≡◌, ℕ, List, [], ◌∷◌, ◌++◌, Option, flat_map}
 use Rattle.lra_base.specs.declared.refusals.Place.{Place}
 use Rattle.lra_base.specs.TextOrder.{before_body}
-use Rattle.lra_tree.specs.Trees.{AssignTree, DeclaratorTree, InitTree, ItemsTree, FunctionTree}
-use Rattle.lra_tree.specs.Labels.{Labelled, plain_label, with_names, declarator_labels, init_labels, step_labels}
-use Rattle.lra_tree.specs.Labels.{items_labels, live_in_for, function_labels}
+use Rattle.lra_syntax.specs.Trees.{AssignTree, DeclaratorTree, InitTree, ItemsTree, FunctionTree}
+use Rattle.lra_syntax.specs.Labels.{Labelled, plain_label, with_names, declarator_labels, init_labels, step_labels}
+use Rattle.lra_syntax.specs.Labels.{items_labels, live_in_for, function_labels}
 
 pub record LabelsSoFar : Type 0 where
   -- the function's scalars that live now, oldest first

@@ -3,10 +3,10 @@
 use Rattle.std.specs.Prelude.{ℕ, suc, ◌+◌, List, [], ◌∷◌, ◌++◌, Option, option_map}
 use Rattle.lra_base.specs.declared.refusals.Place.{Place}
 use Rattle.lra_base.specs.declared.refusals.Refusal.{Refusal}
-use Rattle.lra_tree.specs.declared.trees.Stmt.{Stmt}
-use Rattle.lra_tree.specs.Trees.{CondTree, AssignTree, InitTree, StmtTree, while, for, FunctionTree}
-use Rattle.lra_tree.specs.Views.{stmt_view, cond_view, init_view, assign_view}
-use Rattle.lra_tree.specs.Labels.{Labelled, plain_label, live_in_for}
+use Rattle.lra_syntax.specs.declared.trees.Stmt.{Stmt}
+use Rattle.lra_syntax.specs.Trees.{CondTree, AssignTree, InitTree, StmtTree, while, for, FunctionTree}
+use Rattle.lra_syntax.specs.Views.{stmt_view, cond_view, init_view, assign_view}
+use Rattle.lra_syntax.specs.Labels.{Labelled, plain_label, live_in_for}
 use Rattle.lra_meaning.specs.Scope.{Scope, for_scope}
 use Rattle.lra_meaning.specs.NameFaults.{cond_faults, init_faults, test_of_for_faults, step_faults}
 use Rattle.lra_meaning.specs.Resolve.{resolve_cond, resolve_init, resolve_for_test, resolve_step, init_count}

@@ -1,8 +1,8 @@
 -- What it is to resolve a statement.
 use Rattle.std.specs.Prelude.{◌≡◌, ◌+◌, Result, IfOk, OnOk}
 use Rattle.lra_base.specs.declared.error.SourceError.{SourceError}
-use Rattle.lra_tree.specs.Trees.{StmtTree}
-use Rattle.lra_tree.specs.Labels.{stmt_labels}
+use Rattle.lra_syntax.specs.Trees.{StmtTree}
+use Rattle.lra_syntax.specs.Labels.{stmt_labels}
 use Rattle.lra_program.specs.declared.program.Stmt.{Stmt}
 use Rattle.lra_program.specs.ProgramViews.{stmt_view}
 use Rattle.lra_meaning.specs.Scope.{Scope}

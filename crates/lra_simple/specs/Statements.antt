@@ -4,9 +4,9 @@ use Rattle.lra_base.specs.declared.number_types.NumberType.{NumberType}
 use Rattle.lra_base.specs.declared.refusals.Place.{Place}
 use Rattle.lra_base.specs.declared.refusals.Refusal.{Refusal}
 use Rattle.lra_base.specs.declared.refusals.Cause.TheVariants.{DuplicateName}
-use Rattle.lra_tree.specs.declared.trees.ArrayLength.{ArrayLength}
-use Rattle.lra_tree.specs.declared.trees.Identifier.{Identifier}
-use Rattle.lra_tree.specs.Trees.{FunctionTree, DeclaratorTree, CondTree, StmtTree, block, if_only, if_else, while, for, switch}
+use Rattle.lra_syntax.specs.declared.trees.ArrayLength.{ArrayLength}
+use Rattle.lra_syntax.specs.declared.trees.Identifier.{Identifier}
+use Rattle.lra_syntax.specs.Trees.{FunctionTree, DeclaratorTree, CondTree, StmtTree, block, if_only, if_else, while, for, switch}
 use Rattle.lra_simple.specs.declared.around.Around.{Around}
 use Rattle.lra_scopes.specs.Calls.{functions_at}
 use Rattle.lra_meaning.specs.Scope.{Scope, scalar, array, is_declared, with_local, array_of, declarator_entry}

@@ -1,11 +1,11 @@
 //! Where a statement stands, and what it calls.
 
 ghost use Rattle.std.specs.Prelude.{◌≡◌, option_map, IfOk};
-ghost use Rattle.lra_tree.specs.Views.{rvalue_view, assign_view};
-ghost use Rattle.lra_tree.specs.Labels.{assign_place, called_in, called_of, called_by};
+ghost use Rattle.lra_syntax.specs.Views.{rvalue_view, assign_view};
+ghost use Rattle.lra_syntax.specs.Labels.{assign_place, called_in, called_of, called_by};
 
 use lra_base::Place;
-use lra_tree::{Assign, Identifier, Rvalue};
+use lra_syntax::{Assign, Identifier, Rvalue};
 use std::alloc::{AllocError, Global};
 
 /// The place of an assignment's first token.

@@ -11,7 +11,7 @@ ghost use Rattle.lra_simple.specs.Cases.{has_seen};
 
 use lra_base::{CaseLabel, Cause, SourceError};
 use lra_scopes::refuse;
-use lra_tree::PlacedLabel;
+use lra_syntax::PlacedLabel;
 use std::alloc::{AllocError, Global};
 use std::collections::BTreeSet;
 

@@ -2,8 +2,8 @@
 
 ghost use Rattle.std.specs.Prelude.{◌≡◌, ◌+◌, ◌∷◌, [], ℕ, suc, List, map, length, option_map, IfOk, OnOk, IfErr};
 ghost use Rattle.lra_program.specs.Program.{BlockItems, declaration as declaration_item, array as array_item};
-ghost use Rattle.lra_tree.specs.Trees.{DeclaratorTree, scalar as scalar_shape, array as array_shape};
-ghost use Rattle.lra_tree.specs.Views.{rvalue_view, declarator_view};
+ghost use Rattle.lra_syntax.specs.Trees.{DeclaratorTree, scalar as scalar_shape, array as array_shape};
+ghost use Rattle.lra_syntax.specs.Views.{rvalue_view, declarator_view};
 ghost use Rattle.lra_program.specs.ProgramViews.{item_view};
 ghost use Rattle.lra_meaning.specs.Scope.{with_local, array_of, declarator_entry, with_declarators};
 ghost use Rattle.lra_meaning.specs.NameFaults.{given_faults, length_faults, declarators_faults};
@@ -18,7 +18,7 @@ use crate::labelling::Labelling;
 use lra_base::{Cause, NumberType, SourceError};
 use lra_program::BlockItem;
 use lra_scopes::{Functions, Meaning, Scope, build_array, refuse, resolve_given};
-use lra_tree::{ArrayLength, Declaration, Declarator, Identifier, Rvalue, Shape};
+use lra_syntax::{ArrayLength, Declaration, Declarator, Identifier, Rvalue, ScalarOrArray};
 use std::alloc::Global;
 
 /// A name with the type of its declaration.
@@ -121,8 +121,10 @@ fn resolve_declarator(
     }
     let typed = Typed { name, number_type };
     match &declarator.shape {
-        Shape::Scalar(given) => resolve_scalar(alloc, functions, scope, labels, &typed, given),
-        Shape::Array(length) => resolve_array(alloc, scope, labels, &typed, *length),
+        ScalarOrArray::Scalar(given) => resolve_scalar(
+            alloc, functions, scope, labels, &typed, given,
+        ),
+        ScalarOrArray::Array(length) => resolve_array(alloc, scope, labels, &typed, *length),
     }
 }
 

@@ -2,14 +2,14 @@
 
 ghost use Rattle.std.specs.Prelude.{◌≡◌, ◌+◌, ◌++◌, ◌∷◌, [], suc, map, option_map, IfOk, OnOk, IfErr};
 ghost use Rattle.lra_program.specs.Program.{Stmt, no_more, assert as assert_stmt, assume as assume_stmt};
-ghost use Rattle.lra_tree.specs.Views.{init_view, assign_view, cond_view as tree_cond_view};
+ghost use Rattle.lra_syntax.specs.Views.{init_view, assign_view, cond_view as tree_cond_view};
 ghost use Rattle.lra_program.specs.ProgramViews.{stmt_view, items_view, item_view, cond_view};
 ghost use Rattle.lra_meaning.specs.Scope.{for_scope};
 ghost use Rattle.lra_meaning.specs.NameFaults.{cond_faults, init_faults, test_of_for_faults, step_faults};
 ghost use Rattle.lra_meaning.specs.Resolve.{resolve_cond, resolve_init, resolve_for_test, resolve_step, init_count};
 ghost use Rattle.lra_meaning.specs.Resolve.{step_count};
 ghost use Rattle.lra_scopes.specs.Calls.{functions_at};
-ghost use Rattle.lra_tree.specs.Labels.{plain_label, init_labels, step_labels, live_in_for};
+ghost use Rattle.lra_syntax.specs.Labels.{plain_label, init_labels, step_labels, live_in_for};
 ghost use Rattle.lra_simple.specs.Labelling.{Adds, for_front};
 ghost use Rattle.lra_simple.specs.Statements.{followed, choice, loop_of, for_of};
 ghost use Rattle.lra_simple.specs.LoopHeads.{for_head, head_faults, body_scope, body_label, head_labels, body_live};
@@ -22,7 +22,7 @@ use crate::labelling::Labelling;
 use crate::simple::resolve_assignment;
 use lra_base::{NumberType, Place, SourceError};
 use lra_scopes::{Scope, resolve_cond};
-use lra_tree::{Assign, Cond, Init};
+use lra_syntax::{Assign, Cond, Init};
 use std::alloc::Global;
 
 /// The label of a statement with a condition, and the condition.

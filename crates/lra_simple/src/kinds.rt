@@ -1,6 +1,6 @@
 //! Statements without statements in them, by their kinds.
 
-ghost use Rattle.lra_tree.specs.Views.{stmt_view};
+ghost use Rattle.lra_syntax.specs.Views.{stmt_view};
 ghost use Rattle.lra_simple.specs.Statements.{around_of, IsSimple};
 ghost use Rattle.lra_simple.specs.Resolved.{Resolves};
 
@@ -13,7 +13,7 @@ use crate::simple::{
 };
 use lra_base::SourceError;
 use lra_scopes::Scope;
-use lra_tree::Stmt;
+use lra_syntax::Stmt;
 
 /// A statement without statements in it.
 #[inline(never)]

@@ -1,13 +1,13 @@
 //! The labels of a source while it is resolved, and the names that live now.
 
 ghost use Rattle.std.specs.Prelude.{◌≡◌, ◌∷◌, ◌++◌, ◌-◌, [], List, length, take, suc, IfOk, OnOk, IfErr};
-ghost use Rattle.lra_tree.specs.Labels.{Labelled, label_with};
+ghost use Rattle.lra_syntax.specs.Labels.{Labelled, label_with};
 ghost use Rattle.lra_meaning.specs.LabelTable.{with_live};
 ghost use Rattle.lra_simple.specs.Labelling.{Adds};
 
 use lra_base::{Place, SourceError};
 use lra_meaning::Labels;
-use lra_tree::{Identifier, Word};
+use lra_syntax::{Identifier, Word};
 use std::alloc::Global;
 use std::marker::Model;
 

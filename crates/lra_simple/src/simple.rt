@@ -2,13 +2,13 @@
 
 ghost use Rattle.std.specs.Prelude.{◌≡◌, ◌∷◌, [], suc, not, false, Some, option_map, IfOk, OnOk};
 ghost use Rattle.lra_program.specs.Program.{nothing, call as call_stmt};
-ghost use Rattle.lra_tree.specs.Views.{rvalue_view, call_view, assign_view};
+ghost use Rattle.lra_syntax.specs.Views.{rvalue_view, call_view, assign_view};
 ghost use Rattle.lra_program.specs.ProgramViews.{stmt_view};
 ghost use Rattle.lra_meaning.specs.NameFaults.{fault_if, call_faults, assign_faults, return_faults};
 ghost use Rattle.lra_meaning.specs.Resolve.{resolve_call, resolve_assign, resolve_given};
 ghost use Rattle.lra_base.specs.declared.refusals.Cause.TheVariants.{Misplaced};
 ghost use Rattle.lra_scopes.specs.Calls.{functions_at};
-ghost use Rattle.lra_tree.specs.Labels.{plain_label, label_with, assign_label, called_of};
+ghost use Rattle.lra_syntax.specs.Labels.{plain_label, label_with, assign_label, called_of};
 ghost use Rattle.lra_simple.specs.Labelling.{Adds};
 ghost use Rattle.lra_simple.specs.Statements.{around_of, break_of, continue_of, return_of};
 ghost use Rattle.lra_scopes.specs.Outcome.{TellsOf};
@@ -18,7 +18,7 @@ use crate::called::{copy_assigned_callee, copy_given_callee, place_of_assign};
 use crate::labelling::Labelling;
 use lra_base::{Cause, Place, SourceError};
 use lra_scopes::{Scope, refuse, resolve_assign, resolve_call, resolve_given};
-use lra_tree::{Assign, Call, Rvalue};
+use lra_syntax::{Assign, Call, Rvalue};
 
 /// A statement that does nothing.
 #[tactic(auto, using(lra_scopes::proofs::Loops::wanting_told))]

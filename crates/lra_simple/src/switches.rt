@@ -2,8 +2,8 @@
 
 ghost use Rattle.std.specs.Prelude.{◌≡◌, ◌∷◌, [], suc, map, IfOk, OnOk};
 ghost use Rattle.lra_program.specs.ProgramViews.{stmt_view, expr_view, case_view, cases_of};
-ghost use Rattle.lra_tree.specs.Views.{expr_view as tree_expr_view};
-ghost use Rattle.lra_tree.specs.Labels.{plain_label};
+ghost use Rattle.lra_syntax.specs.Views.{expr_view as tree_expr_view};
+ghost use Rattle.lra_syntax.specs.Labels.{plain_label};
 ghost use Rattle.lra_meaning.specs.NameFaults.{expr_faults};
 ghost use Rattle.lra_meaning.specs.Resolve.{resolve_expr};
 ghost use Rattle.lra_scopes.specs.Outcome.{TellsOf};
@@ -13,7 +13,7 @@ ghost use Rattle.lra_simple.specs.Statements.{switch_of};
 use crate::labelling::Labelling;
 use lra_base::{Place, SourceError};
 use lra_scopes::{Scope, resolve_expr};
-use lra_tree::Expr;
+use lra_syntax::Expr;
 use std::alloc::Global;
 
 /// The label of a `switch`, and what it looks for.

@@ -19,9 +19,9 @@ use Rattle.lra_options.specs.declared.options.Domain.TheVariants.{Poly, Box, Oct
 use Rattle.lra_base.specs.declared.refusals.Place.{Place}
 use Rattle.lra_domain.specs.Abstraction.{Abstraction}
 use Rattle.lra_domain.specs.declared.Exactness.{Exactness}
-use Rattle.lra_tree.specs.Trees.{FileTree}
-use Rattle.lra_tree.specs.Labels.{Labelled, labels_of}
-use Rattle.lra_tree.specs.Grammar.{Spells}
+use Rattle.lra_syntax.specs.Trees.{FileTree}
+use Rattle.lra_syntax.specs.Labels.{Labelled, labels_of}
+use Rattle.lra_syntax.specs.Grammar.{Spells}
 use Rattle.lra_meaning.specs.Refuse.{OneAnswer}
 use Rattle.lra_meaning.specs.Resolve.{resolve}
 use Rattle.lra_program.specs.Accesses.{op_accesses_any, OpOutOfBounds}

@@ -2,8 +2,8 @@
 use Rattle.std.proofs.Common.{◌≡◌, ℕ, suc, ◌<◌, List, [], ◌∷◌, length, map, Option, Some, None, refl, sym, ap, ◌∙◌, subst, arith}
 use Rattle.std.specs.Prelude.{slice_get, option_map}
 use Rattle.std.specs.List.{AllByRecursion}
-use Rattle.lra_tree.specs.Trees.{FileTree}
-use Rattle.lra_tree.specs.Labels.{Labelled, labels_of}
+use Rattle.lra_syntax.specs.Trees.{FileTree}
+use Rattle.lra_syntax.specs.Labels.{Labelled, labels_of}
 use Rattle.lra_meaning.specs.Resolve.{resolve}
 use Rattle.lra_program.specs.Sites.{Site, sites_of}
 use Rattle.lra_report.specs.Report.{Invariant, PointReport, Report}

@@ -14,9 +14,9 @@ use Rattle.lra_program.specs.Program.{Program}
 use Rattle.lra_program.specs.Step.{Op}
 use Rattle.lra_program.specs.declared.program.Program as declared
 use Rattle.lra_program.specs.ProgramViews.{program_view}
-use Rattle.lra_tree.specs.Trees.{FileTree}
+use Rattle.lra_syntax.specs.Trees.{FileTree}
 use Rattle.lra_operations.specs.Tree.{Node}
-use Rattle.lra_tree.specs.Labels.{Labelled, labels_of}
+use Rattle.lra_syntax.specs.Labels.{Labelled, labels_of}
 use Rattle.lra_program.specs.Sites.{Site, Event, comes, one_call_more, events_of, event_sites, sites_of}
 use Rattle.lra_meaning.specs.Resolve.{resolve}
 use Rattle.lra_options.specs.declared.options.Domain.{Domain}

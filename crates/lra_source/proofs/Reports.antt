@@ -6,8 +6,8 @@ use Rattle.std.specs.List.{AllByRecursion, Contains, flat_map}
 use Rattle.std.proofs.lemmas.Option.{none-some, same_Some, slice_get-map}
 use Rattle.std.proofs.lemmas.List.Elements.{Contains-append_cases}
 use Rattle.lra_linear_spec.proofs.Membership.{contains_none}
-use Rattle.lra_tree.specs.Trees.{FileTree}
-use Rattle.lra_tree.specs.Grammar.{Spells}
+use Rattle.lra_syntax.specs.Trees.{FileTree}
+use Rattle.lra_syntax.specs.Grammar.{Spells}
 use Rattle.lra_base.specs.declared.refusals.Place.{Place}
 use Rattle.lra_program.specs.Accesses.{AccessesOutOfBounds}
 use Rattle.lra_program.specs.Overflow.{Overflows}
@@ -16,7 +16,7 @@ use Rattle.lra_meaning.specs.Resolve.{resolve}
 use Rattle.lra_program.specs.Sites.{Site, sites_of}
 use Rattle.lra_operations.specs.Agree.{point_of, Agrees}
 use Rattle.lra_operations.specs.CheckedOperations.{computing_ops, accessing_ops}
-use Rattle.lra_tree.specs.Labels.{Labelled, labels_of}
+use Rattle.lra_syntax.specs.Labels.{Labelled, labels_of}
 use Rattle.lra_options.specs.declared.options.Domain.{Domain}
 use Rattle.lra_options.specs.declared.options.Options.{Options}
 use Rattle.lra_report.specs.Report.{Invariant, Holds, PointReport, Verdict, Report, IsInvariant, IsRight, IsSound}

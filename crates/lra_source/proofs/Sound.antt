@@ -10,7 +10,7 @@ use Rattle.lra_program.specs.WellFormed.{AreGoodGlobals}
 use Rattle.lra_program.specs.Run.{begun, At, Fails}
 use Rattle.lra_operations.specs.Tree.{Node}
 use Rattle.lra_report.specs.Report.{PointReport, Verdict}
-use Rattle.lra_tree.specs.Labels.{Labelled}
+use Rattle.lra_syntax.specs.Labels.{Labelled}
 use Rattle.lra_program.specs.Sites.{Site, sites_of}
 use Rattle.lra_operations.specs.Agree.{point_of, Agrees}
 use Rattle.lra_meaning.specs.ShownNames.{shown_names}

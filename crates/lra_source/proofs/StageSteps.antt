@@ -1,7 +1,7 @@
 -- What a tree's report is told to be, as the answer of its source.
 use Rattle.std.proofs.Common.{ℕ, ℤ, ◌≤◌, List, refl, arith}
-use Rattle.lra_tree.specs.Trees.{FileTree}
-use Rattle.lra_tree.specs.Grammar.{Spells}
+use Rattle.lra_syntax.specs.Trees.{FileTree}
+use Rattle.lra_syntax.specs.Grammar.{Spells}
 use Rattle.lra_options.specs.declared.options.Options.{Options}
 use Rattle.lra_report.specs.Report.{Invariant, Report}
 use Rattle.lra_meaning.specs.Refuse.{Accepts}

@@ -1,6 +1,6 @@
 -- What follows of the tree of a well-formed program, and of a report that tells an analysis.
 use Rattle.std.specs.Prelude.{◌≡◌, ◌≤◌, ℕ, ℤ, List, length, None}
-use Rattle.lra_tree.specs.Trees.{FileTree}
+use Rattle.lra_syntax.specs.Trees.{FileTree}
 use Rattle.lra_program.specs.Program.{Program}
 use Rattle.lra_operations.specs.Tree.{Node}
 use Rattle.lra_options.specs.declared.options.Options.{Options}
@@ -10,7 +10,7 @@ use Rattle.lra_meaning.specs.Resolve.{resolve}
 use Rattle.lra_program.specs.Sites.{sites_of}
 use Rattle.lra_operations.specs.Agree.{IsInlinedTree, Agrees}
 use Rattle.lra_program.specs.WellFormed.{IsWellFormed}
-use Rattle.lra_tree.specs.Grammar.{Spells}
+use Rattle.lra_syntax.specs.Grammar.{Spells}
 use Rattle.lra_meaning.specs.Refuse.{Accepts}
 use Rattle.lra_report.specs.Listing.{Lists, IsReportOf}
 use Rattle.lra_outcomes.specs.Fits.{TreeFits}

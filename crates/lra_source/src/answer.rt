@@ -2,13 +2,13 @@
 
 ghost use Rattle.std.specs.Prelude.{◌≡◌, ◌≤◌, ◌<◌, ◌+◌, ◌^◌, length, map, IfOk};
 ghost use Rattle.lra_base.specs.Refused.{IfRefused};
-ghost use Rattle.lra_tree.specs.Views.{tree_view};
+ghost use Rattle.lra_syntax.specs.Views.{tree_view};
 ghost use Rattle.lra_program.specs.ProgramViews.{program_view};
 ghost use Rattle.lra_operations.specs.TreeViews.{node_view, site_view};
 ghost use Rattle.lra_flow.specs.Plan.{plan_of};
-ghost use Rattle.lra_tree.specs.Labels.{labels_of};
+ghost use Rattle.lra_syntax.specs.Labels.{labels_of};
 ghost use Rattle.lra_meaning.specs.Resolve.{resolve};
-ghost use Rattle.lra_tree.specs.Grammar.{Spells};
+ghost use Rattle.lra_syntax.specs.Grammar.{Spells};
 ghost use Rattle.lra_meaning.specs.Refuse.{Refuse};
 ghost use Rattle.lra_report.specs.View.{report_of};
 ghost use Rattle.lra_source.specs.Answers.{IsAnsweredOver, AloneOrSets, IsAnswered};

@@ -1,8 +1,8 @@
 //! What an iteration finds of what is read of a source, and its report.
 
 ghost use Rattle.std.specs.Prelude.{◌≡◌, ◌≤◌, ◌<◌, None, length, map, All, IfOk};
-ghost use Rattle.lra_tree.specs.Views.{tree_view};
-ghost use Rattle.lra_tree.specs.Labels.{labels_of};
+ghost use Rattle.lra_syntax.specs.Views.{tree_view};
+ghost use Rattle.lra_syntax.specs.Labels.{labels_of};
 ghost use Rattle.lra_meaning.specs.Resolve.{resolve};
 ghost use Rattle.lra_program.specs.ProgramViews.{program_view};
 ghost use Rattle.lra_operations.specs.TreeViews.{node_view, site_view};

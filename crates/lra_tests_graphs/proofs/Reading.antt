@@ -1,10 +1,10 @@
 -- The programs of sources that are read are well-formed.
 use Rattle.std.proofs.Common.{◌≡◌, ℕ, List, [], sym, subst}
-use Rattle.lra_tree.specs.declared.tokens.Token.{Token}
-use Rattle.lra_tree.specs.Trees.{FileTree}
-use Rattle.lra_tree.specs.Tokens.{Lex}
-use Rattle.lra_tree.specs.Faults.{IsTree}
-use Rattle.lra_tree.specs.Grammar.{Spells}
+use Rattle.lra_syntax.specs.declared.tokens.Token.{Token}
+use Rattle.lra_syntax.specs.Trees.{FileTree}
+use Rattle.lra_syntax.specs.Tokens.{Lex}
+use Rattle.lra_syntax.specs.Faults.{IsTree}
+use Rattle.lra_syntax.specs.Grammar.{Spells}
 use Rattle.lra_meaning.specs.NameFaults.{name_faults}
 use Rattle.lra_meaning.specs.Resolve.{resolve}
 use Rattle.lra_program.specs.Program.{Program}

@@ -17,7 +17,7 @@ use Rattle.lra_report.specs.Listing.{accesses_at}
 use Rattle.lra_listing.specs.Given.{AreInside}
 use Rattle.lra_flow.proofs.OneTree.{one_tree}
 use Rattle.lra_linear_spec.proofs.Membership.{contains_none}
-use Rattle.lra_tree.specs.Trees.{FileTree}
+use Rattle.lra_syntax.specs.Trees.{FileTree}
 use Rattle.lra_meaning.specs.Resolve.{resolve}
 use Rattle.lra_program.specs.Sites.{Site}
 use Rattle.std.proofs.lemmas.Option.{none-some}

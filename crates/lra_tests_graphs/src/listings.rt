@@ -2,8 +2,8 @@
 
 ghost use Rattle.std.specs.Prelude.{◌≡◌, ℕ, [], true, length, map, IfOk};
 ghost use Rattle.std.specs.List.{AllByRecursion};
-ghost use Rattle.lra_tree.specs.Views.{tree_view};
-ghost use Rattle.lra_tree.specs.Labels.{labels_of};
+ghost use Rattle.lra_syntax.specs.Views.{tree_view};
+ghost use Rattle.lra_syntax.specs.Labels.{labels_of};
 ghost use Rattle.lra_meaning.specs.Resolve.{resolve};
 ghost use Rattle.lra_program.specs.Sites.{sites_of};
 ghost use Rattle.lra_operations.specs.Agree.{IsInlinedTree};
@@ -23,8 +23,8 @@ use lra_operations::{Node, Site};
 use lra_options::{DEFAULT_OPTIONS, Domain, Options};
 use lra_report::{Part, Report, text};
 use lra_row::Row;
+use lra_syntax::TranslationUnit;
 use lra_systems::{ConKind, ConSys};
-use lra_tree::Tree;
 use std::alloc::{AllocError, Global};
 
 /// A call and an assertion behind it.
@@ -105,7 +105,7 @@ fn accesses_nothing(alloc: Global, tree: &Node) -> Result<bool, AllocError>
 #[tactic(auto, using(crate::proofs::Given::states_there, crate::proofs::Given::verdicts_there))]
 fn report_of(
     alloc: Global,
-    tree: &Tree,
+    tree: &TranslationUnit,
     labels: &Labels,
     sites: &[Site],
 ) -> Result<Report, AllocError>

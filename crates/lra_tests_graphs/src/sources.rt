@@ -1,8 +1,8 @@
 //! From the text of a source to its tree and its program.
 
 ghost use Rattle.std.specs.Prelude.{◌≡◌, IfOk};
-ghost use Rattle.lra_tree.specs.Views.{tree_view};
-ghost use Rattle.lra_tree.specs.Labels.{labels_of};
+ghost use Rattle.lra_syntax.specs.Views.{tree_view};
+ghost use Rattle.lra_syntax.specs.Labels.{labels_of};
 ghost use Rattle.lra_meaning.specs.Resolve.{resolve};
 ghost use Rattle.lra_program.specs.ProgramViews.{program_view};
 ghost use Rattle.lra_program.specs.WellFormed.{IsWellFormed};
@@ -12,11 +12,11 @@ use lra_base::{Cause, GREATEST_LENGTH, Place, Refusal, SourceError};
 use lra_lex::tokens;
 use lra_names::{Resolution, resolve};
 use lra_parse::parse;
-use lra_tree::Tree;
+use lra_syntax::TranslationUnit;
 use std::alloc::Global;
 
 /// The tree of a source.
-pub fn tree_of(alloc: Global, source: &str) -> Result<Tree, SourceError>
+pub fn tree_of(alloc: Global, source: &str) -> Result<TranslationUnit, SourceError>
     ensures { IfOk result (λ t. HasSmallLiterals (tree_view t)) }
 {
     let bytes = source.as_bytes();
@@ -32,7 +32,7 @@ pub fn tree_of(alloc: Global, source: &str) -> Result<Tree, SourceError>
 }
 
 /// The program of such a tree, and the table of its labels.
-pub fn program_of(alloc: Global, tree: &Tree) -> Result<Resolution, SourceError>
+pub fn program_of(alloc: Global, tree: &TranslationUnit) -> Result<Resolution, SourceError>
     requires { HasSmallLiterals (tree_view tree.now) }
     ensures well { IfOk result (λ r. IsWellFormed (program_view r.program)) }
     ensures program { IfOk result (λ r. program_view r.program ≡ resolve (tree_view tree.now)) }

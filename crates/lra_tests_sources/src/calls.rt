@@ -4,7 +4,9 @@ use lra_base::{NumberType, Place, SourceError};
 use lra_calls::first_recursive;
 use lra_program::{BlockItems, Program};
 use lra_simple::Labelling;
-use lra_tree::{Block, Function, Identifier, Item, Parameters, Tree, Word};
+use lra_syntax::{
+    Block, ExternalDeclaration, Function, Identifier, Parameters, TranslationUnit, Word,
+};
 use std::alloc::{AllocError, Global};
 use std::process::Abort;
 
@@ -111,7 +113,7 @@ fn function(alloc: Global, name: &str, line: u32) -> Result<Function, AllocError
 /// What is known of a source before its calls are looked at, line by line.
 #[derive(Drop)]
 struct Lines {
-    items: Vec<Item>,
+    items: Vec<ExternalDeclaration>,
     functions: Vec<lra_program::Function>,
     labels: Labelling,
 }
@@ -140,9 +142,7 @@ fn add_line(
     line: u32,
     lines: &mut Lines,
 ) -> Result<(), SourceError> {
-    lines
-        .items
-        .push(Item::Function(function(alloc, name, line)?))?;
+    lines.items.push(ExternalDeclaration::Function(function(alloc, name, line)?))?;
     let end = add_labels(alloc, called, line, &mut lines.labels)?;
     lines.functions.push(lra_program::Function {
         result_type: Some(NumberType::Int),
@@ -179,7 +179,7 @@ fn is_found(alloc: Global, source: &[Line], expected: Option<Place>) -> Result<b
         functions,
         labels,
     } = lines;
-    let tree = Tree {
+    let tree = TranslationUnit {
         items,
         end: Place { line: 9, column: 1 },
     };

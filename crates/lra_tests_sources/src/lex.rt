@@ -2,7 +2,7 @@
 
 use lra_base::{NumberType, Refusal, SourceError};
 use lra_lex::{one_reading, tokens};
-use lra_tree::{Kind, Token};
+use lra_syntax::{Kind, Token};
 use std::alloc::{AllocError, Global};
 use std::fmt::Write;
 use std::process::Abort;

@@ -3,10 +3,10 @@
 use lra_base::{Cause, NumberType, Place, Refusal, SourceError};
 use lra_names::resolve;
 use lra_program::{BlockItem as ProgramItem, Program, Slot, Stmt as ProgramStmt, Variable};
-use lra_tree::{
-    Arguments, Assign, Block, BlockItem, Call, Declaration, Declarator, Function, Global, Globals,
-    Identifier, Init, Item, Parameter, Parameters, Rvalue, Shape, SignedLiteral, Step, Stmt, Tree,
-    Word,
+use lra_syntax::{
+    Arguments, Assign, Block, BlockItem, Call, Declaration, Declarator, ExternalDeclaration,
+    Function, Global, Globals, Identifier, Init, Parameter, Parameters, Rvalue, ScalarOrArray,
+    SignedLiteral, Step, Stmt, TranslationUnit, Word,
 };
 use std::alloc::{AllocError, Global as Allocator};
 use std::process::Abort;
@@ -83,7 +83,7 @@ fn call(alloc: Allocator, line: u32, column: u32) -> Result<Call, AllocError> {
 fn declarator(alloc: Allocator, line: u32, column: u32) -> Result<Declarator, AllocError> {
     Ok(Declarator {
         name: identifier(alloc, "x", line, column)?,
-        shape: Shape::Scalar(None),
+        shape: ScalarOrArray::Scalar(None),
     })
 }
 
@@ -168,42 +168,48 @@ fn result_type(has_result: bool) -> Option<NumberType> {
 }
 
 /// `int x;`, or with a first value.
-fn global(alloc: Allocator, line: u32, value: Option<SignedLiteral>) -> Result<Item, AllocError> {
+fn global(
+    alloc: Allocator,
+    line: u32,
+    value: Option<SignedLiteral>,
+) -> Result<ExternalDeclaration, AllocError> {
     let first = Global {
         name: identifier(alloc, "x", line, NAME)?,
-        shape: Shape::Scalar(value),
+        shape: ScalarOrArray::Scalar(value),
     };
-    Ok(Item::Globals(Globals {
+    Ok(ExternalDeclaration::Globals(Globals {
         number_type: NumberType::Int,
         first,
         rest: Vec::new(alloc),
     }))
 }
 
-fn file_item(alloc: Allocator, line: u32, part: Part) -> Result<Item, AllocError> {
+fn file_item(alloc: Allocator, line: u32, part: Part) -> Result<ExternalDeclaration, AllocError> {
     match part {
-        Part::Prototype => Ok(Item::Prototype),
+        Part::Prototype => Ok(ExternalDeclaration::Prototype),
         Part::Global => global(alloc, line, None),
         Part::Given(value) => {
             let column = BEHIND;
             let place = Place { line, column };
             global(alloc, line, Some(SignedLiteral { value, place }))
         }
-        Part::Function(has_result, name, count, body) => Ok(Item::Function(Function {
-            result_type: result_type(has_result),
-            name: identifier(alloc, name, line, NAME)?,
-            parameters: parameters(alloc, line, count)?,
-            body: block(alloc, line, body)?,
-        })),
+        Part::Function(has_result, name, count, body) => Ok(ExternalDeclaration::Function(
+            Function {
+                result_type: result_type(has_result),
+                name: identifier(alloc, name, line, NAME)?,
+                parameters: parameters(alloc, line, count)?,
+                body: block(alloc, line, body)?,
+            },
+        )),
     }
 }
 
 /// A source of two lines.
-fn tree(alloc: Allocator, first: Part, second: Part) -> Result<Tree, AllocError> {
+fn tree(alloc: Allocator, first: Part, second: Part) -> Result<TranslationUnit, AllocError> {
     let mut items = Vec::new(alloc);
     items.push(file_item(alloc, 1, first)?)?;
     items.push(file_item(alloc, 2, second)?)?;
-    Ok(Tree {
+    Ok(TranslationUnit {
         items,
         end: Place { line: 3, column: 1 },
     })

@@ -1,6 +1,6 @@
 //! Words of a source.
 
-use lra_tree::Word;
+use lra_syntax::Word;
 use std::test::Fail;
 
 #[test]

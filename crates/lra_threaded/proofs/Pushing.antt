@@ -13,8 +13,8 @@ use Rattle.lra_options.specs.declared.options.Domain.TheVariants.{Box}
 use Rattle.lra_report.specs.Listing.{AreListed, HasWidth}
 use Rattle.lra_report.specs.Report.{Invariant, PointReport}
 use Rattle.lra_report.specs.declared.verdict_kinds.VerdictKind.TheVariants.{Assertion, Fit}
-use Rattle.lra_tree.specs.Labels.{Labelled, labels_of}
-use Rattle.lra_tree.specs.Trees.{FileTree}
+use Rattle.lra_syntax.specs.Labels.{Labelled, labels_of}
+use Rattle.lra_syntax.specs.Trees.{FileTree}
 use Rattle.lra_meaning.specs.LiveNames.{globals_named}
 use Rattle.lra_operations.specs.declared.tree.InlinedProgram.{InlinedProgram}
 use Rattle.lra_iter.specs.Lives.{AreWide}

@@ -11,8 +11,8 @@ use Rattle.lra_base.specs.declared.refusals.Place.{Place}
 use Rattle.lra_box.specs.Content.{BoxContent}
 use Rattle.lra_box.specs.Abstraction.{box_abstraction}
 use Rattle.lra_box.specs.declared.interval.Interval.{Interval}
-use Rattle.lra_tree.specs.Labels.{Labelled, labels_of}
-use Rattle.lra_tree.specs.Trees.{FileTree}
+use Rattle.lra_syntax.specs.Labels.{Labelled, labels_of}
+use Rattle.lra_syntax.specs.Trees.{FileTree}
 use Rattle.lra_meaning.specs.LiveNames.{globals_named}
 use Rattle.lra_meaning.specs.Resolve.{resolved_functions}
 use Rattle.lra_meaning.specs.Threads.{thread_places, thread_program}

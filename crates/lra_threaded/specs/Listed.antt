@@ -6,8 +6,8 @@ use Rattle.std.specs.List.{flat_map, sum_by}
 use Rattle.std.specs.Fmt.{decimal}
 use Rattle.lra_box.specs.declared.interval.Interval.{Interval}
 use Rattle.lra_box.specs.Abstraction.{box_abstraction}
-use Rattle.lra_tree.specs.Labels.{labels_of}
-use Rattle.lra_tree.specs.Trees.{FileTree}
+use Rattle.lra_syntax.specs.Labels.{labels_of}
+use Rattle.lra_syntax.specs.Trees.{FileTree}
 use Rattle.lra_meaning.specs.LiveNames.{globals_named}
 use Rattle.lra_meaning.specs.Threads.{thread_places, thread_program}
 use Rattle.lra_program.specs.Sites.{Site, sites_of}

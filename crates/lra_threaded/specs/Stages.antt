@@ -2,10 +2,10 @@
 use Rattle.std.specs.Prelude.{◌≡◌, ◌≤◌, ◌<◌, ◌+◌, ◌++◌, ◌^◌, ℕ, List, length, map, codes, All, Some, slice_get}
 use Rattle.std.specs.List.{AllZip, flat_map, sum_by}
 use Rattle.lra_box.specs.Abstraction.{box_abstraction}
-use Rattle.lra_tree.specs.Grammar.{Spells}
-use Rattle.lra_tree.specs.Labels.{labels_of}
-use Rattle.lra_tree.specs.Trees.{FileTree}
-use Rattle.lra_tree.specs.Views.{tree_view}
+use Rattle.lra_syntax.specs.Grammar.{Spells}
+use Rattle.lra_syntax.specs.Labels.{labels_of}
+use Rattle.lra_syntax.specs.Trees.{FileTree}
+use Rattle.lra_syntax.specs.Views.{tree_view}
 use Rattle.lra_meaning.specs.Refuse.{greatest_points}
 use Rattle.lra_meaning.specs.RefuseThreads.{AcceptsThreads}
 use Rattle.lra_meaning.specs.Threads.{thread_places, thread_program}

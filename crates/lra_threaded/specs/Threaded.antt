@@ -3,7 +3,7 @@
 use Rattle.std.specs.Prelude.{◌≡◌, ◌<◌, ◌+◌, ℕ, suc, ℤ, List, length, map, None, Some, slice_get, IsTrue}
 use Rattle.std.specs.List.{Contains}
 use Rattle.lra_box.specs.Bounds.{InInterval}
-use Rattle.lra_tree.specs.Trees.{FileTree}
+use Rattle.lra_syntax.specs.Trees.{FileTree}
 use Rattle.lra_meaning.specs.LiveNames.{globals_named}
 use Rattle.lra_meaning.specs.Resolve.{resolved_functions}
 use Rattle.lra_meaning.specs.Threads.{thread_places, thread_program}

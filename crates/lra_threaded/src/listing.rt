@@ -3,8 +3,8 @@
 ghost use Rattle.std.specs.Prelude.{◌≡◌, ◌++◌, ◌<◌, ◌≤◌, ◌+◌, ◌^◌, ℕ, suc, length, map, take, drop, All, Some, IfOk};
 ghost use Rattle.std.specs.Prelude.{option_map, slice_get, string_bytes, codes, List};
 ghost use Rattle.std.specs.List.{flat_map, sum_by};
-ghost use Rattle.lra_tree.specs.Labels.{labels_of};
-ghost use Rattle.lra_tree.specs.Views.{tree_view};
+ghost use Rattle.lra_syntax.specs.Labels.{labels_of};
+ghost use Rattle.lra_syntax.specs.Views.{tree_view};
 ghost use Rattle.lra_meaning.specs.LiveNames.{globals_named};
 ghost use Rattle.lra_meaning.specs.Refuse.{greatest_points};
 ghost use Rattle.lra_report.specs.Report as report;
@@ -32,14 +32,14 @@ use lra_report::{PointReport, Verdict};
 use lra_rounds::{Intervals, SettledRound};
 use lra_show::Names;
 use lra_states::states_of;
+use lra_syntax::TranslationUnit;
 use lra_threads::ThreadFound;
-use lra_tree::Tree;
 use std::alloc::{AllocError, Global};
 
 /// What a report lists of threads: their source's tree, the table of its labels, and the graph of each of them.
 #[derive(Clone, Copy)]
 pub struct Outline<'a> {
-    pub tree: &'a Tree,
+    pub tree: &'a TranslationUnit,
     pub labels: &'a Labels,
     pub graphs: &'a [InlinedProgram],
 }

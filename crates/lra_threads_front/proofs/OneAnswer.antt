@@ -4,12 +4,12 @@ use Rattle.std.proofs.lemmas.Option.{none-some, same_Some}
 use Rattle.lra_base.specs.declared.refusals.Place.{Place}
 use Rattle.lra_base.specs.declared.refusals.Cause.{Cause}
 use Rattle.lra_base.specs.Places.{greatest_length}
-use Rattle.lra_tree.specs.declared.tokens.Token.{Token}
-use Rattle.lra_tree.specs.Trees.{FileTree}
-use Rattle.lra_tree.specs.Tokens.{Lex, OneReading}
-use Rattle.lra_tree.specs.Faults.{Language, IsTree, IsTextFault, OneTree, OneTextFault}
-use Rattle.lra_tree.specs.Labels.{labels_of}
-use Rattle.lra_tree.specs.Reach.{NotRecursive}
+use Rattle.lra_syntax.specs.declared.tokens.Token.{Token}
+use Rattle.lra_syntax.specs.Trees.{FileTree}
+use Rattle.lra_syntax.specs.Tokens.{Lex, OneReading}
+use Rattle.lra_syntax.specs.Faults.{Language, IsTree, IsTextFault, OneTree, OneTextFault}
+use Rattle.lra_syntax.specs.Labels.{labels_of}
+use Rattle.lra_syntax.specs.Reach.{NotRecursive}
 use Rattle.lra_meaning.specs.Refuse.{limit_fault}
 use Rattle.lra_meaning.specs.Threads.{thread_faults, thread_events}
 use Rattle.lra_meaning.specs.RefuseThreads.{RefusesThreads, bad_name, recursive, past_limit, Unread, too_long}

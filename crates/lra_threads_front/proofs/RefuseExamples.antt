@@ -5,28 +5,28 @@ use Rattle.lra_base.specs.declared.refusals.Place.{Place}
 use Rattle.lra_base.specs.declared.refusals.Cause.{Cause}
 use Rattle.lra_base.specs.declared.refusals.Cause.TheVariants.{NoThreads, UnknownName}
 use Rattle.lra_base.specs.Places.{greatest_length}
-use Rattle.lra_tree.specs.declared.tokens.Mark.TheVariants as mark
-use Rattle.lra_tree.specs.Trees.{no_items, statement, assign, set, expression, function, FileTree, ItemsTree}
-use Rattle.lra_tree.specs.Tokens.{tokens_of, end_token}
-use Rattle.lra_tree.specs.Grammar.{Spells}
-use Rattle.lra_tree.proofs.TreeSamples.{at, x_at, number, void_of}
-use Rattle.lra_tree.proofs.Lexemes.{Item, written, reading, all_lexed}
-use Rattle.lra_tree.proofs.LexedByTest.{space, sign, word_of, one, is_written, are_read_by}
+use Rattle.lra_syntax.specs.declared.tokens.Mark.TheVariants as mark
+use Rattle.lra_syntax.specs.Trees.{no_items, statement, assign, set, expression, function, FileTree, ItemsTree}
+use Rattle.lra_syntax.specs.Tokens.{tokens_of, end_token}
+use Rattle.lra_syntax.specs.Grammar.{Spells}
+use Rattle.lra_syntax.proofs.TreeSamples.{at, x_at, literal_text, void_of}
+use Rattle.lra_syntax.proofs.Lexemes.{ExternalDeclaration, written, reading, all_lexed}
+use Rattle.lra_syntax.proofs.LexedByTest.{space, sign, word_of, one, is_written, are_read_by}
 use Rattle.lra_meaning.specs.RefuseThreads.{RefuseThreads, RefusesThreads, bad_tree, bad_name}
-use Rattle.lra_readers.specs.Reading.{Text, loop}
-use Rattle.lra_readers.specs.Expressions.{unary_at, tests}
-use Rattle.lra_readers.specs.Statements.{levels}
-use Rattle.lra_readers.specs.Files.{file_at}
-use Rattle.lra_readers.proofs.Answered.{tree_found}
-use Rattle.lra_readers.proofs.FaultExamples.{all_inner, no_end}
+use Rattle.lra_parser_spec.specs.Reading.{Text, loop}
+use Rattle.lra_parser_spec.specs.Expressions.{unary_at, tests}
+use Rattle.lra_parser_spec.specs.Statements.{levels}
+use Rattle.lra_parser_spec.specs.Files.{file_at}
+use Rattle.lra_parser_spec.proofs.Answered.{tree_found}
+use Rattle.lra_parser_spec.proofs.FaultExamples.{all_inner, no_end}
 
-abbrev inner_tokens : List Item → Text
+abbrev inner_tokens : List ExternalDeclaration → Text
 inner_tokens xs = tokens_of (reading [] xs)
 
-abbrev all_tokens : List ℕ → List Item → Text
+abbrev all_tokens : List ℕ → List ExternalDeclaration → Text
 all_tokens source xs = inner_tokens xs ++ end_token source ∷ []
 
-refused : (source : List ℕ) (xs : List Item) (t : FileTree) (c : Cause) (p : Place) → source ≡ written xs → is_written [] xs ≡ true
+refused : (source : List ℕ) (xs : List ExternalDeclaration) (t : FileTree) (c : Cause) (p : Place) → source ≡ written xs → is_written [] xs ≡ true
     → length source ≤ greatest_length
     → all_inner (inner_tokens xs) ≡ true → file_at 63 (all_tokens source xs) ≡ Ok (t, []) → RefusesThreads t c p → RefuseThreads Spells source c p
 refused source xs t c p is so few inner parsed refuses =
@@ -36,7 +36,7 @@ refused source xs t c p is so few inner parsed refuses =
     refuses
 
 -- `void t1(void){`, and what stands behind it
-abbrev first_head : List Item → List Item
+abbrev first_head : List ExternalDeclaration → List ExternalDeclaration
 first_head xs = sign mark.Void ∷ space ∷ word_of (codes "t1") ∷ sign mark.OpenParen ∷ sign mark.Void ∷ sign mark.CloseParen ∷ sign mark.OpenBrace ∷ xs
 
 -- with this body and a `}` at this column
@@ -54,11 +54,11 @@ one_refused =
     refused (codes "void t1(void){}") (first_head (sign mark.CloseBrace ∷ [])) (first_alone no_items 15) NoThreads (at 16) refl refl (omega arith) refl one_read
     (bad_name (record { cause = NoThreads; place = at 16 }) [] refl)
 
-abbrev sets_unknown : List Item
+abbrev sets_unknown : List ExternalDeclaration
 sets_unknown = first_head (word_of (codes "x") ∷ sign mark.Assign ∷ one ∷ sign mark.Semicolon ∷ sign mark.CloseBrace ∷ [])
 
 abbrev unknown_tree : FileTree
-unknown_tree = first_alone (statement (assign (set (x_at 15) (expression (number 1)))) no_items) 19
+unknown_tree = first_alone (statement (assign (set (x_at 15) (expression (literal_text 1)))) no_items) 19
 
 unknown_read : file_at 63 (all_tokens (codes "void t1(void){x=1;}") sets_unknown) ≡ Ok (unknown_tree, [])
 unfolding loop unary_at tests levels

@@ -7,10 +7,10 @@ use Rattle.std.proofs.lemmas.Bool.{cases_lt}
 use Rattle.lra_base.specs.declared.refusals.Cause.TheVariants.{Recursive}
 use Rattle.lra_base.specs.declared.refusals.Refusal.{Refusal}
 use Rattle.lra_base.specs.Places.{greatest_length}
-use Rattle.lra_tree.specs.Trees.{FileTree}
-use Rattle.lra_tree.specs.Labels.{labels_of}
-use Rattle.lra_tree.specs.Reach.{NotRecursive}
-use Rattle.lra_tree.specs.Grammar.{Spells}
+use Rattle.lra_syntax.specs.Trees.{FileTree}
+use Rattle.lra_syntax.specs.Labels.{labels_of}
+use Rattle.lra_syntax.specs.Reach.{NotRecursive}
+use Rattle.lra_syntax.specs.Grammar.{Spells}
 use Rattle.lra_program.specs.Sites.{events_of, event_sites}
 use Rattle.lra_program.specs.WellFormed.{IsWellFormed}
 use Rattle.lra_operations.specs.Tree.{Node}
@@ -18,8 +18,8 @@ use Rattle.lra_meaning.specs.Refuse.{limit_fault}
 use Rattle.lra_meaning.specs.Threads.{thread_faults, thread_places, thread_program, thread_events}
 use Rattle.lra_meaning.specs.RefuseThreads.{bad_name, recursive, past_limit, too_long, bad_token, bad_text, unread, bad_tree, OneThreadsAnswer}
 use Rattle.lra_lex.proofs.EachReading.{each_reading}
-use Rattle.lra_readers.specs.Files.{file_at}
-use Rattle.lra_readers.proofs.Ended.{lexed_end}
+use Rattle.lra_parser_spec.specs.Files.{file_at}
+use Rattle.lra_parser_spec.proofs.Ended.{lexed_end}
 use Rattle.lra_calls.proofs.Deciding.{each_recursion}
 use Rattle.lra_agreement.proofs.Agreement.{graphs_agree}
 use Rattle.lra_agreement.proofs.DistinctSites.{distinct_sites}

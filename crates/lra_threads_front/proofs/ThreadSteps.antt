@@ -14,10 +14,10 @@ use Rattle.lra_base.specs.declared.error.SourceError.{SourceError}
 use Rattle.lra_base.specs.declared.error.SourceError.TheVariants.{Refused, Memory}
 use Rattle.lra_base.specs.Refused.{IfRefusal, IfRefused}
 use Rattle.lra_base.proofs.Refusing.{exit_refused, refusal_by}
-use Rattle.lra_tree.specs.Trees.{FileTree}
-use Rattle.lra_tree.specs.Grammar.{Spells}
-use Rattle.lra_tree.specs.Labels.{Labelled, labels_of}
-use Rattle.lra_tree.specs.Reach.{NotRecursive}
+use Rattle.lra_syntax.specs.Trees.{FileTree}
+use Rattle.lra_syntax.specs.Grammar.{Spells}
+use Rattle.lra_syntax.specs.Labels.{Labelled, labels_of}
+use Rattle.lra_syntax.specs.Reach.{NotRecursive}
 use Rattle.lra_program.specs.declared.program.Program.{Program}
 use Rattle.lra_program.specs.Program as resolved
 use Rattle.lra_program.specs.ProgramViews.{function_or, program_view}

@@ -1,8 +1,8 @@
 -- What is known of a source of several threads between the stages of its reading.
 use Rattle.std.specs.Prelude.{◌≡◌, ℕ, [], map, None}
-use Rattle.lra_tree.specs.Trees.{FileTree}
-use Rattle.lra_tree.specs.Labels.{labels_of}
-use Rattle.lra_tree.specs.Reach.{NotRecursive}
+use Rattle.lra_syntax.specs.Trees.{FileTree}
+use Rattle.lra_syntax.specs.Labels.{labels_of}
+use Rattle.lra_syntax.specs.Reach.{NotRecursive}
 use Rattle.lra_program.specs.Program.{Program}
 use Rattle.lra_program.specs.Sites.{sites_of}
 use Rattle.lra_program.specs.WellFormed.{IsWellFormed}

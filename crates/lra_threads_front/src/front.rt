@@ -3,9 +3,9 @@
 ghost use Rattle.std.specs.Prelude.{◌≡◌, ◌<◌, ◌+◌, ◌^◌, length, IfOk};
 ghost use Rattle.std.specs.List.{AllZip};
 ghost use Rattle.lra_base.specs.Refused.{IfRefused};
-ghost use Rattle.lra_tree.specs.Views.{tree_view};
-ghost use Rattle.lra_tree.specs.Grammar.{Spells};
-ghost use Rattle.lra_tree.specs.Labels.{labels_of};
+ghost use Rattle.lra_syntax.specs.Views.{tree_view};
+ghost use Rattle.lra_syntax.specs.Grammar.{Spells};
+ghost use Rattle.lra_syntax.specs.Labels.{labels_of};
 ghost use Rattle.lra_program.specs.ProgramViews.{program_view};
 ghost use Rattle.lra_meaning.specs.Threads.{thread_places, thread_program};
 ghost use Rattle.lra_meaning.specs.RefuseThreads.{AcceptsThreads, RefuseThreads};
@@ -17,14 +17,14 @@ use lra_base::SourceError;
 use lra_front::{Reading, read_text};
 use lra_names::{Resolution, ThreadsResolution};
 use lra_operations::InlinedProgram;
-use lra_tree::Tree;
+use lra_syntax::TranslationUnit;
 use std::alloc::Global;
 
 /// What is read of an accepted source of several threads: its tree, its constants, its program with the table of its
 /// labels, and for each thread the place of its function and the tree of operations with its points. One of the threads
 /// stands in the place of `main`.
 pub struct ThreadsFront {
-    pub tree: Tree,
+    pub tree: TranslationUnit,
     pub constants: Vec<i64>,
     pub resolution: Resolution,
     pub threads: Vec<usize>,

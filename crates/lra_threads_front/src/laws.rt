@@ -1,6 +1,6 @@
 //! Laws: each of these does nothing, and its contract is the theorem.
 
-ghost use Rattle.lra_tree.specs.Grammar.{Spells};
+ghost use Rattle.lra_syntax.specs.Grammar.{Spells};
 ghost use Rattle.lra_meaning.specs.RefuseThreads.{OneThreadsAnswer};
 ghost use Rattle.lra_threads_front.specs.Claims.{EachThreadsAnswer};
 
@@ -10,7 +10,7 @@ pub fn one_threads_answer()
     ensures { OneThreadsAnswer Spells }
 {
     lra_lex::one_reading();
-    lra_readers::one_tree();
+    lra_parser_spec::one_tree();
 }
 
 /// As a program of several threads every list of bytes is refused, or accepted with its tree and a tree of operations

@@ -3,9 +3,9 @@
 ghost use Rattle.std.specs.Prelude.{◌≡◌, ◌++◌, [], ℕ, List, length, IfOk, OnOk, Some, None};
 ghost use Rattle.std.specs.List.{AllByRecursion, AllZip};
 ghost use Rattle.lra_base.specs.Refused.{IfRefused};
-ghost use Rattle.lra_tree.specs.Views.{tree_view};
-ghost use Rattle.lra_tree.specs.Labels.{Labelled, labels_of};
-ghost use Rattle.lra_tree.specs.Reach.{NotRecursive};
+ghost use Rattle.lra_syntax.specs.Views.{tree_view};
+ghost use Rattle.lra_syntax.specs.Labels.{Labelled, labels_of};
+ghost use Rattle.lra_syntax.specs.Reach.{NotRecursive};
 ghost use Rattle.lra_program.specs.ProgramViews.{program_view};
 ghost use Rattle.lra_program.specs.Sites.{events_of, sites_of};
 ghost use Rattle.lra_program.specs.WellFormed.{IsWellFormed};
@@ -22,12 +22,12 @@ use lra_meaning::Labels;
 use lra_names::{Resolution, ThreadsResolution, resolve_threads};
 use lra_operations::{InlinedProgram, Site};
 use lra_program::Program;
-use lra_tree::Tree;
+use lra_syntax::TranslationUnit;
 use std::alloc::Global;
 
 /// The program of a source of several threads without faults of names, the table of its labels, and where the functions
 /// of its threads stand; or the first such fault.
-pub fn threads_of(alloc: Global, tree: &Tree) -> Result<ThreadsResolution, SourceError>
+pub fn threads_of(alloc: Global, tree: &TranslationUnit) -> Result<ThreadsResolution, SourceError>
     ensures clean { OnOk result (thread_faults (tree_view tree.now) ≡ []) }
     ensures found { IfOk result (λ r. program_view r.resolution.program
         ≡ thread_program (tree_view tree.now) r.resolution.program.main) }
@@ -70,7 +70,7 @@ fn graph_of(
 /// call, or for the first limit that is passed.
 pub fn graphs_of(
     alloc: Global,
-    tree: &Tree,
+    tree: &TranslationUnit,
     resolution: &mut Resolution,
     threads: &[usize],
 ) -> Result<Vec<InlinedProgram>, SourceError>

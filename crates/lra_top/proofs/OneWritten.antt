@@ -1,6 +1,6 @@
 -- Two reports that a source deserves and that are written alike are the same.
 use Rattle.lra_words.specs.declared.chosen.Format.TheVariants.{Lines, Json}
-use Rattle.lra_tree.specs.Grammar.{Spells}
+use Rattle.lra_syntax.specs.Grammar.{Spells}
 use Rattle.lra_meaning.specs.Refuse.{OneAnswer}
 use Rattle.lra_json.proofs.OneJson.{one_source_json}
 use Rattle.lra_source.proofs.OneText.{one_text}

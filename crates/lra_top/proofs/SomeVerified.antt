@@ -8,8 +8,8 @@ use Rattle.std.proofs.lemmas.Bool.{cases_lt, eqb-true}
 use Rattle.std.proofs.lemmas.Bool.Decides.{nat_tests}
 use Rattle.std.proofs.lemmas.Option.{same_Some, none-some}
 use Rattle.lra_base.specs.declared.refusals.Refusal.{Refusal}
-use Rattle.lra_tree.specs.Labels.{Labelled, labels_of}
-use Rattle.lra_tree.proofs.LexedByTest.{and_second}
+use Rattle.lra_syntax.specs.Labels.{Labelled, labels_of}
+use Rattle.lra_syntax.proofs.LexedByTest.{and_second}
 use Rattle.lra_meaning.specs.Refuse.{greatest_live, greatest_points, limit_fault}
 use Rattle.lra_meaning.specs.Resolve.{resolve}
 use Rattle.lra_program.specs.Program.{Program}

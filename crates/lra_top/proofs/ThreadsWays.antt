@@ -7,8 +7,8 @@ use Rattle.lra_base.specs.declared.refusals.Cause.{Cause}
 use Rattle.lra_base.specs.declared.refusals.Cause.TheVariants.{TooLong}
 use Rattle.lra_base.specs.declared.refusals.Place.{Place}
 use Rattle.lra_base.specs.Places.{place_after, greatest_length}
-use Rattle.lra_tree.specs.Trees.{FileTree}
-use Rattle.lra_tree.specs.Grammar.{Spells}
+use Rattle.lra_syntax.specs.Trees.{FileTree}
+use Rattle.lra_syntax.specs.Grammar.{Spells}
 use Rattle.lra_meaning.specs.RefuseThreads.{RefuseThreads, AcceptsThreads, Unread, too_long, bad_token, bad_text, unread, bad_tree}
 use Rattle.lra_report.specs.RefusalText.{refusal_text}
 use Rattle.lra_report.specs.ReportText.{unknown_count}

@@ -6,8 +6,8 @@ use Rattle.std.specs.Io.KnownBytes.{Appends}
 use Rattle.lra_base.specs.declared.refusals.Place.{Place}
 use Rattle.lra_options.specs.declared.options.Domain.TheVariants.{Poly}
 use Rattle.lra_options.specs.declared.options.Options.{Options}
-use Rattle.lra_tree.specs.Trees.{FileTree}
-use Rattle.lra_tree.specs.Grammar.{Spells}
+use Rattle.lra_syntax.specs.Trees.{FileTree}
+use Rattle.lra_syntax.specs.Grammar.{Spells}
 use Rattle.lra_meaning.specs.Refuse.{Accepts}
 use Rattle.lra_meaning.specs.RefuseThreads.{AcceptsThreads}
 use Rattle.lra_meaning.specs.Resolve.{resolve}

@@ -18,8 +18,8 @@ use Rattle.std.specs.Prelude.{map, option_map, ◌^◌}
 use Rattle.std.proofs.lemmas.List.{length-map}
 use Rattle.lra_base.specs.declared.refusals.Cause.{Cause}
 use Rattle.lra_base.specs.declared.refusals.Place.{Place}
-use Rattle.lra_tree.specs.Grammar.{Spells}
-use Rattle.lra_tree.specs.Views.{tree_view}
+use Rattle.lra_syntax.specs.Grammar.{Spells}
+use Rattle.lra_syntax.specs.Views.{tree_view}
 use Rattle.lra_meaning.specs.Refuse.{Refuse}
 use Rattle.lra_meaning.specs.Resolve.{resolve}
 use Rattle.lra_program.specs.ProgramViews.{program_view}

@@ -3,7 +3,7 @@
 ghost use Rattle.std.specs.Prelude.{◌≡◌, ◌≤◌, ℕ, List, [], ◌++◌, length, map, slice_get, IfOk, None, Some};
 ghost use Rattle.lra_operations.specs.Agree.{IsInlinedTree, Agrees};
 ghost use Rattle.lra_operations.specs.CheckedOperations.{AgreesOnAccesses};
-ghost use Rattle.lra_tree.specs.Labels.{Labelled};
+ghost use Rattle.lra_syntax.specs.Labels.{Labelled};
 ghost use Rattle.lra_meaning.specs.Refuse.{greatest_live, limit_fault};
 ghost use Rattle.lra_program.specs.Sites as points;
 ghost use Rattle.lra_program.specs.Sites.{events_of, sites_of};

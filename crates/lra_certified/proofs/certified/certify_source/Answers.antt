@@ -1,6 +1,6 @@
 -- Goals of `certify_source`: the certificate of a source, with the report of its analysis without narrowing.
 use Rattle.std.proofs.Common.{◌∙◌, ◌++◌, List, ℕ, map, ap, string_bytes}
-use Rattle.lra_tree.specs.Views.{tree_view}
+use Rattle.lra_syntax.specs.Views.{tree_view}
 use Rattle.lra_operations.specs.TreeViews.{node_view, site_view}
 use Rattle.lra_report.specs.View.{report_of}
 use Rattle.lra_certificate.specs.CertificateText.{head_text}

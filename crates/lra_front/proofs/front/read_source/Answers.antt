@@ -1,5 +1,5 @@
 -- Goals of `read_source`: all that is read of a source, or its one refusal; memory may be wanting.
-use Rattle.lra_tree.specs.Views.{tree_view}
+use Rattle.lra_syntax.specs.Views.{tree_view}
 use Rattle.lra_front.proofs.ReadSteps.{exit_tree}
 use Rattle.lra_front.proofs.StageSteps.{well}
 use Rattle.lra_front.proofs.front.read_source.Goals as goal

@@ -1,8 +1,8 @@
 -- Goals of `graph_of`: the tree of operations of a program without recursion and its points; or the refusal for its
 -- first recursive call, or for the first limit that it passes.
 use Rattle.std.proofs.Common.{◌≡◌, List, map, Some, ap}
-use Rattle.lra_tree.specs.Labels.{Labelled}
-use Rattle.lra_tree.specs.Views.{tree_view}
+use Rattle.lra_syntax.specs.Labels.{Labelled}
+use Rattle.lra_syntax.specs.Views.{tree_view}
 use Rattle.lra_program.specs.ProgramViews.{program_view}
 use Rattle.lra_operations.specs.TreeViews.{node_view, site_view}
 use Rattle.lra_program.specs.Sites.{events_of}

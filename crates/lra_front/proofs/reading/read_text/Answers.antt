@@ -1,15 +1,15 @@
 -- Goals of `read_text`: the tree of a source and its constants, or its refusal.
 use Rattle.std.proofs.Common.{List, arith, refl, sym, subst}
-use Rattle.lra_tree.specs.declared.tokens.Token.{Token}
+use Rattle.lra_syntax.specs.declared.tokens.Token.{Token}
 use Rattle.lra_base.specs.declared.refusals.Cause.TheVariants.{TooLong}
 use Rattle.lra_base.specs.declared.refusals.Place.{Place}
 use Rattle.lra_base.proofs.Limit.{taken}
-use Rattle.lra_tree.specs.Views.{tree_view}
-use Rattle.lra_tree.specs.Faults.{IsTree}
-use Rattle.lra_tree.specs.Grammar.{Spells}
+use Rattle.lra_syntax.specs.Views.{tree_view}
+use Rattle.lra_syntax.specs.Faults.{IsTree}
+use Rattle.lra_syntax.specs.Grammar.{Spells}
 use Rattle.lra_meaning.specs.RefuseThreads.{Unread}
-use Rattle.lra_readers.specs.Files.{EndsOnce}
-use Rattle.lra_readers.proofs.Ended.{lexed_end}
+use Rattle.lra_parser_spec.specs.Files.{EndsOnce}
+use Rattle.lra_parser_spec.proofs.Ended.{lexed_end}
 use Rattle.lra_front.proofs.ReadSteps.{long_unread, unread_refused, refused_unread, exit_lexed, exit_parsed, has_constants, has_tree}
 use Rattle.lra_front.proofs.reading.read_text.Goals as goal
 

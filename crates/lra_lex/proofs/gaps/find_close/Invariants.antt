@@ -1,5 +1,5 @@
 use Rattle.std.proofs.Common.{ℕ, ◌+◌, ◌<◌}
-use Rattle.lra_lex.specs.Front.{IsCloseAt}
+use Rattle.lra_lex.specs.Prefixes.{IsCloseAt}
 use Rattle.lra_lex.proofs.gaps.find_close.Given as goal
 
 abbrev pub invariant-loop-i : goal.invariant-loop-i

@@ -1,7 +1,7 @@
 -- Goals of `gap_length`: how many bytes a gap at the front has.
 use Rattle.std.proofs.Common.{◌∙◌, ℕ, List, sym}
 use Rattle.std.specs.Prelude.{IfSome, Option, Some, None, Bool}
-use Rattle.lra_lex.specs.Front.{BeginsGap}
+use Rattle.lra_lex.specs.Prefixes.{BeginsGap}
 use Rattle.lra_lex.proofs.RunLemmas.{differ}
 use Rattle.lra_lex.proofs.GapLemmas.{blank_gap, skip_gap, else_no_gap}
 use Rattle.lra_lex.proofs.gaps.gap_length.Goals as goal

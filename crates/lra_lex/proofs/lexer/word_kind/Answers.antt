@@ -1,6 +1,6 @@
 -- Goals of `word_kind`: the kind of a word.
 use Rattle.std.proofs.Common.{sym, ◌∙◌}
-use Rattle.lra_tree.specs.Lexeme.{mark_of, reserved, name}
+use Rattle.lra_syntax.specs.Lexeme.{mark_of, reserved, name}
 use Rattle.lra_lex.proofs.MarkLemmas.{found_is, not_named}
 use Rattle.lra_lex.proofs.lexer.word_kind.Goals as goal
 

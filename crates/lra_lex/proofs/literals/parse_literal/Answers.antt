@@ -1,7 +1,7 @@
 -- Goals of `parse_literal`: the literal that the word is, if it is one.
 use Rattle.std.proofs.Common.{◌≡◌, ℕ, List, take, drop}
 use Rattle.std.specs.List.{prefix_len}
-use Rattle.lra_tree.specs.Lexeme.{is_digit_of, Base}
+use Rattle.lra_syntax.specs.Lexeme.{is_digit_of, Base}
 use Rattle.lra_lex.specs.Literal.{base_of, base_at, front_size}
 use Rattle.lra_lex.proofs.RunLemmas.{differ}
 use Rattle.lra_lex.proofs.LiteralLemmas.{body_long, typed_in, none_in, no_literal, IsSplit}

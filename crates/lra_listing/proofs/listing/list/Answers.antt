@@ -2,10 +2,10 @@
 use Rattle.std.proofs.Common.{List, map, ◌++◌, refl, subst}
 use Rattle.std.specs.List.{flat_map}
 use Rattle.lra_operations.specs.TreeViews.{site_view}
-use Rattle.lra_tree.specs.Views.{tree_view}
+use Rattle.lra_syntax.specs.Views.{tree_view}
 use Rattle.lra_meaning.specs.Resolve.{resolve}
 use Rattle.lra_program.specs.Sites.{Site, sites_of}
-use Rattle.lra_tree.specs.Labels.{Labelled, labels_of}
+use Rattle.lra_syntax.specs.Labels.{Labelled, labels_of}
 use Rattle.lra_report.specs.declared.verdict_kinds.VerdictKind.TheVariants.{Assertion, Fit}
 use Rattle.lra_program.specs.Assertions.{assertions_from}
 use Rattle.lra_report.specs.Listing.{fits_asked, subjects_of, accesses_at, accesses_from}

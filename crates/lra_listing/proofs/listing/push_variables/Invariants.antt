@@ -1,7 +1,7 @@
 -- So far the first names are there.
 use Rattle.std.proofs.Common.{◌≡◌, ◌++◌, map, take}
 use Rattle.std.specs.List.{flat_map}
-use Rattle.lra_tree.specs.Views.{global_view}
+use Rattle.lra_syntax.specs.Views.{global_view}
 use Rattle.lra_meaning.specs.LiveNames.{live_name}
 use Rattle.lra_listing.proofs.listing.push_variables.Given as goal
 

@@ -1,7 +1,7 @@
 -- Goals of `add_global`.
 use Rattle.std.proofs.Common.{List, ◌∷◌}
-use Rattle.lra_tree.specs.Trees.{GlobalTree}
-use Rattle.lra_tree.specs.Views.{global_view}
+use Rattle.lra_syntax.specs.Trees.{GlobalTree}
+use Rattle.lra_syntax.specs.Views.{global_view}
 use Rattle.lra_meaning.specs.NameFaults.{globals_faults}
 use Rattle.lra_scopes.proofs.Loops.{memory_told_all}
 use Rattle.lra_names.proofs.functions.add_global.Goals as goal

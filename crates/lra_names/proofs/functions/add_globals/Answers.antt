@@ -1,6 +1,6 @@
 -- Goals of `add_globals`.
 use Rattle.std.proofs.Common.{map}
-use Rattle.lra_tree.specs.Views.{global_view}
+use Rattle.lra_syntax.specs.Views.{global_view}
 use Rattle.lra_meaning.specs.NameFaults.{globals_faults}
 use Rattle.lra_scopes.proofs.Telling.{exit_tells, rest_tells}
 use Rattle.lra_names.proofs.functions.add_globals.Goals as goal

@@ -1,8 +1,8 @@
 -- The first globals are there; the faults of those that are left are those of all.
 use Rattle.std.proofs.Common.{◌≡◌, ◌∷◌, ◌++◌, map, take, drop}
 use Rattle.std.specs.List.{flat_map}
-use Rattle.lra_tree.specs.Trees.{GlobalTree}
-use Rattle.lra_tree.specs.Views.{global_view}
+use Rattle.lra_syntax.specs.Trees.{GlobalTree}
+use Rattle.lra_syntax.specs.Views.{global_view}
 use Rattle.lra_meaning.specs.NameFaults.{globals_faults, global_names}
 use Rattle.lra_meaning.specs.Scope.{global_entry}
 use Rattle.lra_meaning.specs.Resolve.{variables_by, arrays_by}

@@ -1,7 +1,7 @@
 -- Goals of `add_part`.
 use Rattle.std.proofs.Common.{List, ◌∷◌}
-use Rattle.lra_tree.specs.Trees.{PartTree}
-use Rattle.lra_tree.specs.Views.{part_view}
+use Rattle.lra_syntax.specs.Trees.{ExternalTree}
+use Rattle.lra_syntax.specs.Views.{external_view}
 use Rattle.lra_meaning.specs.NameFaults.{parts_faults}
 use Rattle.lra_scopes.specs.Calls.{functions_at}
 use Rattle.lra_scopes.proofs.Telling.{exit_tells_all}
@@ -9,7 +9,7 @@ use Rattle.lra_names.proofs.functions.add_part.Goals as goal
 
 pub returns-in_err-add_function-in-Function-clause-told : goal.returns-in_err-add_function-in-Function-clause-told
 returns-in_err-add_function-in-Function-clause-told c =
-    exit_tells_all (λ (rest : List PartTree). parts_faults (functions_at c.args.functions.now) c.args.resolved.now.names c.args.resolved.now.scope.globals
-    (part_view c.args.item.now ∷ rest))
+    exit_tells_all (λ (rest : List ExternalTree). parts_faults (functions_at c.args.functions.now) c.args.resolved.now.names c.args.resolved.now.scope.globals
+    (external_view c.args.item.now ∷ rest))
     c.from_residual-in_err-add_function-in-Function.result _ c.from_residual-in_err-add_function-in-Function.ensures.1
-    (λ (rest : List PartTree). rw c.in-Function.is (c.in_err-add_function-in-Function.ensures.told rest))
+    (λ (rest : List ExternalTree). rw c.in-Function.is (c.in_err-add_function-in-Function.ensures.told rest))

@@ -1,6 +1,6 @@
 -- The first parameters are declared; the faults of those that are left are those of all.
 use Rattle.std.proofs.Common.{◌≡◌, [], map, take, drop}
-use Rattle.lra_tree.specs.declared.trees.Parameter.{Parameter}
+use Rattle.lra_syntax.specs.declared.trees.Parameter.{Parameter}
 use Rattle.lra_meaning.specs.Scope.{names_in, function_scope}
 use Rattle.lra_meaning.specs.NameFaults.{parameters_faults}
 use Rattle.lra_names.proofs.functions.declare_parameters.Given as goal

@@ -1,7 +1,7 @@
 -- No function of the parts so far is `main`; there are so many of them.
 use Rattle.std.proofs.Common.{◌≡◌, ◌≤◌, ◌+◌, drop}
 use Rattle.std.specs.List.{list_any}
-use Rattle.lra_tree.specs.Functions.{is_main}
+use Rattle.lra_syntax.specs.Functions.{is_main}
 use Rattle.lra_scopes.specs.Calls.{functions_at}
 use Rattle.lra_names.specs.Mains.{main_place}
 use Rattle.lra_names.proofs.functions.find_main.Given as goal

@@ -1,9 +1,9 @@
 -- Goals of `resolve_function`.
 use Rattle.std.proofs.Common.{List, ◌+◌, ◌++◌, ap, ap₂, arith, map, refl, ◌∙◌, ℕ}
 use Rattle.lra_base.specs.declared.refusals.Place.{Place}
-use Rattle.lra_tree.specs.declared.trees.Parameter.{Parameter}
-use Rattle.lra_tree.specs.Labels.{Labelled, items_labels}
-use Rattle.lra_tree.specs.Views.{function_view as tree_function_view}
+use Rattle.lra_syntax.specs.declared.trees.Parameter.{Parameter}
+use Rattle.lra_syntax.specs.Labels.{Labelled, items_labels}
+use Rattle.lra_syntax.specs.Views.{function_view as tree_function_view}
 use Rattle.lra_meaning.specs.NameFaults.{function_faults}
 use Rattle.lra_meaning.specs.Resolve.{items_count, resolve_items}
 use Rattle.lra_meaning.specs.Scope.{Scope, function_scope}

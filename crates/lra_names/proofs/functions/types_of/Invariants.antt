@@ -1,6 +1,6 @@
 -- So far the types of the first parameters are there.
 use Rattle.std.proofs.Common.{◌≡◌, map, take}
-use Rattle.lra_tree.specs.declared.trees.Parameter.{Parameter}
+use Rattle.lra_syntax.specs.declared.trees.Parameter.{Parameter}
 use Rattle.lra_names.proofs.functions.types_of.Given as goal
 
 abbrev pub invariant-parameters : goal.invariant-parameters

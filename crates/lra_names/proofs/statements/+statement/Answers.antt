@@ -1,13 +1,13 @@
 -- Goals of the functions that call each other around `statement`: `resolve_items`, `resolve_stmt`, `resolve_block`,
 -- `resolve_choice`, `resolve_loop`, `resolve_switch`.
 use Rattle.std.proofs.Common.{List, [], ◌∷◌, ◌+◌, subst, map, drop, refl, ap, sym, ◌∙◌, arith, Option, option_map, option_copied, Bor, Vec, Global}
-use Rattle.lra_tree.specs.Trees.{ItemsTree, StmtTree}
+use Rattle.lra_syntax.specs.Trees.{ItemsTree, StmtTree}
 use Rattle.lra_program.specs.declared.program.BlockItem.{BlockItem as ProgramItem}
 use Rattle.lra_program.specs.declared.program.CaseItem.{CaseItem as ProgramCase}
-use Rattle.lra_tree.specs.declared.trees.BlockItem.{BlockItem}
-use Rattle.lra_tree.specs.declared.trees.CaseItem.{CaseItem}
-use Rattle.lra_tree.specs.declared.trees.Stmt.{Stmt}
-use Rattle.lra_tree.specs.Views.{items_of, item_view, block_view, cond_view, stmt_view, expr_view, cases_of, case_view, cases_view}
+use Rattle.lra_syntax.specs.declared.trees.BlockItem.{BlockItem}
+use Rattle.lra_syntax.specs.declared.trees.CaseItem.{CaseItem}
+use Rattle.lra_syntax.specs.declared.trees.Stmt.{Stmt}
+use Rattle.lra_syntax.specs.Views.{items_of, item_view, block_view, cond_view, stmt_view, expr_view, cases_of, case_view, cases_view}
 use Rattle.lra_program.specs.ProgramViews.{item_view as program_item_view, stmt_view as program_stmt_view}
 use Rattle.lra_program.specs.ProgramViews.{expr_view as program_expr_view, case_view as program_case_view, cases_of as program_cases_of}
 use Rattle.lra_meaning.specs.NameFaults.{Around, items_faults}
@@ -25,7 +25,7 @@ use Rattle.lra_names.proofs.LoopLaws.{labelled_with, front_told, other_told}
 use Rattle.lra_names.proofs.LoopLaws.{clean_without, clean_with, loop_left, block_found, block_left, block_counted, refused}
 use Rattle.lra_simple.proofs.SimpleLaws.{rest_is_simple}
 use Rattle.lra_base.specs.declared.refusals.Place.{Place}
-use Rattle.lra_tree.specs.Labels.{plain_label}
+use Rattle.lra_syntax.specs.Labels.{plain_label}
 use Rattle.lra_simple.specs.Labelling.{Adds}
 use Rattle.lra_simple.proofs.LabellingLaws.{reaches_none, reaches_step, reaches_all, blocks}
 use Rattle.lra_names.proofs.CaseLaws.{all_cases, selects_none, selects_label, selects_stated, label_told, stated_told, value_told, switch_told, switch_found}

@@ -1,11 +1,11 @@
 -- The items that are left, in the scope of those before them, are as all of them in the scope of the block. A call goes down the
 -- tree, or hands on what it was given: the arms of a statement stand above the statements in them.
 use Rattle.std.proofs.Common.{◌≡◌, ℕ, ◌+◌, ◌*◌, max, map, drop, Option, Some, None, option_copied}
-use Rattle.lra_tree.specs.declared.trees.Stmt.{Stmt}
-use Rattle.lra_tree.proofs.trees.Stmt.TheLaws.{the_size}
-use Rattle.lra_tree.proofs.trees.Block.TheLaws.{the_size as block_size}
-use Rattle.lra_tree.proofs.trees.Cases.TheLaws.{the_size as cases_size}
-use Rattle.lra_tree.specs.Views.{items_of, item_view, cases_of, case_view}
+use Rattle.lra_syntax.specs.declared.trees.Stmt.{Stmt}
+use Rattle.lra_syntax.proofs.trees.Stmt.TheLaws.{the_size}
+use Rattle.lra_syntax.proofs.trees.Block.TheLaws.{the_size as block_size}
+use Rattle.lra_syntax.proofs.trees.Cases.TheLaws.{the_size as cases_size}
+use Rattle.lra_syntax.specs.Views.{items_of, item_view, cases_of, case_view}
 use Rattle.lra_program.specs.ProgramViews.{item_view as program_item_view}
 use Rattle.lra_meaning.specs.NameFaults.{items_faults}
 use Rattle.lra_meaning.specs.Resolve.{resolve_items, items_count}

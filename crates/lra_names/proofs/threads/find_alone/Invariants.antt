@@ -1,6 +1,6 @@
 -- No function of the parts so far has the name; there are so many of them.
 use Rattle.std.proofs.Common.{◌≡◌, ◌≤◌, ◌+◌, drop}
-use Rattle.lra_tree.specs.Functions.{function_named}
+use Rattle.lra_syntax.specs.Functions.{function_named}
 use Rattle.lra_meaning.specs.Resolve.{function_place}
 use Rattle.lra_scopes.specs.Calls.{functions_at}
 use Rattle.lra_names.proofs.threads.find_alone.Given as goal

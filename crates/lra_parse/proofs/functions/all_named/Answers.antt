@@ -1,5 +1,5 @@
 -- Goals of `all_named`: the parameters, if each has a name.
-use Rattle.lra_readers.proofs.Named.{next_named, next_unnamed}
+use Rattle.lra_parser_spec.proofs.Named.{next_named, next_unnamed}
 use Rattle.lra_parse.proofs.functions.all_named.Goals as goal
 
 pub names-preserved-in-Continue-1 : goal.names-preserved-in-Continue-1

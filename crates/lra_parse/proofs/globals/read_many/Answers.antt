@@ -1,20 +1,20 @@
 -- Goals of `read_many`: globals with commas between them, behind the name of the first.
 use Rattle.std.proofs.Common.{List, [], refl, sym, arith, map}
 use Rattle.std.proofs.lemmas.Result.{err_from_is_err_and}
-use Rattle.lra_tree.specs.declared.tokens.Mark.TheVariants as mark
-use Rattle.lra_tree.specs.Trees.{GlobalTree}
-use Rattle.lra_tree.specs.Views.{global_view}
-use Rattle.lra_readers.specs.Tests.{is_mark}
-use Rattle.lra_readers.specs.Reading.{list_step}
-use Rattle.lra_readers.specs.Expressions.{behind}
-use Rattle.lra_readers.specs.Files.{global_rest, global_at, globals_of}
-use Rattle.lra_phrases.proofs.Turning.{turns_start, turn_off, list_grown, comma_turn, comma_exit, from_gives, from_exit}
+use Rattle.lra_syntax.specs.declared.tokens.Mark.TheVariants as mark
+use Rattle.lra_syntax.specs.Trees.{GlobalTree}
+use Rattle.lra_syntax.specs.Views.{global_view}
+use Rattle.lra_parser_spec.specs.Tests.{is_mark}
+use Rattle.lra_parser_spec.specs.Reading.{list_step}
+use Rattle.lra_parser_spec.specs.Expressions.{after_mark}
+use Rattle.lra_parser_spec.specs.Files.{global_rest, global_at, globals_of}
+use Rattle.lra_parse_expressions.proofs.Turning.{turns_start, turn_off, list_grown, comma_turn, comma_exit, from_gives, from_exit}
 use Rattle.lra_parse.proofs.globals.read_many.Goals as goal
 
 pub globals-init : goal.globals-init
 globals-init c = record {
   room = c.in_ok-first.ensures.shorter;
-  same = turns_start (is_mark mark.Comma) (list_step (behind mark.Comma global_at)) (map global_view) c.new-globals.result.items [] c.in_ok-first.left.now c.new-globals.ensures.items refl;
+  same = turns_start (is_mark mark.Comma) (list_step (after_mark mark.Comma global_at)) (map global_view) c.new-globals.result.items [] c.in_ok-first.left.now c.new-globals.ensures.items refl;
 }
 
 pub globals-preserved : goal.globals-preserved
@@ -29,7 +29,7 @@ globals-preserved c = record {
 pub returns-clause-gives : goal.returns-clause-gives
 returns-clause-gives c = from_gives (global_rest c.args.name) global_at (globals_of c.args.number_type) (global_view c.in_ok-first.first)
     (map global_view c.globals.globals.items) c.args.rest.now c.in_ok-first.left.now c.globals.left.now c.in_ok-first.ensures.gives
-    (turn_off (is_mark mark.Comma) (list_step (behind mark.Comma global_at)) (map global_view c.globals.globals.items) c.globals.left.now _ c.globals.invariant.same (sym c.globals-test.ensures))
+    (turn_off (is_mark mark.Comma) (list_step (after_mark mark.Comma global_at)) (map global_view c.globals.globals.items) c.globals.left.now _ c.globals.invariant.same (sym c.globals-test.ensures))
 
 pub returns-in_err-global-clause-gives : goal.returns-in_err-global-clause-gives
 returns-in_err-global-clause-gives c =

@@ -1,7 +1,7 @@
 -- Goals of `parse`: the tree of the tokens, whose last and no other is the end, and whose numbers are below 2^63;
 -- or the first fault.
-use Rattle.lra_tree.specs.Views.{tree_view}
-use Rattle.lra_readers.proofs.Answered.{tree_found}
+use Rattle.lra_syntax.specs.Views.{tree_view}
+use Rattle.lra_parser_spec.proofs.Answered.{tree_found}
 use Rattle.lra_parse.proofs.parser.parse.Goals as goal
 
 pub returns-in-Ok-clause-found : goal.returns-in-Ok-clause-found

@@ -1,9 +1,9 @@
 -- Goals of `refusal`: the refusal for the fault at which reading stops.
 use Rattle.std.proofs.Common.{subst, arith}
-use Rattle.lra_tree.specs.declared.tokens.Token.{Token}
-use Rattle.lra_tree.specs.Faults.{IsTextFault}
-use Rattle.lra_tree.specs.Grammar.{Spells}
-use Rattle.lra_readers.proofs.Answered.{fault_within, text_fault}
+use Rattle.lra_syntax.specs.declared.tokens.Token.{Token}
+use Rattle.lra_syntax.specs.Faults.{IsTextFault}
+use Rattle.lra_syntax.specs.Grammar.{Spells}
+use Rattle.lra_parser_spec.proofs.Answered.{fault_within, text_fault}
 use Rattle.lra_parse.proofs.parser.refusal.Goals as goal
 
 pub overflow_sub-index : goal.overflow_sub-index

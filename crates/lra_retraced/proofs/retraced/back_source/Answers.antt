@@ -1,6 +1,6 @@
 -- Goals of `back_source`: what going back over a source finds.
 use Rattle.std.proofs.Common.{map}
-use Rattle.lra_tree.specs.Views.{tree_view}
+use Rattle.lra_syntax.specs.Views.{tree_view}
 use Rattle.lra_operations.specs.TreeViews.{node_view, site_view}
 use Rattle.lra_retraced.specs.Refusals.{IfRefusal}
 use Rattle.lra_retraced.specs.Retraced.{IsRefusedSo}

@@ -1,7 +1,7 @@
 -- Goals of `list_states`: the points of a source with the states that show these values.
 use Rattle.std.proofs.Common.{length, map, ap, arith}
 use Rattle.std.proofs.lemmas.List.{length-map}
-use Rattle.lra_tree.specs.Views.{tree_view}
+use Rattle.lra_syntax.specs.Views.{tree_view}
 use Rattle.lra_operations.specs.TreeViews.{node_view, site_view}
 use Rattle.lra_report.specs.View.{point_report_of}
 use Rattle.lra_source.proofs.ReportSteps.{few_points}

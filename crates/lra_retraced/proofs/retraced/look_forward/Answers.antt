@@ -1,6 +1,6 @@
 -- Goals of `look_forward`: what is gone back over.
 use Rattle.std.proofs.Common.{map}
-use Rattle.lra_tree.specs.Views.{tree_view}
+use Rattle.lra_syntax.specs.Views.{tree_view}
 use Rattle.lra_operations.specs.TreeViews.{node_view, site_view}
 use Rattle.lra_inside.specs.Inside.{told_view}
 use Rattle.lra_poly_domain.specs.Laws.{polyhedron_laws}

@@ -1,6 +1,6 @@
 -- Goals of `retrace`: what going back from a point finds.
 use Rattle.std.proofs.Common.{map}
-use Rattle.lra_tree.specs.Views.{tree_view}
+use Rattle.lra_syntax.specs.Views.{tree_view}
 use Rattle.lra_operations.specs.TreeViews.{node_view, site_view}
 use Rattle.lra_back.specs.Traced.{PathsFit}
 use Rattle.lra_source.proofs.ReportSteps.{globals_seen}

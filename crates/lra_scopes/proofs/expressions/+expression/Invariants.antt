@@ -1,9 +1,9 @@
 -- The faults of the operands that are left are those of the whole; what the first ones mean is there.
 use Rattle.std.proofs.Common.{◌≡◌, map, take, drop}
 use Rattle.std.specs.List.{flat_map}
-use Rattle.lra_tree.specs.declared.trees.Term.{out-Term}
-use Rattle.lra_tree.specs.declared.trees.Expr.{out-Expr}
-use Rattle.lra_tree.specs.Views.{unary_view, term_view, expr_view as tree_expr_view}
+use Rattle.lra_syntax.specs.declared.trees.Term.{out-Term}
+use Rattle.lra_syntax.specs.declared.trees.Expr.{out-Expr}
+use Rattle.lra_syntax.specs.Views.{unary_view, term_view, expr_view as tree_expr_view}
 use Rattle.lra_program.specs.ProgramViews.{expr_view, operation_view}
 use Rattle.lra_meaning.specs.NameFaults.{term_faults, expr_faults}
 use Rattle.lra_meaning.specs.Resolve.{resolve_unary, resolve_term}

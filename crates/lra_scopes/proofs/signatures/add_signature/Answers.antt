@@ -2,7 +2,7 @@
 use Rattle.std.proofs.Common.{◌≡◌, ℕ, Bool, None, length, ap₂, rules, string_bytes, is_some}
 use Rattle.std.proofs.lemmas.Map.Text.{hash_map_updates_text}
 use Rattle.indexmap.specs.IndexMap.{get_by_text}
-use Rattle.lra_tree.specs.Views.{function_view}
+use Rattle.lra_syntax.specs.Views.{function_view}
 use Rattle.lra_scopes.specs.declared.signatures.Signature.{Signature}
 use Rattle.lra_scopes.proofs.SignatureLaws.{signature_added}
 use Rattle.lra_scopes.proofs.signatures.add_signature.Goals as goal

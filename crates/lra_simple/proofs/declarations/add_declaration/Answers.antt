@@ -1,9 +1,9 @@
 -- Goals of `add_declaration`: resolves the declarators of a declaration into further items.
 use Rattle.std.proofs.Common.{List, ◌∷◌, ◌+◌, map, drop, subst, sym, ap, ◌∙◌, arith}
-use Rattle.lra_tree.specs.declared.trees.Declarator.{Declarator}
+use Rattle.lra_syntax.specs.declared.trees.Declarator.{Declarator}
 use Rattle.lra_program.specs.Program.{BlockItems}
-use Rattle.lra_tree.specs.Trees.{DeclaratorTree}
-use Rattle.lra_tree.specs.Views.{declarator_view}
+use Rattle.lra_syntax.specs.Trees.{DeclaratorTree}
+use Rattle.lra_syntax.specs.Views.{declarator_view}
 use Rattle.lra_program.specs.ProgramViews.{item_view}
 use Rattle.lra_meaning.specs.Scope.{Scope, with_declarators}
 use Rattle.lra_meaning.specs.NameFaults.{declarators_faults}

@@ -1,7 +1,7 @@
 -- The declarators that are left, in the scope of those before them, are as all of them in the scope of the declaration.
 use Rattle.std.proofs.Common.{◌≡◌, ◌+◌, ◌∷◌, suc, map, take, drop}
 use Rattle.lra_program.specs.Program.{BlockItems}
-use Rattle.lra_tree.specs.Views.{declarator_view}
+use Rattle.lra_syntax.specs.Views.{declarator_view}
 use Rattle.lra_program.specs.ProgramViews.{item_view}
 use Rattle.lra_meaning.specs.Scope.{with_declarators}
 use Rattle.lra_meaning.specs.NameFaults.{declarators_faults}

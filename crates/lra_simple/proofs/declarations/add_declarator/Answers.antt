@@ -1,5 +1,5 @@
 -- Goals of `add_declarator`: resolves a declarator into a further item.
-use Rattle.lra_tree.specs.Views.{declarator_view}
+use Rattle.lra_syntax.specs.Views.{declarator_view}
 use Rattle.lra_scopes.specs.Calls.{functions_at}
 use Rattle.lra_simple.proofs.DeclarationLaws.{declarator_found}
 use Rattle.lra_simple.proofs.declarations.add_declarator.Goals as goal

@@ -1,7 +1,7 @@
 -- Goals of `resolve_for_head`: takes the label of a `for`, begins its scope, and resolves what stands in its
 -- parentheses.
 use Rattle.std.proofs.Common.{refl, option_map, ◌∙◌}
-use Rattle.lra_tree.specs.Views.{init_view, assign_view}
+use Rattle.lra_syntax.specs.Views.{init_view, assign_view}
 use Rattle.lra_scopes.proofs.Telling.{tells_front, tells_behind}
 use Rattle.lra_scopes.proofs.Loops.{wanting_told, first_told, second_told, both_clean}
 use Rattle.lra_simple.proofs.LabellingLaws.{begun, fronted}

@@ -2,7 +2,7 @@
 -- its one refusal.
 use Rattle.std.proofs.Common.{ap, ◌∙◌}
 use Rattle.lra_flow.specs.Plan.{plan_of}
-use Rattle.lra_tree.specs.Views.{tree_view}
+use Rattle.lra_syntax.specs.Views.{tree_view}
 use Rattle.lra_report.specs.View.{report_of}
 use Rattle.lra_source.proofs.StageSteps.{is_answered}
 use Rattle.lra_source.proofs.answer.analyse_over.Goals as goal

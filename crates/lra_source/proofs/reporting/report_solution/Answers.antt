@@ -1,7 +1,7 @@
 -- Goals of `report_solution`: the report of what an iteration found of the program that is read of a source.
 use Rattle.std.proofs.Common.{◌≡◌, map, length, ap, ◌∙◌, arith}
 use Rattle.std.proofs.lemmas.List.{length-map}
-use Rattle.lra_tree.specs.Views.{tree_view}
+use Rattle.lra_syntax.specs.Views.{tree_view}
 use Rattle.lra_operations.specs.TreeViews.{node_view, site_view}
 use Rattle.lra_flow.specs.Plan.{plan_of}
 use Rattle.lra_report.specs.View.{report_of}

@@ -1,6 +1,6 @@
 -- Goals of `solve_front`: what an iteration over a domain finds of the program that is read of a source.
 use Rattle.std.proofs.Common.{map}
-use Rattle.lra_tree.specs.Views.{tree_view}
+use Rattle.lra_syntax.specs.Views.{tree_view}
 use Rattle.lra_operations.specs.TreeViews.{node_view, site_view}
 use Rattle.lra_meaning.specs.Resolve.{resolve}
 use Rattle.lra_source.proofs.ReportSteps.{fits, globals_seen, small_globals, good_globals, is_numbered}

@@ -1,5 +1,5 @@
 -- Goals of `writes_report`.
-use Rattle.lra_tree.specs.Views.{tree_view}
+use Rattle.lra_syntax.specs.Views.{tree_view}
 use Rattle.lra_program.specs.ProgramViews.{program_view}
 use Rattle.lra_operations.specs.TreeViews.{node_view}
 use Rattle.lra_tests_graphs.proofs.Given.{graph_there, sites_there}

@@ -1,5 +1,5 @@
 -- Goals of `program_of`: the program of such a tree, and the table of its labels.
-use Rattle.lra_tree.specs.Views.{tree_view}
+use Rattle.lra_syntax.specs.Views.{tree_view}
 use Rattle.lra_program.specs.ProgramViews.{program_view}
 use Rattle.lra_tests_graphs.proofs.Reading.{resolved_well}
 use Rattle.lra_tests_graphs.proofs.sources.program_of.Goals as goal

@@ -1,8 +1,8 @@
 -- Goals of `tree_of`: the tree of a source.
 use Rattle.std.proofs.Common.{sym, subst}
-use Rattle.lra_tree.specs.Views.{tree_view}
-use Rattle.lra_readers.specs.Files.{EndsOnce}
-use Rattle.lra_readers.proofs.Ended.{lexed_end}
+use Rattle.lra_syntax.specs.Views.{tree_view}
+use Rattle.lra_parser_spec.specs.Files.{EndsOnce}
+use Rattle.lra_parser_spec.proofs.Ended.{lexed_end}
 use Rattle.lra_tests_graphs.proofs.Reading.{read_small}
 use Rattle.lra_tests_graphs.proofs.sources.tree_of.Goals as goal
 

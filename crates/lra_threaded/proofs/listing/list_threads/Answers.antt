@@ -1,7 +1,7 @@
 -- Goals of `list_threads`: the points of all threads.
 use Rattle.std.proofs.Common.{length, map, refl}
 use Rattle.std.proofs.lemmas.Option.{slice_get_read}
-use Rattle.lra_tree.specs.Views.{tree_view}
+use Rattle.lra_syntax.specs.Views.{tree_view}
 use Rattle.lra_report.specs.View.{point_report_of}
 use Rattle.lra_threaded.proofs.Pushing.{shows_more}
 use Rattle.lra_threaded.proofs.listing.list_threads.Goals as goal

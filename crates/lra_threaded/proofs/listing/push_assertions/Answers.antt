@@ -1,8 +1,8 @@
 -- Goals of `push_assertions`: what is judged of the assertions of one thread more.
 use Rattle.std.proofs.Common.{◌∙◌, ◌++◌, ℕ, suc, Bool, List, length, map, refl, ap, append-nil, arith}
 use Rattle.std.proofs.lemmas.Option.{slice_get_read}
-use Rattle.lra_tree.specs.Labels.{labels_of}
-use Rattle.lra_tree.specs.Views.{tree_view}
+use Rattle.lra_syntax.specs.Labels.{labels_of}
+use Rattle.lra_syntax.specs.Views.{tree_view}
 use Rattle.lra_report.specs.Report as report
 use Rattle.lra_report.specs.View.{verdict_of}
 use Rattle.lra_report.specs.declared.verdict_kinds.VerdictKind.TheVariants.{Assertion}

@@ -1,6 +1,6 @@
 -- The verdicts so far and those on the threads that are left are all.
 use Rattle.std.proofs.Common.{◌≡◌, ◌++◌, map, drop}
-use Rattle.lra_tree.specs.Views.{tree_view}
+use Rattle.lra_syntax.specs.Views.{tree_view}
 use Rattle.lra_report.specs.View.{verdict_of}
 use Rattle.lra_threaded.specs.Listed.{assertions_alone, one_by_one, verdicts_told}
 use Rattle.lra_threaded.proofs.listing.push_assertions.Given as goal

@@ -1,7 +1,7 @@
 -- Goals of `report_threads`: what rounds find of the threads of what was read.
 use Rattle.std.proofs.Common.{◌≡◌, ℕ, List, length, sym, subst}
 use Rattle.std.specs.List.{AllZip}
-use Rattle.lra_tree.specs.Views.{tree_view}
+use Rattle.lra_syntax.specs.Views.{tree_view}
 use Rattle.lra_program.specs.declared.program.GlobalVariable.{GlobalVariable}
 use Rattle.lra_operations.specs.declared.tree.InlinedProgram.{InlinedProgram}
 use Rattle.lra_threads_front.specs.declared.front.ThreadsFront.{ThreadsFront}

@@ -1,7 +1,7 @@
 -- Goals of `threads_source`: what is found of the threads of a source.
 use Rattle.std.proofs.Common.{◌∙◌, ℕ, ℤ, List, ap₂, subst}
 use Rattle.std.specs.List.{AllZip}
-use Rattle.lra_tree.specs.Views.{tree_view}
+use Rattle.lra_syntax.specs.Views.{tree_view}
 use Rattle.lra_options.specs.declared.options.Options.{Options}
 use Rattle.lra_threads_front.specs.Stages.{IsThreadGraph}
 use Rattle.lra_flow.specs.Plan.{plan_of}

@@ -1,7 +1,7 @@
 -- Goals of `read_threads`: all that is read of a source of several threads, or its one refusal; memory may be wanting.
 use Rattle.std.proofs.Common.{◌∙◌, ap, sym, subst}
 use Rattle.std.specs.List.{AllByRecursion, AllZip}
-use Rattle.lra_tree.specs.Views.{tree_view}
+use Rattle.lra_syntax.specs.Views.{tree_view}
 use Rattle.lra_program.specs.WellFormed.{IsWellFormed}
 use Rattle.lra_meaning.specs.Threads.{thread_program}
 use Rattle.lra_meaning.specs.LabelTable.{Listed}

@@ -3,8 +3,8 @@
 use Rattle.std.proofs.Common.{◌≡◌, ◌+◌, [], ◌++◌, length, map, drop, get_or, None, refl, ap, sym, ◌∙◌, subst}
 use Rattle.std.specs.List.{AllZip}
 use Rattle.std.proofs.lemmas.List.{at_drop_all, take_all}
-use Rattle.lra_tree.specs.Views.{tree_view}
-use Rattle.lra_tree.specs.Labels.{labels_of}
+use Rattle.lra_syntax.specs.Views.{tree_view}
+use Rattle.lra_syntax.specs.Labels.{labels_of}
 use Rattle.lra_program.specs.Program.{Program}
 use Rattle.lra_program.specs.Sites.{events_of, sites_of}
 use Rattle.lra_program.specs.WellFormed.{IsWellFormed}

@@ -1,8 +1,8 @@
 -- The threads so far have their trees, and passed no limit; those that are left count behind their points.
 use Rattle.std.proofs.Common.{◌≡◌, length, drop, take}
 use Rattle.std.specs.List.{AllZip}
-use Rattle.lra_tree.specs.Views.{tree_view}
-use Rattle.lra_tree.specs.Labels.{labels_of}
+use Rattle.lra_syntax.specs.Views.{tree_view}
+use Rattle.lra_syntax.specs.Labels.{labels_of}
 use Rattle.lra_program.specs.ProgramViews.{program_view}
 use Rattle.lra_meaning.specs.Refuse.{limit_fault}
 use Rattle.lra_meaning.specs.Threads.{thread_program, thread_events}

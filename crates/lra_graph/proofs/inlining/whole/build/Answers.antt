@@ -1,6 +1,6 @@
 -- Goals of `build`: a program that is written out with no points before it has its own tree and its own points.
 use Rattle.std.proofs.Common.{◌≡◌, List, map, length, Some, None, ap, subst}
-use Rattle.lra_tree.specs.Labels.{Labelled}
+use Rattle.lra_syntax.specs.Labels.{Labelled}
 use Rattle.lra_meaning.specs.Refuse.{limit_fault}
 use Rattle.lra_program.specs.Sites.{events_of}
 use Rattle.lra_program.specs.ProgramViews.{program_view}

@@ -1,7 +1,7 @@
 -- Goals of `build_thread`: the program's points behind others, and its own tree.
 use Rattle.std.proofs.Common.{◌≡◌, ◌++◌, List, map, length, Some, None, sym, ◌∙◌, arith}
 use Rattle.std.proofs.lemmas.Option.{none-some}
-use Rattle.lra_tree.specs.Labels.{Labelled}
+use Rattle.lra_syntax.specs.Labels.{Labelled}
 use Rattle.lra_meaning.specs.Refuse.{limit_fault}
 use Rattle.lra_program.specs.Sites.{events_of, sites_of}
 use Rattle.lra_program.specs.ProgramViews.{program_view}

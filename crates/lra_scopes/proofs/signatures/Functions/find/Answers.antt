@@ -2,8 +2,8 @@
 use Rattle.std.proofs.Common.{List, ap, ◌∙◌}
 use Rattle.std.specs.Prelude.{option_map}
 use Rattle.indexmap.specs.IndexMap.{get_by_text}
-use Rattle.lra_tree.specs.declared.trees.Item.{Item}
-use Rattle.lra_tree.specs.Functions.{function_named}
+use Rattle.lra_syntax.specs.declared.trees.ExternalDeclaration.{ExternalDeclaration}
+use Rattle.lra_syntax.specs.Functions.{function_named}
 use Rattle.lra_meaning.specs.Resolve.{function_place}
 use Rattle.lra_scopes.specs.Calls.{functions_at}
 use Rattle.lra_scopes.specs.Signatures.{signature_at}
@@ -15,4 +15,5 @@ returns c =
     let name = c.args.name.now in
     c.copied.ensures ∙ c.get.ensures.value ∙ ap (get_by_text c.self.inside.signatures) c.as_str.ensures
     ∙ c.self.invariant name ∙ first_is name (functions_at c.self.inside.parts.now)
-    ∙ ap (λ (parts : List Item). option_map (signature_at (function_place (functions_at parts) name)) (function_named (functions_at parts) name)) c.self.view_is
+    ∙ ap (λ (parts : List ExternalDeclaration). option_map (signature_at (function_place (functions_at parts) name)) (function_named (functions_at parts) name))
+    c.self.view_is

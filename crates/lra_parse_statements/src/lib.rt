@@ -1,0 +1,9 @@
+//! Statements and blocks of a list of tokens.
+//!
+//! Each function computes a reader of `lra_parser_spec`, which has what the reader is and that it is exact.
+#![tactic(auto)]
+
+mod simple;
+mod statements;
+
+pub use statements::read_body;

@@ -1,7 +1,0 @@
-use Rattle.std.proofs.Common.{◌≡◌, [], ◌++◌, map}
-use Rattle.lra_tree.specs.Views.{case_view}
-use Rattle.lra_statements.specs.Cases.{label_parts}
-use Rattle.lra_statements.proofs.statements.push_labels.Given as goal
-
-abbrev pub invariant-each : goal.invariant-each
-invariant-each l = map case_view l.items.items ≡ map case_view l.fn.items.items ++ label_parts l.yielded []
