@@ -9,7 +9,7 @@ use Rattle.lra_base.specs.declared.refusals.Place.{Place}
 use Rattle.lra_base.specs.Places.{place_after, greatest_length}
 use Rattle.lra_syntax.specs.Trees.{FileTree}
 use Rattle.lra_syntax.specs.Grammar.{Spells}
-use Rattle.lra_meaning.specs.Refuse.{Refuse, too_long, bad_token, bad_text, bad_tree, Accepts}
+use Rattle.lra_resolution_spec.specs.Refuse.{Refuse, too_long, bad_token, bad_text, bad_tree, Accepts}
 use Rattle.lra_report.specs.RefusalText.{refusal_text}
 use Rattle.lra_front.specs.Claims.{HasRefusal}
 use Rattle.lra_front.proofs.EachAnswer.{each_answer}

@@ -4,7 +4,7 @@ use Rattle.lra_base.specs.declared.refusals.Cause.{Cause}
 use Rattle.lra_base.specs.declared.refusals.Place.{Place}
 use Rattle.lra_syntax.specs.Trees.{FileTree}
 use Rattle.lra_syntax.specs.Grammar.{Spells}
-use Rattle.lra_meaning.specs.Refuse.{Refuse, Accepts}
+use Rattle.lra_resolution_spec.specs.Refuse.{Refuse, Accepts}
 use Rattle.lra_report.specs.RefusalText.{refusal_text}
 use Rattle.lra_front.specs.Claims.{HasRefusal}
 use Rattle.lra_answers.specs.Statuses.{refused}

@@ -6,7 +6,7 @@ use Rattle.std.proofs.lemmas.Bool.Decides.{nat_tests}
 use Rattle.lra_base.specs.declared.refusals.Refusal.{Refusal}
 use Rattle.lra_linear_spec.specs.Range.{InRange}
 use Rattle.lra_syntax.specs.Labels.{labels_of}
-use Rattle.lra_meaning.specs.Refuse.{greatest_live, greatest_points, limit_fault}
+use Rattle.lra_resolution_spec.specs.Refuse.{greatest_live, greatest_points, limit_fault}
 use Rattle.lra_program.specs.Sites.{Event, comes, one_call_more, event_sites, sites_of, events_of}
 use Rattle.lra_paths.specs.Paths.{paths_of}
 use Rattle.lra_certificate.specs.CertificateText.{text_line, numbered_text, head_text, body_text}

@@ -6,8 +6,8 @@ use Rattle.lra_base.specs.declared.refusals.Cause.{Cause}
 use Rattle.lra_base.specs.declared.refusals.Place.{Place}
 use Rattle.lra_syntax.specs.Trees.{FileTree}
 use Rattle.lra_syntax.specs.Grammar.{Spells}
-use Rattle.lra_meaning.specs.Resolve.{resolve}
-use Rattle.lra_meaning.specs.Refuse.{Refuse}
+use Rattle.lra_resolution_spec.specs.Resolve.{resolve}
+use Rattle.lra_resolution_spec.specs.Refuse.{Refuse}
 use Rattle.lra_linear_spec.specs.Descriptions.{LinearRow, Con}
 use Rattle.lra_program.specs.Program.{Program}
 use Rattle.lra_program.specs.Run.{At, Fails}

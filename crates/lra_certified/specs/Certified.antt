@@ -2,7 +2,7 @@
 -- assertions of its report; or why it has none.
 use Rattle.std.specs.Prelude.{◌≡◌, ◌<◌, ◌^◌, ℕ, suc, ⊤, List, [], ◌∷◌, ◌++◌, map, Option, None, Some, option_map}
 use Rattle.lra_syntax.specs.Grammar.{Spells}
-use Rattle.lra_meaning.specs.Refuse.{Refuse}
+use Rattle.lra_resolution_spec.specs.Refuse.{Refuse}
 use Rattle.lra_show.specs.Rows.{Row}
 use Rattle.lra_show.specs.ShownDescriptions.{shown_constraint}
 use Rattle.lra_report.specs.Report.{Invariant, PointReport, Report}

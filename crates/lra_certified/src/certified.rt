@@ -4,7 +4,7 @@ ghost use Rattle.std.specs.Prelude.{◌≡◌, ◌<◌, ◌+◌, ◌++◌, ◌^�
 ghost use Rattle.std.specs.Fmt.{decimal};
 ghost use Rattle.lra_syntax.specs.Views.{tree_view};
 ghost use Rattle.lra_syntax.specs.Labels.{labels_of};
-ghost use Rattle.lra_meaning.specs.Resolve.{resolve};
+ghost use Rattle.lra_resolution_spec.specs.Resolve.{resolve};
 ghost use Rattle.lra_program.specs.ProgramViews.{program_view};
 ghost use Rattle.lra_operations.specs.TreeViews.{node_view, site_view};
 ghost use Rattle.lra_flow.specs.Plan.{plan_of};

@@ -1,6 +1,6 @@
 -- Each source has one answer.
 use Rattle.lra_syntax.specs.Grammar.{Spells}
-use Rattle.lra_meaning.specs.Refuse.{OneAnswer}
+use Rattle.lra_resolution_spec.specs.Refuse.{OneAnswer}
 use Rattle.lra_lex.proofs.OneReadingLemmas.{one_reading}
 use Rattle.lra_parser_spec.proofs.Laws.{spelled_one, spelled_one_fault}
 use Rattle.lra_front.proofs.OneAnswer as law

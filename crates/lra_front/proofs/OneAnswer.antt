@@ -10,12 +10,12 @@ use Rattle.lra_syntax.specs.declared.trees.Identifier.{Identifier}
 use Rattle.lra_syntax.specs.Trees.{FileTree}
 use Rattle.lra_syntax.specs.Tokens.{Lex, OneReading}
 use Rattle.lra_syntax.specs.Faults.{Language, IsTree, IsTextFault, OneTree, OneTextFault}
-use Rattle.lra_meaning.specs.NameFaults.{name_faults}
+use Rattle.lra_resolution_spec.specs.NameFaults.{name_faults}
 use Rattle.lra_syntax.specs.Labels.{labels_of}
 use Rattle.lra_syntax.specs.Reach.{IsRecursive, IsFirstRecursive, NotRecursive}
-use Rattle.lra_meaning.specs.Resolve.{resolve}
+use Rattle.lra_resolution_spec.specs.Resolve.{resolve}
 use Rattle.lra_program.specs.Sites.{events_of}
-use Rattle.lra_meaning.specs.Refuse.{limit_fault, RefusesTree, bad_name, recursive, past_limit, Refuse, too_long, bad_token, bad_text, bad_tree, Accepts, OneAnswer}
+use Rattle.lra_resolution_spec.specs.Refuse.{limit_fault, RefusesTree, bad_name, recursive, past_limit, Refuse, too_long, bad_token, bad_text, bad_tree, Accepts, OneAnswer}
 
 pub not_both : {A : Type 0} (x : A) (xs ys : List A) → xs ≡ [] → xs ≡ x ∷ ys → ⊥
 not_both x xs ys e f = cc

@@ -10,9 +10,9 @@ use Rattle.lra_base.specs.Places.{place_after, greatest_length}
 use Rattle.lra_syntax.specs.Tokens.{Lex, IsTokenFault, OneReading}
 use Rattle.lra_syntax.specs.Faults.{IsTree, IsTextFault}
 use Rattle.lra_syntax.specs.Grammar.{Spells}
-use Rattle.lra_meaning.specs.Refuse as plain
-use Rattle.lra_meaning.specs.Refuse.{RefusesTree, Refuse, bad_tree}
-use Rattle.lra_meaning.specs.RefuseThreads.{Unread, too_long, bad_token, bad_text}
+use Rattle.lra_resolution_spec.specs.Refuse as plain
+use Rattle.lra_resolution_spec.specs.Refuse.{RefusesTree, Refuse, bad_tree}
+use Rattle.lra_resolution_spec.specs.RefuseThreads.{NotParsed, too_long, bad_token, bad_text}
 use Rattle.lra_base.specs.declared.error.SourceError.{SourceError}
 use Rattle.lra_base.specs.Refused.{IfRefusal, IfRefused}
 use Rattle.lra_base.proofs.Refusing.{refusal_by, refused_by, exit_refused}
@@ -24,31 +24,31 @@ within : (source : List ℕ) → length source ≤ 65536 → length source ≤ g
 within source l = rw limit_is l
 
 -- a source that is too long
-pub long_unread : (source : List ℕ) (n : ℕ) → n ≡ 65536 → n < length source → Unread Spells source TooLong (place_after (take n source))
+pub long_unread : (source : List ℕ) (n : ℕ) → n ≡ 65536 → n < length source → NotParsed Spells source TooLong (place_after (take n source))
 long_unread source n is long =
     let e : greatest_length ≡ n = limit_is ∙ sym is in
     let past : greatest_length < length source = rw e long in
-    subst (λ (k : ℕ). Unread Spells source TooLong (place_after (take k source))) e (too_long past)
+    subst (λ (k : ℕ). NotParsed Spells source TooLong (place_after (take k source))) e (too_long past)
 
 -- a source whose tokens have a fault
-tokens_unread : (source : List ℕ) (c : Cause) (at : Place) → length source ≤ 65536 → IsTokenFault source c at → Unread Spells source c at
+tokens_unread : (source : List ℕ) (c : Cause) (at : Place) → length source ≤ 65536 → IsTokenFault source c at → NotParsed Spells source c at
 tokens_unread source c at l fault = bad_token c at (within source l) fault
 
 -- one whose text has a fault
 text_unread : (source : List ℕ) (tokens : List Token) (c : Cause) (at : Place) → length source ≤ 65536 → Lex source tokens → IsTextFault Spells tokens c at
-    → Unread Spells source c at
+    → NotParsed Spells source c at
 text_unread source tokens c at l lexed fault = bad_text tokens c at (within source l) lexed fault
 
 -- a source that has no tree is refused
-pub unread_refused : (source : List ℕ) (c : Cause) (at : Place) → Unread Spells source c at → Refuse Spells source c at
+pub unread_refused : (source : List ℕ) (c : Cause) (at : Place) → NotParsed Spells source c at → Refuse Spells source c at
 unread_refused source _ _ (too_long past) = plain.too_long past
 unread_refused source _ _ (bad_token c at l fault) = plain.bad_token c at l fault
 unread_refused source _ _ (bad_text tokens c at l lexed fault) = plain.bad_text tokens c at l lexed fault
 
-pub refused_unread : {X : Type 0} (source : List ℕ) (x : Result X SourceError) → IfRefused x (λ r. Unread Spells source r.cause r.place)
+pub refused_unread : {X : Type 0} (source : List ℕ) (x : Result X SourceError) → IfRefused x (λ r. NotParsed Spells source r.cause r.place)
     → IfRefused x (λ r. Refuse Spells source r.cause r.place)
 refused_unread source x h =
-    refused_by (λ r. Unread Spells source r.cause r.place) (λ r. Refuse Spells source r.cause r.place) (λ r. unread_refused source r.cause r.place) x h
+    refused_by (λ r. NotParsed Spells source r.cause r.place) (λ r. Refuse Spells source r.cause r.place) (λ r. unread_refused source r.cause r.place) x h
 
 -- one that has a tree
 pub has_tree : (source : List ℕ) (tokens : List Token) (t : FileTree) → length source ≤ 65536 → Lex source tokens → IsTree Spells tokens t → HasTree source t
@@ -70,17 +70,17 @@ tree_refused source t c at has fault = bad_tree has.tokens t c at has.not_long h
 
 -- exits by the errors of the two stages
 pub exit_lexed : {X : Type 0} (source : List ℕ) (x : Result X SourceError) (e : SourceError) → length source ≤ 65536 → IsErrAnd x (λ y. y ≡ e)
-    → IfRefusal (λ r. IsTokenFault source r.cause r.place) e → IfRefused x (λ r. Unread Spells source r.cause r.place)
+    → IfRefusal (λ r. IsTokenFault source r.cause r.place) e → IfRefused x (λ r. NotParsed Spells source r.cause r.place)
 exit_lexed source x e l is fault =
-    exit_refused (λ r. Unread Spells source r.cause r.place) x e is
+    exit_refused (λ r. NotParsed Spells source r.cause r.place) x e is
     (refusal_by (λ r. IsTokenFault source r.cause r.place) _ (λ r. tokens_unread source r.cause r.place l) e fault)
 
 pub exit_parsed : {X : Type 0} (source : List ℕ) (tokens given : List Token) (x : Result X SourceError) (e : SourceError) → length source ≤ 65536 → Lex source tokens
     → given ≡ tokens → IsErrAnd x (λ y. y ≡ e) → IfRefusal (λ r. IsTextFault Spells given r.cause r.place) e
-    → IfRefused x (λ r. Unread Spells source r.cause r.place)
+    → IfRefused x (λ r. NotParsed Spells source r.cause r.place)
 exit_parsed source tokens given x e l lexed same is fault =
     let there : IfRefusal (λ r. IsTextFault Spells tokens r.cause r.place) e = subst (λ (T : List Token). IfRefusal (λ r. IsTextFault Spells T r.cause r.place) e) same fault in
-    exit_refused (λ r. Unread Spells source r.cause r.place) x e is
+    exit_refused (λ r. NotParsed Spells source r.cause r.place) x e is
     (refusal_by (λ r. IsTextFault Spells tokens r.cause r.place) _ (λ r. text_unread source tokens r.cause r.place l lexed) e there)
 
 -- and by those behind it

@@ -9,19 +9,19 @@ use Rattle.lra_syntax.specs.declared.tokens.Token.{Token}
 use Rattle.lra_syntax.specs.Trees.{FileTree}
 use Rattle.lra_syntax.specs.Faults.{IsTree, IsTextFault}
 use Rattle.lra_syntax.specs.Grammar.{Spells}
-use Rattle.lra_meaning.specs.NameFaults.{name_faults}
+use Rattle.lra_resolution_spec.specs.NameFaults.{name_faults}
 use Rattle.lra_syntax.specs.Labels.{labels_of}
-use Rattle.lra_meaning.specs.Resolve.{resolve}
+use Rattle.lra_resolution_spec.specs.Resolve.{resolve}
 use Rattle.lra_program.specs.Sites.{events_of}
 use Rattle.lra_base.specs.Places.{greatest_length}
-use Rattle.lra_meaning.specs.Refuse.{limit_fault, bad_name, recursive, past_limit, too_long, bad_token, bad_text, OneAnswer}
+use Rattle.lra_resolution_spec.specs.Refuse.{limit_fault, bad_name, recursive, past_limit, too_long, bad_token, bad_text, OneAnswer}
 use Rattle.lra_syntax.specs.Reach.{NotRecursive}
 use Rattle.lra_lex.proofs.EachReading.{each_reading}
 use Rattle.lra_parser_spec.specs.Reading.{Read}
 use Rattle.lra_parser_spec.specs.Files.{EndsOnce, file_at}
 use Rattle.lra_parser_spec.proofs.Answered.{tree_found, stops_at}
 use Rattle.lra_parser_spec.proofs.Ended.{lexed_end}
-use Rattle.lra_calls.proofs.Deciding.{each_recursion}
+use Rattle.lra_recursion.proofs.Deciding.{each_recursion}
 use Rattle.lra_agreement.proofs.Agreement.{graphs_agree}
 use Rattle.lra_agreement.proofs.DistinctSites.{distinct_sites}
 use Rattle.lra_graph.proofs.Existing.{has_graph}

@@ -14,19 +14,19 @@ use Rattle.lra_program.specs.Program.{Function, Program}
 use Rattle.lra_operations.specs.Tree.{Node}
 use Rattle.lra_program.specs.Sites.{Site, events_of, sites_of}
 use Rattle.lra_syntax.specs.Labels.{Labelled, labels_of}
-use Rattle.lra_meaning.specs.Resolve.{resolve, resolved_functions}
-use Rattle.lra_meaning.specs.NameFaults.{name_faults}
+use Rattle.lra_resolution_spec.specs.Resolve.{resolve, resolved_functions}
+use Rattle.lra_resolution_spec.specs.NameFaults.{name_faults}
 use Rattle.lra_operations.specs.Agree.{IsInlinedTree, Agrees}
 use Rattle.lra_program.specs.WellFormed.{IsWellFormed}
 use Rattle.lra_syntax.specs.Grammar.{Spells}
-use Rattle.lra_meaning.specs.Refuse.{limit_fault, RefusesTree, bad_name, recursive, past_limit, Accepts}
-use Rattle.lra_scopes.specs.Outcome.{first_fault, Tells}
+use Rattle.lra_resolution_spec.specs.Refuse.{limit_fault, RefusesTree, bad_name, recursive, past_limit, Accepts}
+use Rattle.lra_scopes.specs.Outcome.{first_fault, IsFirstFault}
 use Rattle.lra_opening.specs.declared.points.Limit.{Limit}
 use Rattle.lra_opening.specs.declared.points.GraphError.{GraphError}
 use Rattle.lra_opening.specs.declared.points.GraphError.TheVariants.{Passed}
 use Rattle.lra_opening.specs.Limits.{refusal_of, OnError}
-use Rattle.lra_formed.proofs.Spelled.{spelled_are_small}
-use Rattle.lra_formed.proofs.Whole.{well_formed}
+use Rattle.lra_resolution_sound.proofs.Spelled.{spelled_are_small}
+use Rattle.lra_resolution_sound.proofs.Whole.{well_formed}
 use Rattle.lra_base.specs.declared.error.SourceError.{SourceError}
 use Rattle.lra_base.specs.declared.error.SourceError.TheVariants.{Refused, Memory}
 use Rattle.lra_front.specs.Claims.{AreFew}
@@ -43,11 +43,11 @@ names_refused : (t : FileTree) (r : Refusal) → first_fault (name_faults t) ≡
 names_refused t r e = let (further, is) = first_is (name_faults t) r e in bad_name r further is
 
 -- and so with an error that tells the first of them
-told_refused : (t : FileTree) (e : SourceError) → Tells (name_faults t) e → IfRefusal (λ r. RefusesTree t r.cause r.place) e
+told_refused : (t : FileTree) (e : SourceError) → IsFirstFault (name_faults t) e → IfRefusal (λ r. RefusesTree t r.cause r.place) e
 told_refused t (Refused r) told = names_refused t r told
 told_refused t Memory told = tt
 
-pub exit_named : {X : Type 0} (t : FileTree) (x : Result X SourceError) (e : SourceError) → IsErrAnd x (λ y. y ≡ e) → Tells (name_faults t) e
+pub exit_named : {X : Type 0} (t : FileTree) (x : Result X SourceError) (e : SourceError) → IsErrAnd x (λ y. y ≡ e) → IsFirstFault (name_faults t) e
     → IfRefused x (λ r. RefusesTree t r.cause r.place)
 exit_named t x e is told = exit_refused (λ r. RefusesTree t r.cause r.place) x e is (told_refused t e told)
 

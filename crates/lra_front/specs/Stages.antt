@@ -9,14 +9,14 @@ use Rattle.lra_syntax.specs.Tokens.{Lex}
 use Rattle.lra_syntax.specs.Constants.{constants_of}
 use Rattle.lra_syntax.specs.Faults.{IsTree}
 use Rattle.lra_syntax.specs.Grammar.{Spells}
-use Rattle.lra_meaning.specs.NameFaults.{name_faults}
+use Rattle.lra_resolution_spec.specs.NameFaults.{name_faults}
 use Rattle.lra_syntax.specs.Labels.{labels_of}
-use Rattle.lra_meaning.specs.Resolve.{resolve}
+use Rattle.lra_resolution_spec.specs.Resolve.{resolve}
 use Rattle.lra_operations.specs.Tree.{Node}
 use Rattle.lra_program.specs.Sites.{Site, events_of, sites_of}
 use Rattle.lra_operations.specs.Agree.{IsInlinedTree, Agrees}
 use Rattle.lra_program.specs.WellFormed.{IsWellFormed}
-use Rattle.lra_meaning.specs.Refuse.{limit_fault}
+use Rattle.lra_resolution_spec.specs.Refuse.{limit_fault}
 use Rattle.lra_syntax.specs.Reach.{IsFirstRecursive, NotRecursive}
 use Rattle.lra_front.specs.Claims.{AreFew}
 

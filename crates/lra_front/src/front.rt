@@ -5,17 +5,17 @@ ghost use Rattle.lra_base.specs.Refused.{IfRefused};
 ghost use Rattle.lra_syntax.specs.Views.{tree_view};
 ghost use Rattle.lra_program.specs.ProgramViews.{program_view};
 ghost use Rattle.lra_operations.specs.TreeViews.{node_view, site_view};
-ghost use Rattle.lra_meaning.specs.Resolve.{resolve};
+ghost use Rattle.lra_resolution_spec.specs.Resolve.{resolve};
 ghost use Rattle.lra_syntax.specs.Grammar.{Spells};
 ghost use Rattle.lra_syntax.specs.Labels.{labels_of};
-ghost use Rattle.lra_meaning.specs.Refuse.{Refuse};
+ghost use Rattle.lra_resolution_spec.specs.Refuse.{Refuse};
 ghost use Rattle.lra_front.specs.Stages.{HasConstants, HasGraph, HasTree};
 
 use crate::program::{graph_of, program_of};
 use crate::reading::{Reading, read_text};
 use lra_base::SourceError;
-use lra_names::Resolution;
 use lra_operations::InlinedProgram;
+use lra_resolve::Resolution;
 use lra_syntax::TranslationUnit;
 use std::alloc::Global;
 

@@ -1,7 +1,7 @@
 //! Laws: each of these does nothing, and its contract is the theorem.
 
 ghost use Rattle.lra_syntax.specs.Grammar.{Spells};
-ghost use Rattle.lra_meaning.specs.Refuse.{OneAnswer};
+ghost use Rattle.lra_resolution_spec.specs.Refuse.{OneAnswer};
 ghost use Rattle.lra_front.specs.Claims.{EachAnswer};
 ghost use Rattle.lra_front.specs.Stages.{OneConstants};
 

@@ -5,19 +5,19 @@ ghost use Rattle.lra_base.specs.Refused.{IfRefused};
 ghost use Rattle.lra_syntax.specs.Views.{tree_view};
 ghost use Rattle.lra_program.specs.ProgramViews.{program_view};
 ghost use Rattle.lra_operations.specs.TreeViews.{node_view, site_view};
-ghost use Rattle.lra_meaning.specs.NameFaults.{name_faults};
-ghost use Rattle.lra_meaning.specs.Resolve.{resolve, resolved_functions};
+ghost use Rattle.lra_resolution_spec.specs.NameFaults.{name_faults};
+ghost use Rattle.lra_resolution_spec.specs.Resolve.{resolve, resolved_functions};
 ghost use Rattle.lra_program.specs.WellFormed.{IsWellFormed};
 ghost use Rattle.lra_syntax.specs.Labels.{labels_of};
 ghost use Rattle.lra_syntax.specs.Reach.{NotRecursive};
-ghost use Rattle.lra_meaning.specs.Refuse.{RefusesTree};
+ghost use Rattle.lra_resolution_spec.specs.Refuse.{RefusesTree};
 ghost use Rattle.lra_front.specs.Stages.{HasGraph, IsRecursionRefusal};
 
 use lra_base::{Cause, Refusal, SourceError};
-use lra_calls::first_recursive;
 use lra_graph::{GraphError, build, refusal};
-use lra_names::{Resolution, resolve};
 use lra_operations::InlinedProgram;
+use lra_recursion::first_recursive;
+use lra_resolve::{Resolution, resolve};
 use lra_syntax::TranslationUnit;
 use std::alloc::Global;
 

@@ -4,8 +4,8 @@ ghost use Rattle.std.specs.Prelude.{◌<◌, ◌+◌, ◌^◌, length, IfOk};
 ghost use Rattle.lra_base.specs.Refused.{IfRefused};
 ghost use Rattle.lra_syntax.specs.Views.{tree_view};
 ghost use Rattle.lra_syntax.specs.Grammar.{Spells};
-ghost use Rattle.lra_meaning.specs.Refuse.{Refuse};
-ghost use Rattle.lra_meaning.specs.RefuseThreads.{Unread};
+ghost use Rattle.lra_resolution_spec.specs.Refuse.{Refuse};
+ghost use Rattle.lra_resolution_spec.specs.RefuseThreads.{NotParsed};
 ghost use Rattle.lra_front.specs.Stages.{HasConstants, HasTree};
 
 use lra_base::{Cause, GREATEST_LENGTH, Refusal, SourceError, place_after};
@@ -27,7 +27,7 @@ pub fn read_text(alloc: Global, bytes: &[u8]) -> Result<Reading, SourceError>
     ensures found { IfOk result (λ r. HasTree bytes.now (tree_view r.tree)) }
     ensures constants { IfOk result (λ r. HasConstants bytes.now r.constants.items) }
     ensures refused { IfRefused result (λ r. Refuse Spells bytes.now r.cause r.place) }
-    ensures unread { IfRefused result (λ r. Unread Spells bytes.now r.cause r.place) }
+    ensures unread { IfRefused result (λ r. NotParsed Spells bytes.now r.cause r.place) }
 {
     if bytes.len() > GREATEST_LENGTH {
         let place = place_after(&bytes[..GREATEST_LENGTH]);

@@ -16,7 +16,7 @@ use Rattle.lra_program.specs.Sites.{Site, Event, comes, one_call_more, plain_sit
 use Rattle.lra_operations.specs.Inlined.{return_node, callee_node, loop_node, switch_node}
 use Rattle.lra_operations.specs.Agree.{IsInlinedTree}
 use Rattle.lra_program.specs.WellFormed.{IsWellFormed}
-use Rattle.lra_meaning.specs.Refuse.{greatest_live, greatest_points, limit_fault}
+use Rattle.lra_resolution_spec.specs.Refuse.{greatest_live, greatest_points, limit_fault}
 use Rattle.lra_opening.specs.declared.points.Limit.TheVariants.{Variables, Points, Calls}
 use Rattle.lra_opening.specs.declared.frame.Frame.{Frame}
 use Rattle.lra_opening.specs.Limits.{Progress, passed, stopped, walk}

@@ -15,7 +15,7 @@ use Rattle.lra_program.specs.Sites.{sites_of}
 use Rattle.lra_operations.specs.Inlined.{move, IsSiteAt, InlineItems, main_frame, main_inline_state}
 use Rattle.lra_operations.specs.Agree.{IsInlinedTree}
 use Rattle.lra_program.specs.WellFormed.{IsWellFormed}
-use Rattle.lra_meaning.specs.Refuse.{greatest_live, greatest_points, limit_fault}
+use Rattle.lra_resolution_spec.specs.Refuse.{greatest_live, greatest_points, limit_fault}
 use Rattle.lra_opening.specs.declared.points.Limit.{Limit}
 use Rattle.lra_opening.specs.declared.points.Limit.TheVariants.{Variables, Points, Calls}
 use Rattle.lra_opening.specs.declared.frame.Frame.{Frame}

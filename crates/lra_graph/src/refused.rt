@@ -5,8 +5,8 @@ ghost use Rattle.lra_syntax.specs.Labels.{label_at, called_place};
 ghost use Rattle.lra_opening.specs.Limits.{refusal_of};
 
 use lra_base::{Cause, Place, Refusal};
-use lra_meaning::Labels;
 use lra_opening::Limit;
+use lra_resolution_spec::Labels;
 
 /// Where a source begins.
 const START: Place = Place { line: 1, column: 1 };

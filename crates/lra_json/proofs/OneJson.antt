@@ -19,8 +19,8 @@ use Rattle.lra_syntax.specs.Trees.{FileTree}
 use Rattle.lra_syntax.specs.Grammar.{Spells}
 use Rattle.lra_syntax.specs.Faults.{Language}
 use Rattle.lra_syntax.specs.Labels.{Labelled, labels_of}
-use Rattle.lra_meaning.specs.Resolve.{resolve}
-use Rattle.lra_meaning.specs.LiveNames.{live_names, globals_named}
+use Rattle.lra_resolution_spec.specs.Resolve.{resolve}
+use Rattle.lra_resolution_spec.specs.LiveNames.{live_names, globals_named}
 use Rattle.lra_program.specs.Sites.{Site, sites_of}
 use Rattle.lra_show.specs.Rows.{Row}
 use Rattle.lra_show.specs.Part.{Generator, Part}
@@ -29,7 +29,7 @@ use Rattle.lra_report.specs.ReportText.{place_text}
 use Rattle.lra_report.specs.declared.verdict_kinds.VerdictKind.{VerdictKind}
 use Rattle.lra_report.specs.VerdictKinds.{row_of, kinds, among_kinds, outcome_text}
 use Rattle.lra_report.proofs.Outcomes.{outcome_told}
-use Rattle.lra_meaning.specs.ShownNames.{shown_names}
+use Rattle.lra_resolution_spec.specs.ShownNames.{shown_names}
 use Rattle.lra_show.specs.Texts.{row_text, generator_text}
 use Rattle.lra_report.specs.Parts.{Tells}
 use Rattle.lra_report.specs.Listing.{listed_point, Subject, subjects, listed_verdict, Lists, AreListed, AreJudged, AreParts, IsFlag}

@@ -4,7 +4,7 @@ use Rattle.std.specs.Prelude.{All}
 use Rattle.std.proofs.lemmas.List.{get_or-map, length-map}
 use Rattle.std.proofs.lemmas.List.Elements.{All-nil}
 use Rattle.lra_syntax.specs.Trees.{FileTree}
-use Rattle.lra_meaning.specs.Resolve.{resolve}
+use Rattle.lra_resolution_spec.specs.Resolve.{resolve}
 use Rattle.lra_base.specs.declared.refusals.Place.{Place}
 use Rattle.lra_program.specs.Sites.{Site, sites_of}
 use Rattle.lra_operations.specs.declared.tree.Site as code_site
@@ -13,7 +13,7 @@ use Rattle.lra_operations.specs.Tree.{Node}
 use Rattle.lra_operations.specs.TreeViews.{site_view}
 use Rattle.lra_syntax.specs.Labels.{Labelled, labels_of}
 use Rattle.lra_report.specs.Report.{Report, Verdict}
-use Rattle.lra_meaning.specs.LiveNames.{globals_named}
+use Rattle.lra_resolution_spec.specs.LiveNames.{globals_named}
 use Rattle.lra_report.specs.Listing.{AreJudged, AreListed, Lists, subjects}
 use Rattle.lra_listing.specs.Given.{IsAssertion, IsComputing, IsAccessing, AreVerdicts, AreFitting, AreInside}
 use Rattle.lra_listing.specs.Views.{told_view}

@@ -8,11 +8,11 @@ ghost use Rattle.lra_operations.specs.TreeViews.{site_view};
 ghost use Rattle.lra_syntax.specs.Trees.{ExternalTree};
 ghost use Rattle.lra_syntax.specs.Views.{tree_view, external_view, global_view};
 ghost use Rattle.lra_syntax.specs.Labels.{label_at, labels_of};
-ghost use Rattle.lra_meaning.specs.Resolve.{resolve};
+ghost use Rattle.lra_resolution_spec.specs.Resolve.{resolve};
 ghost use Rattle.lra_program.specs.Sites.{sites_of};
-ghost use Rattle.lra_meaning.specs.ShownNames.{shown_names};
+ghost use Rattle.lra_resolution_spec.specs.ShownNames.{shown_names};
 ghost use Rattle.lra_report.specs.ReportText.{path_text};
-ghost use Rattle.lra_meaning.specs.LiveNames.{live_name, globals_named, names_outside, live_names};
+ghost use Rattle.lra_resolution_spec.specs.LiveNames.{live_name, globals_named, names_outside, live_names};
 ghost use Rattle.lra_report.specs.declared.verdict_kinds.VerdictKind.TheVariants.{Assertion, Fit};
 ghost use Rattle.lra_report.specs.Listing.{call_at, called_at, calls_on, listed_point, listed_verdict, AreListed};
 ghost use Rattle.lra_report.specs.Listing.{Lists};
@@ -22,12 +22,12 @@ ghost use Rattle.lra_listing.specs.Given.{access_verdicts, accesses_told, verdic
 ghost use Rattle.lra_listing.specs.Views.{subject_view, told_view};
 
 use lra_base::Place;
-use lra_meaning::Labels;
 use lra_operations::Site;
 use lra_options::Options;
 use lra_report::{
     CallPlace, Part, Point, PointReport, Report, Verdict, VerdictKind, names_at, path_text,
 };
+use lra_resolution_spec::Labels;
 use lra_show::Names;
 use lra_syntax::{
     ExternalDeclaration, Global as Variable, Identifier, ScalarOrArray, TranslationUnit, Word,

@@ -4,7 +4,7 @@ use Rattle.lra_base.specs.declared.refusals.Cause.TheVariants.{TooManyVariables,
 use Rattle.lra_base.specs.declared.refusals.Refusal.{Refusal}
 use Rattle.lra_syntax.specs.Labels.{Labelled, label_at, label_place, called_place}
 use Rattle.lra_program.specs.Sites.{Site, Event, comes, one_call_more}
-use Rattle.lra_meaning.specs.Refuse.{greatest_live, greatest_points}
+use Rattle.lra_resolution_spec.specs.Refuse.{greatest_live, greatest_points}
 use Rattle.lra_opening.specs.declared.points.Limit.{Limit}
 use Rattle.lra_opening.specs.declared.points.Limit.TheVariants.{Variables, Points, Calls}
 use Rattle.lra_opening.specs.declared.points.GraphError.{GraphError}

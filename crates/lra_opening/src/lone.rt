@@ -4,7 +4,7 @@ ghost use Rattle.std.specs.Prelude.{◌≡◌, ◌≤◌, ℕ, length, IfOk, Som
 ghost use Rattle.lra_program.specs.Program as resolved;
 ghost use Rattle.lra_program.specs.ProgramViews.{cond_view, stmt_view};
 ghost use Rattle.lra_operations.specs.TreeViews.{exit_view};
-ghost use Rattle.lra_meaning.specs.Refuse.{greatest_live};
+ghost use Rattle.lra_resolution_spec.specs.Refuse.{greatest_live};
 ghost use Rattle.lra_opening.specs.Limits.{OnLimit};
 ghost use Rattle.lra_opening.specs.Inlining.{points_in, own_events, assertion_events, Passes, Stops, StmtStands};
 ghost use Rattle.lra_opening.specs.Building.{length_left};

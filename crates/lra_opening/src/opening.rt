@@ -8,7 +8,7 @@ ghost use Rattle.lra_program.specs.Sites.{live_after_items};
 ghost use Rattle.lra_program.specs.Value.{index_of};
 ghost use Rattle.lra_program.specs.ProgramViews.{slot_view, variable_view, cond_view, call_view, rvalue_view, stmt_view};
 ghost use Rattle.lra_program.specs.ProgramViews.{declarator_view, item_view, items_of};
-ghost use Rattle.lra_meaning.specs.Refuse.{greatest_live};
+ghost use Rattle.lra_resolution_spec.specs.Refuse.{greatest_live};
 ghost use Rattle.lra_opening.specs.Limits.{OnLimit};
 ghost use Rattle.lra_opening.specs.Inlining.{Points, StmtStands, ItemStands, StopsStmt, StopsItem, IsSimple};
 ghost use Rattle.lra_opening.specs.Inlining.{loop_of, for_of, switch_of};

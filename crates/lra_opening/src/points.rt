@@ -3,7 +3,7 @@
 ghost use Rattle.std.specs.Prelude.{◌≡◌, ◌≤◌, ◌∷◌, ◌++◌, [], length, map, Ok, IfOk};
 ghost use Rattle.lra_program.specs.Sites.{comes};
 ghost use Rattle.lra_operations.specs.TreeViews.{site_view};
-ghost use Rattle.lra_meaning.specs.Refuse.{greatest_live};
+ghost use Rattle.lra_resolution_spec.specs.Refuse.{greatest_live};
 ghost use Rattle.lra_opening.specs.Limits.{walk, passed, stopped, OnLimit};
 
 use lra_base::GREATEST_LIVE;

@@ -17,7 +17,7 @@ use Rattle.lra_syntax.specs.Grammar.{AreParameters, IsFunction, IsGlobal, AreGlo
 use Rattle.lra_syntax.specs.Functions.{functions_in}
 use Rattle.lra_syntax.specs.Labels.{Labelled, name_in, names_of, with_names, declarator_labels, init_labels, live_in_for, step_labels, stmt_labels, cases_labels, items_labels}
 use Rattle.lra_syntax.specs.Labels.{function_labels}
-use Rattle.lra_meaning.specs.LiveNames.{live_name, globals_named}
+use Rattle.lra_resolution_spec.specs.LiveNames.{live_name, globals_named}
 use Rattle.lra_report.proofs.Every.{every_append, every_front, every_back}
 use Rattle.lra_report.proofs.TokenWords.{HasWord}
 

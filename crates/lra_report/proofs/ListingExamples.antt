@@ -5,7 +5,7 @@ use Rattle.std.specs.Fmt.{digits}
 use Rattle.lra_report.specs.Report.{PointReport}
 use Rattle.lra_syntax.specs.Labels.{labels_of}
 use Rattle.lra_program.specs.Sites.{Site, sites_of}
-use Rattle.lra_meaning.specs.Resolve.{resolve}
+use Rattle.lra_resolution_spec.specs.Resolve.{resolve}
 use Rattle.lra_operations.specs.Agree.{IsInlinedTree}
 use Rattle.lra_operations.specs.Tree.{Node, seq, point}
 use Rattle.lra_operations.specs.Inlined.{InlineItems, main_inline_state, as_declaration, as_fresh, as_statement, as_assign, as_value, as_assert, as_none}
@@ -13,10 +13,10 @@ use Rattle.lra_base.specs.declared.number_types.NumberType.TheVariants.{Long}
 use Rattle.lra_program.specs.Program.{Element, input}
 use Rattle.lra_report.specs.declared.verdict_kinds.VerdictKind.TheVariants.{Access}
 use Rattle.lra_report.specs.Listing.{listed_point, computing_from, Subject, subjects, accesses_from, AreListed, AreJudged}
-use Rattle.lra_meaning.specs.LiveNames.{globals_named}
+use Rattle.lra_resolution_spec.specs.LiveNames.{globals_named}
 use Rattle.lra_syntax.proofs.TreeSamples.{at, literal_text, one_variable, called_twice, call_in_step}
 use Rattle.lra_report.proofs.ReportTextExamples as report
-use Rattle.lra_meaning.proofs.SiteExamples.{site}
+use Rattle.lra_resolution_spec.proofs.SiteExamples.{site}
 
 -- the second call's points: paths, places and names
 abbrev second_call : ℕ → Site → PointReport

@@ -9,11 +9,11 @@ use Rattle.lra_syntax.specs.Trees.{FileTree}
 use Rattle.lra_syntax.specs.Grammar.{Spells}
 use Rattle.lra_syntax.specs.Faults.{Language}
 use Rattle.lra_syntax.specs.Labels.{Labelled, labels_of, label_at}
-use Rattle.lra_meaning.specs.Resolve.{resolve}
+use Rattle.lra_resolution_spec.specs.Resolve.{resolve}
 use Rattle.lra_program.specs.Sites.{Site, greatest_calls, sites_of}
 use Rattle.lra_base.specs.Places.{greatest_length}
-use Rattle.lra_meaning.specs.Refuse.{Accepts}
-use Rattle.lra_meaning.specs.LiveNames.{live_at, live_in_call_at, names_outside, live_names, globals_named}
+use Rattle.lra_resolution_spec.specs.Refuse.{Accepts}
+use Rattle.lra_resolution_spec.specs.LiveNames.{live_at, live_in_call_at, names_outside, live_names, globals_named}
 use Rattle.lra_report.specs.Spelled.{AreWords, HasWords}
 use Rattle.lra_report.proofs.Every.{every_append, every_front}
 use Rattle.lra_report.proofs.TokenWords.{HasWord, lexed_words, lexed_few}

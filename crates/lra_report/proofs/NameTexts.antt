@@ -9,7 +9,7 @@ use Rattle.std.proofs.lemmas.Bool.Decides.{nat_tests}
 use Rattle.std.proofs.lemmas.Slice.Eq.{bytes_eq-Decides}
 use Rattle.std.proofs.lemmas.List.Sums.{sum_by-cons, count_by-le-length}
 use Rattle.lra_syntax.specs.Lexeme.{is_letter, is_word_byte, is_name_word}
-use Rattle.lra_meaning.specs.ShownNames.{shown_name, shown_names}
+use Rattle.lra_resolution_spec.specs.ShownNames.{shown_name, shown_names}
 use Rattle.lra_report.specs.Spelled.{AreWords}
 use Rattle.lra_report.proofs.Fronts.{is_visible, AllVisible, IsShownName, AreShownNames, Passes, Ends, front_same, rest_same}
 use Rattle.lra_report.proofs.Numbers.{IsShort, decimal_passes, decimal_same}

@@ -5,7 +5,7 @@ use Rattle.std.specs.Fmt.{decimal}
 use Rattle.std.proofs.lemmas.List.{append_cancel_left}
 use Rattle.std.proofs.lemmas.Bool.{eqb-false}
 use Rattle.lra_syntax.specs.Labels.{Labelled, labels_of, label_at, label_place}
-use Rattle.lra_meaning.specs.Resolve.{resolve}
+use Rattle.lra_resolution_spec.specs.Resolve.{resolve}
 use Rattle.lra_program.specs.Sites.{Site, sites_of}
 use Rattle.lra_report.specs.Report.{PointReport, Verdict, Report}
 use Rattle.lra_show.specs.Texts.{text_line}
@@ -13,8 +13,8 @@ use Rattle.std.specs.Prelude.{get_or}
 use Rattle.lra_report.specs.VerdictKinds.{row_of, outcome_text}
 use Rattle.lra_report.proofs.Outcomes.{outcome_same}
 use Rattle.lra_report.specs.ReportText.{place_text, path_text, heading_text, options_text, flag_text, state_text, point_text, verdict_text, counts_line, report_text}
-use Rattle.lra_meaning.specs.ShownNames.{shown_names}
-use Rattle.lra_meaning.specs.LiveNames.{live_names, globals_named}
+use Rattle.lra_resolution_spec.specs.ShownNames.{shown_names}
+use Rattle.lra_resolution_spec.specs.LiveNames.{live_names, globals_named}
 use Rattle.lra_options.specs.declared.options.Options.{Options}
 use Rattle.lra_report.specs.Listing.{calls_on, listed_point, Subject, subjects, listed_verdict, AreListed, AreJudged}
 use Rattle.lra_report.specs.Spelled.{IsReadablePart, IsReadablePoint, IsSmallFlag, AreWords, OneText}

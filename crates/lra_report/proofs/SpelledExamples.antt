@@ -6,7 +6,7 @@ use Rattle.lra_show.specs.Rows.{Row}
 use Rattle.lra_show.specs.Part.{Generator}
 use Rattle.lra_linear_spec.specs.declared.GenKind.TheVariants.{Point}
 use Rattle.lra_show.specs.Texts.{row_text, generator_text}
-use Rattle.lra_meaning.specs.ShownNames.{shown_names}
+use Rattle.lra_resolution_spec.specs.ShownNames.{shown_names}
 
 abbrev is_zero : ℤ → List ℤ → Row
 is_zero c cs = record { kind = Eq; constant = c; coefficients = cs }

@@ -14,15 +14,15 @@ use Rattle.lra_show.specs.Part.{Generator, Part}
 use Rattle.lra_report.specs.Report.{Invariant, PointReport, Verdict, Report, IsSound}
 use Rattle.lra_show.specs.Rows.{Row}
 use Rattle.lra_report.specs.ReportText.{CallPlace, path_text}
-use Rattle.lra_meaning.specs.ShownNames.{shown_names}
+use Rattle.lra_resolution_spec.specs.ShownNames.{shown_names}
 use Rattle.lra_report.specs.Parts.{Tells}
 use Rattle.lra_syntax.specs.Trees.{FileTree}
 use Rattle.lra_syntax.specs.Labels.{Labelled, labels_of, label_at, label_place}
-use Rattle.lra_meaning.specs.Resolve.{resolve}
+use Rattle.lra_resolution_spec.specs.Resolve.{resolve}
 use Rattle.lra_program.specs.Sites.{Site, sites_of}
 use Rattle.lra_syntax.specs.Faults.{Language}
-use Rattle.lra_meaning.specs.Refuse.{Accepts}
-use Rattle.lra_meaning.specs.LiveNames.{globals_named, live_names}
+use Rattle.lra_resolution_spec.specs.Refuse.{Accepts}
+use Rattle.lra_resolution_spec.specs.LiveNames.{globals_named, live_names}
 use Rattle.lra_program.specs.Accesses.{op_accesses}
 use Rattle.lra_program.specs.Assertions.{assertions_from}
 use Rattle.lra_program.specs.Program.{Element}

@@ -7,11 +7,11 @@ use Rattle.lra_linear_spec.specs.LowestTerms.{IsPrimitive}
 use Rattle.lra_syntax.specs.Lexeme.{is_name_word}
 use Rattle.lra_syntax.specs.Trees.{FileTree}
 use Rattle.lra_syntax.specs.Labels.{labels_of}
-use Rattle.lra_meaning.specs.Resolve.{resolve}
+use Rattle.lra_resolution_spec.specs.Resolve.{resolve}
 use Rattle.lra_program.specs.Sites.{sites_of}
 use Rattle.lra_syntax.specs.Grammar.{Spells}
 use Rattle.lra_syntax.specs.Faults.{Language}
-use Rattle.lra_meaning.specs.Refuse.{Accepts}
+use Rattle.lra_resolution_spec.specs.Refuse.{Accepts}
 use Rattle.lra_options.specs.declared.options.Options.{Options}
 use Rattle.lra_show.specs.Part.{Generator, Part}
 use Rattle.lra_report.specs.Report.{PointReport, Report}
@@ -24,7 +24,7 @@ use Rattle.lra_show.specs.Texts.{is_turned}
 use Rattle.lra_report.specs.ReportText.{report_text}
 use Rattle.lra_report.specs.Parts.{DividesAs}
 use Rattle.lra_report.specs.Listing.{Lists, HasWidth, IsReportOf}
-use Rattle.lra_meaning.specs.LiveNames.{live_names, globals_named}
+use Rattle.lra_resolution_spec.specs.LiveNames.{live_names, globals_named}
 use Rattle.lra_report.specs.Rows.{IsRowInRange}
 
 -- the first coefficient of an equality that isn't 0 is above 0

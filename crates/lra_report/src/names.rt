@@ -2,7 +2,7 @@
 
 ghost use Rattle.std.specs.Prelude.{◌≡◌, ◌++◌, ◌∷◌, [], map, OnOk, IfOk, string_bytes, bytes_eq};
 ghost use Rattle.std.specs.List.{count_by};
-ghost use Rattle.lra_meaning.specs.ShownNames.{shown_name, shown_names};
+ghost use Rattle.lra_resolution_spec.specs.ShownNames.{shown_name, shown_names};
 
 use lra_show::Names;
 use std::alloc::{AllocError, Global};

@@ -5,7 +5,7 @@ use Rattle.std.proofs.lemmas.List.{length-map}
 use Rattle.std.proofs.lemmas.Result.{err_from_is_err_and}
 use Rattle.lra_linear_spec.specs.Polyhedra.{Polyhedron}
 use Rattle.lra_syntax.specs.Trees.{FileTree}
-use Rattle.lra_meaning.specs.Resolve.{resolve}
+use Rattle.lra_resolution_spec.specs.Resolve.{resolve}
 use Rattle.lra_program.specs.declared.program.GlobalVariable.{GlobalVariable}
 use Rattle.lra_program.specs.Sites.{Site}
 use Rattle.lra_operations.specs.Tree.{Node}

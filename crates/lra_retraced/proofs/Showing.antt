@@ -7,8 +7,8 @@ use Rattle.std.proofs.lemmas.Option.{slice_get-map}
 use Rattle.lra_linear_spec.specs.Polyhedra.{Polyhedron}
 use Rattle.lra_syntax.specs.Labels.{Labelled, labels_of}
 use Rattle.lra_syntax.specs.Trees.{FileTree}
-use Rattle.lra_meaning.specs.LiveNames.{globals_named}
-use Rattle.lra_meaning.specs.Resolve.{resolve}
+use Rattle.lra_resolution_spec.specs.LiveNames.{globals_named}
+use Rattle.lra_resolution_spec.specs.Resolve.{resolve}
 use Rattle.lra_program.specs.Sites.{Site, sites_of}
 use Rattle.lra_operations.specs.Tree.{Node}
 use Rattle.lra_options.specs.declared.options.Domain.TheVariants.{Poly}
@@ -16,7 +16,7 @@ use Rattle.lra_front.specs.Stages.{HasGraph}
 use Rattle.lra_report.specs.Listing.{AreListed, HasWidth}
 use Rattle.lra_report.specs.Parts.{HasSamePoints, Tells}
 use Rattle.lra_report.specs.Report.{Invariant, PointReport}
-use Rattle.lra_formed.proofs.Named.{shown_as_many}
+use Rattle.lra_resolution_sound.proofs.Named.{shown_as_many}
 use Rattle.lra_listing.specs.Given.{AreInvariants, state_of}
 use Rattle.lra_poly_domain.specs.Abstraction.{polyhedron_abstraction}
 use Rattle.lra_states.specs.Polyhedra.{shown_polyhedron}

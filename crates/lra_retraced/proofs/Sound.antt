@@ -3,7 +3,7 @@ use Rattle.std.proofs.Common.{◌≡◌, ◌∙◌, ℕ, List, [], ◌∷◌, le
 use Rattle.std.proofs.lemmas.Option.{same_Some}
 use Rattle.lra_linear_spec.specs.Polyhedra.{Polyhedron}
 use Rattle.lra_syntax.specs.Labels.{labels_of}
-use Rattle.lra_meaning.specs.LiveNames.{globals_named}
+use Rattle.lra_resolution_spec.specs.LiveNames.{globals_named}
 use Rattle.lra_program.specs.Run.{Point}
 use Rattle.lra_program.specs.Sites.{sites_of}
 use Rattle.lra_operations.specs.Agree.{point_of}

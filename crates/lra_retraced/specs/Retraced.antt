@@ -9,9 +9,9 @@ use Rattle.lra_linear_spec.specs.Polyhedra.{Polyhedron}
 use Rattle.lra_syntax.specs.Grammar.{Spells}
 use Rattle.lra_syntax.specs.Labels.{labels_of}
 use Rattle.lra_syntax.specs.Trees.{FileTree}
-use Rattle.lra_meaning.specs.LiveNames.{globals_named}
-use Rattle.lra_meaning.specs.Refuse.{Refuse}
-use Rattle.lra_meaning.specs.Resolve.{resolve}
+use Rattle.lra_resolution_spec.specs.LiveNames.{globals_named}
+use Rattle.lra_resolution_spec.specs.Refuse.{Refuse}
+use Rattle.lra_resolution_spec.specs.Resolve.{resolve}
 use Rattle.lra_program.specs.Program.{Program}
 use Rattle.lra_program.specs.Run.{Point, Fails}
 use Rattle.lra_program.specs.Sites.{Site, sites_of}

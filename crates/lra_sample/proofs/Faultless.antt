@@ -7,8 +7,8 @@ use Rattle.lra_syntax.specs.Trees.{ItemsTree}
 use Rattle.lra_syntax.specs.Functions.{functions_of}
 use Rattle.lra_syntax.specs.Labels.{items_labels}
 use Rattle.lra_syntax.specs.Reach.{called_names, calls_in, NotRecursive}
-use Rattle.lra_meaning.specs.Scope.{function_scope}
-use Rattle.lra_meaning.specs.NameFaults.{Around, items_faults, name_faults}
+use Rattle.lra_resolution_spec.specs.Scope.{function_scope}
+use Rattle.lra_resolution_spec.specs.NameFaults.{Around, items_faults, name_faults}
 use Rattle.lra_sample.specs.declared.block.Kind.{Kind}
 use Rattle.lra_sample.specs.declared.block.Kind.TheVariants.{Sum, Choice, Count, Input}
 use Rattle.lra_syntax.proofs.Lexemes.{behind, item_place}

@@ -12,7 +12,7 @@ use Rattle.lra_syntax.specs.declared.tokens.Kind.TheVariants.{Name, Number}
 use Rattle.lra_syntax.specs.Lexeme.{is_between, is_digit, is_word_byte, is_letter, digit_value, number_after}
 use Rattle.lra_syntax.specs.Lexeme.{decimal_base, octal, greatest_literal, greatest_int_literal, literal_type, number_word, word, name, literal_text}
 use Rattle.lra_syntax.proofs.LongestByTest.{is_lexeme, begins_gap}
-use Rattle.lra_meaning.specs.Scope.{Entry, Scope, found_of, scalar}
+use Rattle.lra_resolution_spec.specs.Scope.{SymbolEntry, Scope, found_of, scalar}
 use Rattle.lra_program.specs.Program.{Slot, local}
 use Rattle.lra_syntax.specs.Faults.{greatest_level}
 use Rattle.lra_syntax.proofs.Lexemes.{IsGood, IsRead, as_read}
@@ -242,8 +242,8 @@ numeral n l = elim (cases_lt n 10) [ inl small ↦ one_of n small | inr large �
 
 -- variables ----------------------------------------------------------------------------------------------------------
 
-abbrev long_entry : List ℕ → Entry
-long_entry w = record { name = w; meaning = scalar Long }
+abbrev long_entry : List ℕ → SymbolEntry
+long_entry w = record { name = w; binding = scalar Long }
 
 -- the four of a sample source
 abbrev pub four : Scope
@@ -256,7 +256,7 @@ four = record {
 pub record IsVariable (x : ℕ) : Type 0 where
   pub good : IsGood 118 (x ∷ []) (Name (118 ∷ x ∷ []))
   pub slot : Slot
-  pub known : found_of four (118 ∷ x ∷ []) ≡ Some (record { slot = slot; meaning = scalar Long })
+  pub known : found_of four (118 ∷ x ∷ []) ≡ Some (record { slot = slot; binding = scalar Long })
 
 pub variable : (n : ℕ) → n < 4 → IsVariable (48 + n)
 variable zero l = record { good = record { lexeme = word refl; spells = name refl refl refl; gapless = refl }; slot = local 0; known = refl }

@@ -8,7 +8,7 @@ use Rattle.std.specs.List.{flat_map, range_with_len}
 use Rattle.std.specs.Prelude.{codes}
 use Rattle.lra_syntax.specs.Grammar.{Spells}
 use Rattle.lra_base.specs.Places.{greatest_length}
-use Rattle.lra_meaning.specs.Refuse.{Accepts}
+use Rattle.lra_resolution_spec.specs.Refuse.{Accepts}
 use Rattle.lra_show.specs.Texts.{text_line}
 use Rattle.lra_sample.specs.Draws.{state_behind, draw}
 use Rattle.lra_sample.specs.Sample.{statements_text, kind_of, block_from, block_line, block_lines, sample_source}

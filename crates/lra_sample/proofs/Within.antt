@@ -10,9 +10,9 @@ use Rattle.lra_syntax.specs.Labels.{Labelled, labels_of}
 use Rattle.lra_program.specs.Program.{Call}
 use Rattle.lra_program.specs.Sites.{Event, comes, one_call_more, plain_site, live_after_items, items_events, greatest_calls}
 use Rattle.lra_program.specs.Sites.{call_events, events_of}
-use Rattle.lra_meaning.specs.Scope.{Scope}
-use Rattle.lra_meaning.specs.Resolve.{resolve_items, resolve}
-use Rattle.lra_meaning.specs.Refuse.{greatest_live, greatest_points, limit_fault}
+use Rattle.lra_resolution_spec.specs.Scope.{Scope}
+use Rattle.lra_resolution_spec.specs.Resolve.{resolve_items, resolve}
+use Rattle.lra_resolution_spec.specs.Refuse.{greatest_live, greatest_points, limit_fault}
 use Rattle.lra_sample.specs.declared.block.Kind.{Kind}
 use Rattle.lra_sample.specs.declared.block.Kind.TheVariants.{Sum, Choice, Count, Input}
 use Rattle.lra_syntax.proofs.Lexemes.{behind, item_place}

@@ -2,7 +2,7 @@
 use Rattle.std.specs.Prelude.{ℕ, ◌≤◌}
 use Rattle.lra_syntax.specs.Grammar.{Spells}
 use Rattle.lra_syntax.specs.Trees.{FileTree}
-use Rattle.lra_meaning.specs.Refuse.{Accepts}
+use Rattle.lra_resolution_spec.specs.Refuse.{Accepts}
 use Rattle.lra_sample.specs.Sample.{sample_source}
 
 -- with at most 400 blocks a source of any seed has a tree, and nothing refuses it

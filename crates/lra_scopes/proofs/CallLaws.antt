@@ -7,12 +7,12 @@ use Rattle.std.proofs.lemmas.List.{length-map}
 use Rattle.lra_syntax.specs.declared.trees.Call.{Call}
 use Rattle.lra_syntax.specs.Trees.{FunctionTree}
 use Rattle.lra_syntax.specs.Views.{expr_view, call_view}
-use Rattle.lra_meaning.specs.Scope.{Scope}
+use Rattle.lra_resolution_spec.specs.Scope.{Scope}
 use Rattle.lra_syntax.specs.Functions.{function_named}
-use Rattle.lra_meaning.specs.NameFaults.{called_faults, call_faults, expr_faults}
-use Rattle.lra_meaning.specs.Resolve.{resolve_expr}
+use Rattle.lra_resolution_spec.specs.NameFaults.{called_faults, call_faults, expr_faults}
+use Rattle.lra_resolution_spec.specs.Resolve.{resolve_expr}
 use Rattle.lra_scopes.specs.Calls.{argument_faults, resolve_argument}
-use Rattle.lra_scopes.proofs.Telling.{tells_front, tells_behind}
+use Rattle.lra_scopes.proofs.FirstFaults.{tells_front, tells_behind}
 
 pub code_call_faults : (F : List FunctionTree) (s : Scope) (c : Call) (used : Bool)
     → call_faults F s (call_view c) used

@@ -14,16 +14,16 @@ use Rattle.std.proofs.lemmas.Simd.{map-map}
 use Rattle.std.proofs.lemmas.List.{take_all}
 use Rattle.lra_syntax.specs.declared.trees.Factor.{Factor}
 use Rattle.lra_syntax.specs.declared.trees.Summand.{Summand}
-use Rattle.lra_scopes.proofs.Telling.{tells_front, tells_behind}
+use Rattle.lra_scopes.proofs.FirstFaults.{tells_front, tells_behind}
 use Rattle.lra_syntax.specs.Trees.{UnaryTree, TermTree, unary, ExprTree, term}
 use Rattle.lra_syntax.specs.Views.{further_factor, product, further_term, sum_of, unary_view, factor_view, term_view, summand_view, expr_view, unary_step, expr_step, factor_step, summand_step}
 use Rattle.lra_syntax.specs.Views.{term_step}
 use Rattle.lra_program.specs.Program as program
 use Rattle.lra_base.specs.Operators as operators
 use Rattle.lra_program.specs.ProgramViews.{chained}
-use Rattle.lra_meaning.specs.Scope.{Scope}
-use Rattle.lra_meaning.specs.NameFaults.{unary_faults, term_faults, expr_faults}
-use Rattle.lra_meaning.specs.Resolve.{resolve_unary, resolve_term, resolve_expr}
+use Rattle.lra_resolution_spec.specs.Scope.{Scope}
+use Rattle.lra_resolution_spec.specs.NameFaults.{unary_faults, term_faults, expr_faults}
+use Rattle.lra_resolution_spec.specs.Resolve.{resolve_unary, resolve_term, resolve_expr}
 use Rattle.lra_scopes.specs.Chains.{factor_operator, sum_operator, factor_faults, resolve_factor, summand_faults, resolve_summand}
 
 further_factor_faults : (s : Scope) (t : TermTree) (op : FactorOperator) (u : UnaryTree) → term_faults s (further_factor t op u) ≡ term_faults s t ++ unary_faults s u

@@ -20,11 +20,11 @@ use Rattle.lra_syntax.specs.Views.{all_tests, any_conjunction, negation_step, te
 use Rattle.lra_base.specs.OperatorViews.{comparison_view}
 use Rattle.lra_program.specs.Program as program
 use Rattle.lra_program.specs.ProgramViews as chain
-use Rattle.lra_meaning.specs.Scope.{Scope}
-use Rattle.lra_meaning.specs.NameFaults.{test_faults, conjunction_faults, cond_faults}
-use Rattle.lra_meaning.specs.Resolve.{resolve_test, all_of, any_of, resolve_cond}
+use Rattle.lra_resolution_spec.specs.Scope.{Scope}
+use Rattle.lra_resolution_spec.specs.NameFaults.{test_faults, conjunction_faults, cond_faults}
+use Rattle.lra_resolution_spec.specs.Resolve.{resolve_test, resolve_all_of, resolve_any_of, resolve_cond}
 use Rattle.lra_scopes.specs.Chains.{resolve_conjunction}
-use Rattle.lra_scopes.proofs.Telling.{tells_front, tells_behind}
+use Rattle.lra_scopes.proofs.FirstFaults.{tells_front, tells_behind}
 
 -- chains of `&&` -----------------------------------------------------------------------------------------------------
 
@@ -41,11 +41,11 @@ abbrev all_behind : List program.Cond → Option program.Cond → Option program
 all_behind [] d = d
 all_behind (c ∷ cs) d = Some (both_behind c (all_behind cs d))
 
-all_and : (s : Scope) (c : ConjunctionTree) (t : TestTree) (d : Option program.Cond) → all_of s (and c t) d ≡ all_of s c (Some (both_behind (resolve_test s t) d))
+all_and : (s : Scope) (c : ConjunctionTree) (t : TestTree) (d : Option program.Cond) → resolve_all_of s (and c t) d ≡ resolve_all_of s c (Some (both_behind (resolve_test s t) d))
 all_and s c t None = refl
 all_and s c t (Some d) = refl
 
-all_chain : (s : Scope) (c : ConjunctionTree) (ts : List TestTree) (d : Option program.Cond) → all_of s (all_tests c ts) d ≡ all_of s c (all_behind (map (resolve_test s) ts) d)
+all_chain : (s : Scope) (c : ConjunctionTree) (ts : List TestTree) (d : Option program.Cond) → resolve_all_of s (all_tests c ts) d ≡ resolve_all_of s c (all_behind (map (resolve_test s) ts) d)
 all_chain s c [] d = refl
 all_chain s c (t ∷ ts) d = all_chain s (and c t) ts d ∙ all_and s c t (all_behind (map (resolve_test s) ts) d)
 
@@ -53,7 +53,7 @@ all_at_end : (c : program.Cond) (cs : List program.Cond) → both_behind c (all_
 all_at_end c [] = refl
 all_at_end c (d ∷ ds) = ap (program.both_of c) (all_at_end d ds)
 
-all_first : (s : Scope) (t : TestTree) (d : Option program.Cond) → all_of s (test t) d ≡ both_behind (resolve_test s t) d
+all_first : (s : Scope) (t : TestTree) (d : Option program.Cond) → resolve_all_of s (test t) d ≡ both_behind (resolve_test s t) d
 all_first s t None = refl
 all_first s t (Some d) = refl
 
@@ -108,11 +108,12 @@ abbrev any_behind : List program.Cond → Option program.Cond → Option program
 any_behind [] d = d
 any_behind (c ∷ cs) d = Some (either_behind c (any_behind cs d))
 
-any_or : (s : Scope) (c : CondTree) (a : ConjunctionTree) (d : Option program.Cond) → any_of s (or c a) d ≡ any_of s c (Some (either_behind (resolve_conjunction s a) d))
+any_or : (s : Scope) (c : CondTree) (a : ConjunctionTree) (d : Option program.Cond) → resolve_any_of s (or c a) d ≡ resolve_any_of s c (Some (either_behind (resolve_conjunction s a) d))
 any_or s c a None = refl
 any_or s c a (Some d) = refl
 
-any_chain : (s : Scope) (c : CondTree) (bs : List ConjunctionTree) (d : Option program.Cond) → any_of s (any_conjunction c bs) d ≡ any_of s c (any_behind (map (resolve_conjunction s) bs) d)
+any_chain : (s : Scope) (c : CondTree) (bs : List ConjunctionTree) (d : Option program.Cond) →
+    resolve_any_of s (any_conjunction c bs) d ≡ resolve_any_of s c (any_behind (map (resolve_conjunction s) bs) d)
 any_chain s c [] d = refl
 any_chain s c (a ∷ bs) d = any_chain s (or c a) bs d ∙ any_or s c a (any_behind (map (resolve_conjunction s) bs) d)
 
@@ -120,7 +121,7 @@ any_at_end : (c : program.Cond) (cs : List program.Cond) → either_behind c (an
 any_at_end c [] = refl
 any_at_end c (d ∷ ds) = ap (program.either_of c) (any_at_end d ds)
 
-any_first : (s : Scope) (a : ConjunctionTree) (d : Option program.Cond) → any_of s (conjunction a) d ≡ either_behind (resolve_conjunction s a) d
+any_first : (s : Scope) (a : ConjunctionTree) (d : Option program.Cond) → resolve_any_of s (conjunction a) d ≡ either_behind (resolve_conjunction s a) d
 any_first s a None = refl
 any_first s a (Some d) = refl
 

@@ -1,5 +1,5 @@
 -- Errors that tell the first fault.
-pub mod Telling
+pub mod FirstFaults
 -- Loops over the parts of a chain.
 pub mod Loops
 -- Chains of operators.

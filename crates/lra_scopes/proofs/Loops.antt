@@ -6,19 +6,20 @@ use Rattle.std.proofs.lemmas.List.{map_push, map_more, take_all, at_drop_more, a
 use Rattle.lra_base.specs.declared.refusals.Refusal.{Refusal}
 use Rattle.lra_base.specs.declared.error.SourceError.{SourceError}
 use Rattle.lra_base.specs.declared.error.SourceError.TheVariants.{Memory}
-use Rattle.lra_scopes.specs.Outcome.{Tells, TellsOf}
-use Rattle.lra_scopes.proofs.Telling.{tells_front, tells_behind, exit_tells, exit_tells_all, parts_tell}
+use Rattle.lra_scopes.specs.Outcome.{IsFirstFault, StopsAtFirstFault}
+use Rattle.lra_scopes.proofs.FirstFaults.{tells_front, tells_behind, exit_tells, exit_tells_all, parts_tell}
 
 -- an exit for want of memory
-pub memory_told : {T : Type 0} (whole : List Refusal) (r : Result T SourceError) → IsErrAnd r (λ y. y ≡ Memory) → TellsOf whole r
+pub memory_told : {T : Type 0} (whole : List Refusal) (r : Result T SourceError) → IsErrAnd r (λ y. y ≡ Memory) → StopsAtFirstFault whole r
 memory_told whole r is = exit_tells whole r Memory is (tt {0})
 
 -- an exit by an error that wants memory
-pub wanting_told : {T : Type 0} (whole : List Refusal) (r : Result T SourceError) (e : SourceError) → e ≡ Memory → IsErrAnd r (λ y. y ≡ e) → TellsOf whole r
-wanting_told whole r e m is = let t : Tells whole e = rw m (tt {0}) in exit_tells whole r e is t
+pub wanting_told : {T : Type 0} (whole : List Refusal) (r : Result T SourceError) (e : SourceError) → e ≡ Memory → IsErrAnd r (λ y. y ≡ e) →
+    StopsAtFirstFault whole r
+wanting_told whole r e m is = let t : IsFirstFault whole e = rw m (tt {0}) in exit_tells whole r e is t
 
 -- a result that is handed on, of a call that fails for want of memory alone
-pub made_told : {T : Type 0} (whole : List Refusal) (r : Result T SourceError) → whole ≡ [] → IfErr r (λ y. y ≡ Memory) → TellsOf whole r
+pub made_told : {T : Type 0} (whole : List Refusal) (r : Result T SourceError) → whole ≡ [] → IfErr r (λ y. y ≡ Memory) → StopsAtFirstFault whole r
 made_told whole (Ok v) clean wants = clean
 made_told whole (Err e) clean wants = rw wants (tt {0})
 
@@ -29,22 +30,22 @@ found_so (Err x) view a b e h = tt {0}
 
 -- the same of all that may come behind a part
 pub memory_told_all : {T X : Type 0} (faults : X → List Refusal) (r : Result T SourceError)
-    → IsErrAnd r (λ y. y ≡ Memory) → IfErr r (λ y. (rest : X) → Tells (faults rest) y)
+    → IsErrAnd r (λ y. y ≡ Memory) → IfErr r (λ y. (rest : X) → IsFirstFault (faults rest) y)
 memory_told_all faults r is = exit_tells_all faults r Memory is (λ _. tt {0})
 
 -- an exit by the error of the only part
 pub only_told : {T : Type 0} (whole a : List Refusal) (r : Result T SourceError) (e : SourceError)
-    → whole ≡ a → IsErrAnd r (λ y. y ≡ e) → Tells a e → TellsOf whole r
+    → whole ≡ a → IsErrAnd r (λ y. y ≡ e) → IsFirstFault a e → StopsAtFirstFault whole r
 only_told whole a r e only is h = exit_tells whole r e is (rw only h)
 
 -- an exit by the error of the first part
 pub first_told : {T : Type 0} (whole a b : List Refusal) (r : Result T SourceError) (e : SourceError)
-    → whole ≡ a ++ b → IsErrAnd r (λ y. y ≡ e) → Tells a e → TellsOf whole r
+    → whole ≡ a ++ b → IsErrAnd r (λ y. y ≡ e) → IsFirstFault a e → StopsAtFirstFault whole r
 first_told whole a b r e split is h = let t = tells_front a b e h in exit_tells whole r e is (rw split t)
 
 -- an exit by the error of the second part
 pub second_told : {T : Type 0} (whole a b : List Refusal) (r : Result T SourceError) (e : SourceError)
-    → whole ≡ a ++ b → a ≡ [] → IsErrAnd r (λ y. y ≡ e) → Tells b e → TellsOf whole r
+    → whole ≡ a ++ b → a ≡ [] → IsErrAnd r (λ y. y ≡ e) → IsFirstFault b e → StopsAtFirstFault whole r
 second_told whole a b r e split clean is h = let t = tells_behind a b e clean h in exit_tells whole r e is (rw split t)
 
 -- two parts without faults
@@ -53,7 +54,7 @@ both_clean whole a b split clean h = split ∙ rw (clean, h)
 
 -- an exit by the error of a part in the loop
 pub part_told : {T X : Type 0} (F : X → List Refusal) (xs : List X) (i : ℕ) (x : X) (whole : List Refusal) (r : Result T SourceError) (e : SourceError)
-    → i < length xs → x ≡ get_or xs i x → whole ≡ flat_map F (drop i xs) → IsErrAnd r (λ y. y ≡ e) → Tells (F x) e → TellsOf whole r
+    → i < length xs → x ≡ get_or xs i x → whole ≡ flat_map F (drop i xs) → IsErrAnd r (λ y. y ≡ e) → IsFirstFault (F x) e → StopsAtFirstFault whole r
 part_told F xs i x whole r e h item clean is t = exit_tells whole r e is (parts_tell F xs i x whole e h item clean t)
 
 -- the end of the loop

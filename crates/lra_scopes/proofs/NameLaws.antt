@@ -8,7 +8,7 @@ use Rattle.std.proofs.lemmas.Bool.Decides.{nat_tests}
 use Rattle.std.proofs.lemmas.List.{length-map}
 use Rattle.std.proofs.lemmas.Slice.Eq.{bytes_eq-Decides}
 use Rattle.indexmap.specs.IndexMap.{IndexMap, get_by_text}
-use Rattle.lra_meaning.specs.Scope.{newest, newest_from}
+use Rattle.lra_resolution_spec.specs.Scope.{newest, newest_from}
 use Rattle.lra_scopes.specs.declared.names.Declared.{Declared}
 use Rattle.lra_scopes.specs.Names.{words_of, Hide, IsIndexed}
 

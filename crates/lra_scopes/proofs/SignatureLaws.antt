@@ -7,7 +7,7 @@ use Rattle.std.proofs.lemmas.Slice.Eq.{bytes_eq-Decides}
 use Rattle.indexmap.specs.IndexMap.{IndexMap, get_by_text}
 use Rattle.lra_syntax.specs.Trees.{FunctionTree}
 use Rattle.lra_syntax.specs.Functions.{is_named, function_named}
-use Rattle.lra_meaning.specs.Resolve.{function_place}
+use Rattle.lra_resolution_spec.specs.Resolve.{function_place}
 use Rattle.lra_scopes.specs.declared.signatures.Signature.{Signature}
 use Rattle.lra_scopes.proofs.NameLaws.{same_words}
 use Rattle.lra_scopes.specs.Signatures.{signature_at, named_signature, first_signature}

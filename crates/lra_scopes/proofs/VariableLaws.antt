@@ -7,10 +7,10 @@ use Rattle.std.specs.Option.{option_copied}
 use Rattle.std.specs.Slice.{IsItemAt}
 use Rattle.std.proofs.lemmas.Option.{same_Some, slice_get_past, slice_get_read}
 use Rattle.lra_program.specs.Program.{Slot}
-use Rattle.lra_meaning.specs.Scope as scope
-use Rattle.lra_meaning.specs.Scope.{Entry, Meaning, Found, names_in, found_at, width_of, width_of_all}
+use Rattle.lra_resolution_spec.specs.Scope as scope
+use Rattle.lra_resolution_spec.specs.Scope.{SymbolEntry, Binding, Lookup, names_in, found_at, width_of, width_of_all}
 use Rattle.lra_scopes.specs.declared.variables.Placed.{Placed}
-use Rattle.lra_scopes.specs.Meanings.{meaning_view}
+use Rattle.lra_scopes.specs.Bindings.{binding_view}
 use Rattle.lra_scopes.specs.Variables.{entries_of, AreCounted, placed_view}
 
 pub entries_named : (xs : List (List ℕ)) (ps : List Placed) → length ps ≡ length xs → names_in (entries_of xs ps) ≡ xs
@@ -24,21 +24,21 @@ entries_length (x ∷ xs) [] e = absurd cc
 entries_length (x ∷ xs) (p ∷ ps) e = let f : length ps ≡ length xs = omega (arith, e) in ap suc (entries_length xs ps f)
 
 pub entries_push : (xs : List (List ℕ)) (ps : List Placed) (x : List ℕ) (p : Placed) → length ps ≡ length xs
-    → entries_of (xs ++ x ∷ []) (ps ++ p ∷ []) ≡ entries_of xs ps ++ record { name = x; meaning = meaning_view p.meaning } ∷ []
+    → entries_of (xs ++ x ∷ []) (ps ++ p ∷ []) ≡ entries_of xs ps ++ record { name = x; binding = binding_view p.meaning } ∷ []
 entries_push [] [] x p e = refl
 entries_push [] (q ∷ qs) x p e = absurd cc
 entries_push (y ∷ ys) [] x p e = absurd cc
 entries_push (y ∷ ys) (q ∷ qs) x p e =
     let f : length qs ≡ length ys = omega (arith, e) in
-    ap (λ (l : List Entry). record { name = y; meaning = meaning_view q.meaning } ∷ l) (entries_push ys qs x p f)
+    ap (λ (l : List SymbolEntry). record { name = y; binding = binding_view q.meaning } ∷ l) (entries_push ys qs x p f)
 
 pub entries_take : (n : ℕ) (xs : List (List ℕ)) (ps : List Placed) → entries_of (take n xs) (take n ps) ≡ take n (entries_of xs ps)
 entries_take zero xs ps = refl
 entries_take (suc n) [] ps = refl
 entries_take (suc n) (x ∷ xs) [] = refl
-entries_take (suc n) (x ∷ xs) (p ∷ ps) = ap (λ (l : List Entry). record { name = x; meaning = meaning_view p.meaning } ∷ l) (entries_take n xs ps)
+entries_take (suc n) (x ∷ xs) (p ∷ ps) = ap (λ (l : List SymbolEntry). record { name = x; binding = binding_view p.meaning } ∷ l) (entries_take n xs ps)
 
-one_at_most : (m : Meaning) → width_of m ≤ 1
+one_at_most : (m : Binding) → width_of m ≤ 1
 one_at_most (scope.scalar t) = omega arith
 one_at_most (scope.array a) = omega arith
 
@@ -49,14 +49,14 @@ none_left (x ∷ xs) = refl
 -- how many scalars are before each ---------------------------------------------------------------------------------------
 
 -- of what stands behind so many scalars
-abbrev seen_at : (ℕ → Slot) → ℕ → List Entry → ℕ → Option Found
-seen_at slot n es k = option_map (λ (e : Entry). record { slot = slot (n + width_of_all (take k es)); meaning = e.meaning }) (slice_get es k)
+abbrev seen_at : (ℕ → Slot) → ℕ → List SymbolEntry → ℕ → Option Lookup
+seen_at slot n es k = option_map (λ (e : SymbolEntry). record { slot = slot (n + width_of_all (take k es)); binding = e.binding }) (slice_get es k)
 
-seen_behind : (slot : ℕ → Slot) (n w k : ℕ) (es : List Entry) → seen_at slot (n + w) es k
-    ≡ option_map (λ (e : Entry). record { slot = slot (n + (w + width_of_all (take k es))); meaning = e.meaning }) (slice_get es k)
+seen_behind : (slot : ℕ → Slot) (n w k : ℕ) (es : List SymbolEntry) → seen_at slot (n + w) es k
+    ≡ option_map (λ (e : SymbolEntry). record { slot = slot (n + (w + width_of_all (take k es))); binding = e.binding }) (slice_get es k)
 seen_behind slot n w k es =
     let same : n + w + width_of_all (take k es) ≡ n + (w + width_of_all (take k es)) = omega arith in
-    ap (λ (i : ℕ). option_map (λ (e : Entry). record { slot = slot i; meaning = e.meaning }) (slice_get es k)) same
+    ap (λ (i : ℕ). option_map (λ (e : SymbolEntry). record { slot = slot i; binding = e.binding }) (slice_get es k)) same
 
 placed_at : (slot : ℕ → Slot) (n : ℕ) (xs : List (List ℕ)) (ps : List Placed) (k : ℕ) → length ps ≡ length xs → AreCounted n ps
     → option_map (placed_view slot) (slice_get ps k) ≡ seen_at slot n (entries_of xs ps) k
@@ -65,11 +65,11 @@ placed_at slot n [] (p ∷ ps) k e counted = absurd cc
 placed_at slot n (x ∷ xs) [] k e counted = absurd cc
 placed_at slot n (x ∷ xs) (p ∷ ps) zero e counted =
     let here : p.scalars ≡ n + 0 = omega (arith, counted.0) in
-    ap (λ (i : ℕ). Some (record { slot = slot i; meaning = meaning_view p.meaning })) here
+    ap (λ (i : ℕ). Some (record { slot = slot i; binding = binding_view p.meaning })) here
 placed_at slot n (x ∷ xs) (p ∷ ps) (suc k) e counted =
     let f : length ps ≡ length xs = omega (arith, e) in
-    placed_at slot (n + width_of (meaning_view p.meaning)) xs ps k f counted.1
-    ∙ seen_behind slot n (width_of (meaning_view p.meaning)) k (entries_of xs ps)
+    placed_at slot (n + width_of (binding_view p.meaning)) xs ps k f counted.1
+    ∙ seen_behind slot n (width_of (binding_view p.meaning)) k (entries_of xs ps)
 
 -- what is found at a place
 pub entry_found : (slot : ℕ → Slot) (xs : List (List ℕ)) (ps : List Placed) (k : ℕ) → length ps ≡ length xs → AreCounted 0 ps
@@ -77,7 +77,7 @@ pub entry_found : (slot : ℕ → Slot) (xs : List (List ℕ)) (ps : List Placed
 entry_found slot xs ps k e counted =
     let es = entries_of xs ps in
     let none : 0 + width_of_all (take k es) ≡ width_of_all (take k es) = omega arith in
-    placed_at slot 0 xs ps k e counted ∙ ap (λ (i : ℕ). option_map (λ (x : Entry). record { slot = slot i; meaning = x.meaning }) (slice_get es k)) none
+    placed_at slot 0 xs ps k e counted ∙ ap (λ (i : ℕ). option_map (λ (x : SymbolEntry). record { slot = slot i; binding = x.binding }) (slice_get es k)) none
 
 -- what a slice lends
 pub lent_item : {X : Type 0} (xs : List X) (i : ℕ) (r : Option (Bor X)) → IsItemAt xs i r → option_copied r ≡ slice_get xs i
@@ -97,7 +97,7 @@ counted_push n [] [] p e counted is = let here : p.scalars ≡ n = omega (arith,
 counted_push n [] (q ∷ qs) p e counted is = absurd cc
 counted_push n (y ∷ ys) [] p e counted is = absurd cc
 counted_push n (y ∷ ys) (q ∷ qs) p e counted is =
-    let w = width_of (meaning_view q.meaning) in
+    let w = width_of (binding_view q.meaning) in
     let f : length qs ≡ length ys = omega (arith, e) in
     let next : p.scalars ≡ n + w + width_of_all (entries_of ys qs) = omega (arith, is) in
     (counted.0, counted_push (n + w) ys qs p f counted.1 next)
@@ -105,27 +105,27 @@ counted_push n (y ∷ ys) (q ∷ qs) p e counted is =
 pub counted_take : (k n : ℕ) (ps : List Placed) → AreCounted n ps → AreCounted n (take k ps)
 counted_take zero n ps counted = tt {0}
 counted_take (suc k) n [] counted = tt {0}
-counted_take (suc k) n (p ∷ ps) counted = (counted.0, counted_take k (n + width_of (meaning_view p.meaning)) ps counted.1)
+counted_take (suc k) n (p ∷ ps) counted = (counted.0, counted_take k (n + width_of (binding_view p.meaning)) ps counted.1)
 
 -- all scalars are those before the last, and it
 counted_last : (n k : ℕ) (xs : List (List ℕ)) (ps : List Placed) (p : Placed) → length ps ≡ length xs → AreCounted n ps → suc k ≡ length ps
-    → slice_get ps k ≡ Some p → p.scalars + width_of (meaning_view p.meaning) ≡ n + width_of_all (entries_of xs ps)
+    → slice_get ps k ≡ Some p → p.scalars + width_of (binding_view p.meaning) ≡ n + width_of_all (entries_of xs ps)
 counted_last n k xs [] p e counted is last = absurd cc
 counted_last n k [] (q ∷ qs) p e counted is last = absurd cc
 counted_last n zero (y ∷ ys) (q ∷ []) p e counted is last =
     let same : q ≡ p = same_Some q p last in
-    let all : q.scalars + width_of (meaning_view q.meaning) ≡ n + (width_of (meaning_view q.meaning) + 0) = omega (arith, counted.0) in
-    ap (λ (r : Placed). r.scalars + width_of (meaning_view r.meaning)) (sym same) ∙ rw (none_left ys) all
+    let all : q.scalars + width_of (binding_view q.meaning) ≡ n + (width_of (binding_view q.meaning) + 0) = omega (arith, counted.0) in
+    ap (λ (r : Placed). r.scalars + width_of (binding_view r.meaning)) (sym same) ∙ rw (none_left ys) all
 counted_last n zero (y ∷ ys) (q ∷ r ∷ rs) p e counted is last = absurd cc
 counted_last n (suc k) (y ∷ ys) (q ∷ qs) p e counted is last =
-    let w = width_of (meaning_view q.meaning) in
+    let w = width_of (binding_view q.meaning) in
     let f : length qs ≡ length ys = omega (arith, e) in
     let g : suc k ≡ length qs = omega (arith, is) in
     let all : n + w + width_of_all (entries_of ys qs) ≡ n + (w + width_of_all (entries_of ys qs)) = omega arith in
     counted_last (n + w) k ys qs p f counted.1 g last ∙ all
 
 pub all_scalars : (xs : List (List ℕ)) (ps : List Placed) (p : Placed) → length ps ≡ length xs → AreCounted 0 ps → slice_get ps (length ps - 1) ≡ Some p
-    → p.scalars + width_of (meaning_view p.meaning) ≡ width_of_all (entries_of xs ps)
+    → p.scalars + width_of (binding_view p.meaning) ≡ width_of_all (entries_of xs ps)
 all_scalars xs [] p e counted last = absurd cc
 all_scalars xs (q ∷ qs) p e counted last =
     let there : suc (length (q ∷ qs) - 1) ≡ length (q ∷ qs) = omega arith in
@@ -135,4 +135,4 @@ all_scalars xs (q ∷ qs) p e counted last =
 pub scalars_within : (xs : List (List ℕ)) (ps : List Placed) → width_of_all (entries_of xs ps) ≤ length ps
 scalars_within [] ps = omega arith
 scalars_within (x ∷ xs) [] = omega arith
-scalars_within (x ∷ xs) (p ∷ ps) = let h = scalars_within xs ps in let one = one_at_most (meaning_view p.meaning) in omega arith
+scalars_within (x ∷ xs) (p ∷ ps) = let h = scalars_within xs ps in let one = one_at_most (binding_view p.meaning) in omega arith

@@ -5,11 +5,11 @@ use Rattle.lra_syntax.specs.declared.trees.ExternalDeclaration.{ExternalDeclarat
 use Rattle.lra_syntax.specs.declared.trees.Expr.{Expr}
 use Rattle.lra_syntax.specs.Views.{external_view, expr_view}
 use Rattle.lra_syntax.specs.Trees.{FunctionTree}
-use Rattle.lra_meaning.specs.Scope.{Scope}
+use Rattle.lra_resolution_spec.specs.Scope.{Scope}
 use Rattle.lra_syntax.specs.Functions.{functions_in}
-use Rattle.lra_meaning.specs.NameFaults.{expr_faults}
+use Rattle.lra_resolution_spec.specs.NameFaults.{expr_faults}
 use Rattle.lra_program.specs.Program as program
-use Rattle.lra_meaning.specs.Resolve.{resolve_expr}
+use Rattle.lra_resolution_spec.specs.Resolve.{resolve_expr}
 
 -- in text order
 abbrev pub functions_at : List ExternalDeclaration → List FunctionTree

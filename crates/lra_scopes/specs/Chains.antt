@@ -8,9 +8,9 @@ use Rattle.lra_syntax.specs.declared.trees.SumOperator.TheVariants as sum
 use Rattle.lra_syntax.specs.Trees.{UnaryTree, TermTree, ConjunctionTree}
 use Rattle.lra_program.specs.Program as program
 use Rattle.lra_base.specs.Operators as operators
-use Rattle.lra_meaning.specs.Scope.{Scope}
-use Rattle.lra_meaning.specs.NameFaults.{unary_faults, term_faults}
-use Rattle.lra_meaning.specs.Resolve.{resolve_unary, resolve_term, all_of}
+use Rattle.lra_resolution_spec.specs.Scope.{Scope}
+use Rattle.lra_resolution_spec.specs.NameFaults.{unary_faults, term_faults}
+use Rattle.lra_resolution_spec.specs.Resolve.{resolve_unary, resolve_term, resolve_all_of}
 
 abbrev pub factor_operator : FactorOperator → operators.Operator
 factor_operator factor.Times = operators.times
@@ -35,4 +35,4 @@ resolve_summand s f = (sum_operator f.0, resolve_term s f.1)
 
 -- a chain of `&&`, with nothing behind it
 abbrev pub resolve_conjunction : Scope → ConjunctionTree → program.Cond
-resolve_conjunction s c = all_of s c None
+resolve_conjunction s c = resolve_all_of s c None

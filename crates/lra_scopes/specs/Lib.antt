@@ -1,7 +1,7 @@
 -- What an answer tells of the faults of a part.
 pub mod Outcome
 pub mod Names
-pub mod Meanings
+pub mod Bindings
 pub mod Variables
 pub mod Scopes
 pub mod Chains

@@ -2,7 +2,7 @@
 use Rattle.std.specs.Prelude.{◌≡◌, ℕ, List, [], ◌∷◌, ◌++◌, map, String, ⊤}
 use Rattle.std.specs.declared.alloc.Global.{Global}
 use Rattle.indexmap.specs.IndexMap.{IndexMap, get_by_text}
-use Rattle.lra_meaning.specs.Scope.{newest}
+use Rattle.lra_resolution_spec.specs.Scope.{newest}
 use Rattle.lra_scopes.specs.declared.names.Declared.{Declared}
 
 abbrev pub words_of : List Declared → List (List ℕ)

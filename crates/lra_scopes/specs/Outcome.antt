@@ -10,10 +10,10 @@ first_fault [] = None
 first_fault (r ∷ rs) = Some r
 
 -- the error is the first of these faults, or wants memory
-abbrev pub Tells : List Refusal → SourceError → Type 0
-Tells faults (Refused r) = first_fault faults ≡ Some r
-Tells faults Memory = ⊤
+abbrev pub IsFirstFault : List Refusal → SourceError → Type 0
+IsFirstFault faults (Refused r) = first_fault faults ≡ Some r
+IsFirstFault faults Memory = ⊤
 
-abbrev pub TellsOf : {T : Type 0} → List Refusal → Result T SourceError → Type 0
-TellsOf faults (Ok v) = faults ≡ []
-TellsOf faults (Err e) = Tells faults e
+abbrev pub StopsAtFirstFault : {T : Type 0} → List Refusal → Result T SourceError → Type 0
+StopsAtFirstFault faults (Ok v) = faults ≡ []
+StopsAtFirstFault faults (Err e) = IsFirstFault faults e

@@ -1,21 +1,21 @@
 -- Scalars and arrays, by their names and what these mean.
 use Rattle.std.specs.Prelude.{◌≡◌, ◌+◌, ℕ, List, [], ◌∷◌, ⊤}
 use Rattle.lra_program.specs.Program.{Slot}
-use Rattle.lra_meaning.specs.Scope.{Entry, Found, width_of}
+use Rattle.lra_resolution_spec.specs.Scope.{SymbolEntry, Lookup, width_of}
 use Rattle.lra_scopes.specs.declared.variables.Placed.{Placed}
-use Rattle.lra_scopes.specs.Meanings.{meaning_view}
+use Rattle.lra_scopes.specs.Bindings.{binding_view}
 
 -- a meaning for each name
-abbrev pub entries_of : List (List ℕ) → List Placed → List Entry
+abbrev pub entries_of : List (List ℕ) → List Placed → List SymbolEntry
 entries_of [] ps = []
 entries_of (x ∷ xs) [] = []
-entries_of (x ∷ xs) (p ∷ ps) = record { name = x; meaning = meaning_view p.meaning } ∷ entries_of xs ps
+entries_of (x ∷ xs) (p ∷ ps) = record { name = x; binding = binding_view p.meaning } ∷ entries_of xs ps
 
 -- behind so many scalars, each has the number of those before it
 abbrev pub AreCounted : ℕ → List Placed → Type 0
 AreCounted n [] = ⊤
-AreCounted n (p ∷ ps) = (p.scalars ≡ n) × AreCounted (n + width_of (meaning_view p.meaning)) ps
+AreCounted n (p ∷ ps) = (p.scalars ≡ n) × AreCounted (n + width_of (binding_view p.meaning)) ps
 
 -- what is found, where these are locals or globals
-abbrev pub placed_view : (ℕ → Slot) → Placed → Found
-placed_view slot p = record { slot = slot p.scalars; meaning = meaning_view p.meaning }
+abbrev pub placed_view : (ℕ → Slot) → Placed → Lookup
+placed_view slot p = record { slot = slot p.scalars; binding = binding_view p.meaning }

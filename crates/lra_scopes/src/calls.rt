@@ -9,12 +9,14 @@ ghost use Rattle.lra_syntax.specs.Views.{step_view, expr_view as tree_expr_view,
 ghost use Rattle.lra_syntax.specs.Views.{rvalue_view as tree_rvalue_view, assign_view};
 ghost use Rattle.lra_program.specs.ProgramViews.{variable_view, expr_view, call_view, rvalue_view, given_view, stmt_view};
 ghost use Rattle.lra_syntax.specs.Functions.{function_named};
-ghost use Rattle.lra_meaning.specs.NameFaults.{use_faults, expr_faults, called_faults, call_faults, rvalue_faults};
-ghost use Rattle.lra_meaning.specs.NameFaults.{given_faults, assign_faults};
-ghost use Rattle.lra_meaning.specs.Resolve.{variable, function_place, resolve_expr, resolve_call, resolve_rvalue};
-ghost use Rattle.lra_meaning.specs.Resolve.{resolve_given, resolve_assign, step_operator};
+ghost use Rattle.lra_resolution_spec.specs.NameFaults.{use_faults, expr_faults, called_faults, call_faults};
+ghost use Rattle.lra_resolution_spec.specs.NameFaults.{rvalue_faults};
+ghost use Rattle.lra_resolution_spec.specs.NameFaults.{given_faults, assign_faults};
+ghost use Rattle.lra_resolution_spec.specs.Resolve.{variable, function_place, resolve_expr, resolve_call};
+ghost use Rattle.lra_resolution_spec.specs.Resolve.{resolve_rvalue};
+ghost use Rattle.lra_resolution_spec.specs.Resolve.{resolve_given, resolve_assign, step_operator};
 ghost use Rattle.lra_scopes.specs.Calls.{functions_at, argument_faults, resolve_argument};
-ghost use Rattle.lra_scopes.specs.Outcome.{TellsOf};
+ghost use Rattle.lra_scopes.specs.Outcome.{StopsAtFirstFault};
 
 use crate::errors::refuse;
 use crate::expressions::{resolve_element, resolve_expr, resolve_variable};
@@ -39,7 +41,8 @@ fn resolve_called(
     count: usize,
     used: bool,
 ) -> Result<usize, SourceError>
-    ensures told { TellsOf (called_faults (function_named (functions_at functions.now) name.now.word) name.now count
+    ensures told { StopsAtFirstFault
+        (called_faults (function_named (functions_at functions.now) name.now.word) name.now count
         used) result }
     ensures found { IfOk result (λ p. p ≡ function_place (functions_at functions.now) name.now.word) }
 {
@@ -60,7 +63,7 @@ fn resolve_arguments(
     scope: &Scope,
     arguments: &[Expr],
 ) -> Result<Vec<lra_program::Expr>, SourceError>
-    ensures told { TellsOf (flat_map (argument_faults scope.now) arguments.now) result }
+    ensures told { StopsAtFirstFault (flat_map (argument_faults scope.now) arguments.now) result }
     ensures found { IfOk result (λ v. map expr_view v.items ≡ map (resolve_argument scope.now) arguments.now) }
 {
     let mut values = Vec::new(alloc);
@@ -83,7 +86,8 @@ pub fn resolve_call(
     call: &Call,
     used: bool,
 ) -> Result<lra_program::Call, SourceError>
-    ensures told { TellsOf (call_faults (functions_at functions.now) scope.now (tree_call_view call.now) used) result }
+    ensures told { StopsAtFirstFault (call_faults (functions_at functions.now) scope.now (tree_call_view call.now) used)
+        result }
     ensures found { IfOk result (λ c. call_view c ≡ resolve_call (functions_at functions.now) scope.now label
         (tree_call_view call.now)) }
 {
@@ -108,7 +112,8 @@ pub fn resolve_rvalue(
     label: usize,
     rvalue: &Rvalue,
 ) -> Result<lra_program::Rvalue, SourceError>
-    ensures told { TellsOf (rvalue_faults (functions_at functions.now) scope.now (tree_rvalue_view rvalue.now)) result }
+    ensures told { StopsAtFirstFault
+        (rvalue_faults (functions_at functions.now) scope.now (tree_rvalue_view rvalue.now)) result }
     ensures found { IfOk result (λ e. rvalue_view e ≡ resolve_rvalue (functions_at functions.now) scope.now label
         (tree_rvalue_view rvalue.now)) }
 {
@@ -134,7 +139,7 @@ pub fn resolve_given(
     label: usize,
     rvalue: &Option<Rvalue>,
 ) -> Result<Option<lra_program::Rvalue>, SourceError>
-    ensures told { TellsOf (given_faults (functions_at functions.now) scope.now
+    ensures told { StopsAtFirstFault (given_faults (functions_at functions.now) scope.now
         (option_map tree_rvalue_view rvalue.now)) result }
     ensures found { IfOk result (λ e. given_view e ≡ resolve_given (functions_at functions.now) scope.now label
         (option_map tree_rvalue_view rvalue.now)) }
@@ -191,7 +196,7 @@ fn build_step(
 }
 
 /// `x = e`
-#[tactic(auto, using(crate::proofs::Telling::telling_rules))]
+#[tactic(auto, using(crate::proofs::FirstFaults::telling_rules))]
 fn resolve_set(
     alloc: Global,
     functions: &Functions<'_>,
@@ -200,7 +205,7 @@ fn resolve_set(
     x: &Identifier,
     rvalue: &Rvalue,
 ) -> Result<lra_program::Stmt, SourceError>
-    ensures told { TellsOf (use_faults scope.now x.now ++ rvalue_faults (functions_at functions.now) scope.now
+    ensures told { StopsAtFirstFault (use_faults scope.now x.now ++ rvalue_faults (functions_at functions.now) scope.now
         (tree_rvalue_view rvalue.now)) result }
     ensures found { IfOk result (λ s. stmt_view s ≡ assign_stmt label (variable scope.now x.now)
         (resolve_rvalue (functions_at functions.now) scope.now label (tree_rvalue_view rvalue.now))) }
@@ -211,7 +216,7 @@ fn resolve_set(
 }
 
 /// `x op= e`
-#[tactic(auto, using(crate::proofs::Telling::telling_rules))]
+#[tactic(auto, using(crate::proofs::FirstFaults::telling_rules))]
 fn resolve_update(
     alloc: Global,
     scope: &Scope,
@@ -220,7 +225,8 @@ fn resolve_update(
     operator: Operator,
     expr: &Expr,
 ) -> Result<lra_program::Stmt, SourceError>
-    ensures told { TellsOf (use_faults scope.now x.now ++ expr_faults scope.now (tree_expr_view expr.now)) result }
+    ensures told { StopsAtFirstFault (use_faults scope.now x.now ++ expr_faults scope.now (tree_expr_view expr.now))
+        result }
     ensures found { IfOk result (λ s. stmt_view s ≡ assign_stmt label (variable scope.now x.now)
         (value (binary (operator_view operator) (read (variable scope.now x.now))
         (resolve_expr scope.now (tree_expr_view expr.now))))) }
@@ -239,7 +245,7 @@ fn resolve_increment(
     x: &Identifier,
     step: Step,
 ) -> Result<lra_program::Stmt, SourceError>
-    ensures told { TellsOf (use_faults scope.now x.now) result }
+    ensures told { StopsAtFirstFault (use_faults scope.now x.now) result }
     ensures found { IfOk result (λ s. stmt_view s ≡ assign_stmt label (variable scope.now x.now)
         (value (binary (step_operator (step_view step)) (read (variable scope.now x.now)) (literal Int 1)))) }
 {
@@ -259,7 +265,8 @@ pub fn resolve_assign(
     label: usize,
     assign: &Assign,
 ) -> Result<lra_program::Stmt, SourceError>
-    ensures told { TellsOf (assign_faults (functions_at functions.now) scope.now (assign_view assign.now)) result }
+    ensures told { StopsAtFirstFault (assign_faults (functions_at functions.now) scope.now (assign_view assign.now))
+        result }
     ensures found { IfOk result (λ s. stmt_view s ≡ resolve_assign (functions_at functions.now) scope.now label
         (assign_view assign.now)) }
 {

@@ -6,10 +6,10 @@ ghost use Rattle.lra_syntax.specs.Trees.{compare};
 ghost use Rattle.lra_syntax.specs.Views.{expr_view, negation_view, test_view, conjunction_view};
 ghost use Rattle.lra_syntax.specs.Views.{cond_view as tree_cond_view};
 ghost use Rattle.lra_program.specs.ProgramViews.{cond_view, all_of, any_of};
-ghost use Rattle.lra_meaning.specs.NameFaults.{negation_faults, test_faults, conjunction_faults, cond_faults};
-ghost use Rattle.lra_meaning.specs.Resolve.{resolve_negation, resolve_test, resolve_cond};
+ghost use Rattle.lra_resolution_spec.specs.NameFaults.{negation_faults, test_faults, conjunction_faults, cond_faults};
+ghost use Rattle.lra_resolution_spec.specs.Resolve.{resolve_negation, resolve_test, resolve_cond};
 ghost use Rattle.lra_scopes.specs.Chains.{resolve_conjunction};
-ghost use Rattle.lra_scopes.specs.Outcome.{TellsOf};
+ghost use Rattle.lra_scopes.specs.Outcome.{StopsAtFirstFault};
 
 use crate::expressions::{resolve_expr, resolve_unary};
 use crate::scopes::Scope;
@@ -57,7 +57,7 @@ fn resolve_comparison(
     comparison: Comparison,
     right: &Expr,
 ) -> Result<lra_program::Cond, SourceError>
-    ensures told { TellsOf (test_faults scope.now
+    ensures told { StopsAtFirstFault (test_faults scope.now
         (compare (expr_view left.now) (comparison_view comparison) (expr_view right.now))) result }
     ensures found { IfOk result (λ c. cond_view c ≡ resolve_test scope.now
         (compare (expr_view left.now) (comparison_view comparison) (expr_view right.now))) }
@@ -73,7 +73,8 @@ fn resolve_negation(
     scope: &Scope,
     negation: &Negation,
 ) -> Result<lra_program::Cond, SourceError>
-    ensures told { TellsOf (negation_faults scope.now (negation_view negation.now)) result }
+    ensures told { StopsAtFirstFault (negation_faults scope.now (negation_view negation.now))
+        result }
     ensures found { IfOk result (λ c. cond_view c ≡ resolve_negation scope.now (negation_view negation.now)) }
 {
     match negation {
@@ -91,7 +92,7 @@ fn resolve_negation(
 
 #[cycle(condition)]
 fn resolve_test(alloc: Global, scope: &Scope, test: &Test) -> Result<lra_program::Cond, SourceError>
-    ensures told { TellsOf (test_faults scope.now (test_view test.now)) result }
+    ensures told { StopsAtFirstFault (test_faults scope.now (test_view test.now)) result }
     ensures found { IfOk result (λ c. cond_view c ≡ resolve_test scope.now (test_view test.now)) }
 {
     match test {
@@ -117,7 +118,7 @@ fn resolve_conjunction(
     scope: &Scope,
     conjunction: &Conjunction,
 ) -> Result<lra_program::Cond, SourceError>
-    ensures told { TellsOf (conjunction_faults scope.now (conjunction_view conjunction.now)) result }
+    ensures told { StopsAtFirstFault (conjunction_faults scope.now (conjunction_view conjunction.now)) result }
     ensures found { IfOk result (λ c. cond_view c ≡ resolve_conjunction scope.now (conjunction_view conjunction.now)) }
 {
     let first = resolve_test(alloc, scope, &conjunction.first)?;
@@ -139,7 +140,7 @@ pub fn resolve_cond(
     scope: &Scope,
     cond: &Cond,
 ) -> Result<lra_program::Cond, SourceError>
-    ensures told { TellsOf (cond_faults scope.now (tree_cond_view cond.now)) result }
+    ensures told { StopsAtFirstFault (cond_faults scope.now (tree_cond_view cond.now)) result }
     ensures found { IfOk result (λ c. cond_view c ≡ resolve_cond scope.now (tree_cond_view cond.now)) }
 {
     let first = resolve_conjunction(alloc, scope, &cond.first)?;

@@ -4,15 +4,16 @@ ghost use Rattle.std.specs.Prelude.{◌≡◌, ◌++◌, map, IfOk, IfErr, flat_
 ghost use Rattle.lra_base.specs.OperatorViews.{operator_view};
 ghost use Rattle.lra_syntax.specs.Views.{unary_view, term_view, factor_view, summand_view, expr_view as tree_expr_view};
 ghost use Rattle.lra_program.specs.ProgramViews.{variable_view, expr_view, element_view, operation_view, chained};
-ghost use Rattle.lra_meaning.specs.NameFaults.{use_faults, named_faults, unary_faults, term_faults, expr_faults};
-ghost use Rattle.lra_meaning.specs.Resolve.{variable, array_named, resolve_unary, resolve_term, resolve_expr};
-ghost use Rattle.lra_meaning.specs.Resolve.{resolve_element};
+ghost use Rattle.lra_resolution_spec.specs.NameFaults.{use_faults, named_faults, unary_faults, term_faults};
+ghost use Rattle.lra_resolution_spec.specs.NameFaults.{expr_faults};
+ghost use Rattle.lra_resolution_spec.specs.Resolve.{variable, array_named, resolve_unary, resolve_term, resolve_expr};
+ghost use Rattle.lra_resolution_spec.specs.Resolve.{resolve_element};
 ghost use Rattle.lra_scopes.specs.Chains.{factor_operator, sum_operator, factor_faults, resolve_factor, summand_faults};
 ghost use Rattle.lra_scopes.specs.Chains.{resolve_summand};
-ghost use Rattle.lra_scopes.specs.Outcome.{TellsOf};
+ghost use Rattle.lra_scopes.specs.Outcome.{StopsAtFirstFault};
 
+use crate::bindings::Binding;
 use crate::errors::refuse;
-use crate::meanings::Meaning;
 use crate::scopes::Scope;
 use lra_base::{Cause, Operator, SourceError};
 use lra_program::{Array, Element, Operation, Variable};
@@ -22,16 +23,16 @@ use std::alloc::Global;
 /// The scalar that a name means, with its type; `UnknownName` where nothing in scope has the name, `NotArray` where an
 /// array has it.
 pub fn resolve_variable(scope: &Scope, x: &Identifier) -> Result<Variable, SourceError>
-    ensures told { TellsOf (use_faults scope.now x.now) result }
+    ensures told { StopsAtFirstFault (use_faults scope.now x.now) result }
     ensures found { IfOk result (λ v. variable_view v ≡ variable scope.now x.now) }
 {
     match scope.find(&x.word) {
         Some(found) => match found.meaning {
-            Meaning::Scalar(number_type) => Ok(Variable {
+            Binding::Scalar(number_type) => Ok(Variable {
                 slot: found.slot,
                 number_type,
             }),
-            Meaning::Array(_) => refuse(Cause::NotArray, x.place),
+            Binding::Array(_) => refuse(Cause::NotArray, x.place),
         },
         None => refuse(Cause::UnknownName, x.place),
     }
@@ -39,13 +40,13 @@ pub fn resolve_variable(scope: &Scope, x: &Identifier) -> Result<Variable, Sourc
 
 /// The array that a name means; `UnknownName` where nothing in scope has the name, `NotArray` where a scalar has it.
 fn resolve_array(scope: &Scope, x: &Identifier) -> Result<Array, SourceError>
-    ensures told { TellsOf (named_faults scope.now x.now) result }
+    ensures told { StopsAtFirstFault (named_faults scope.now x.now) result }
     ensures found { IfOk result (λ a. a ≡ array_named scope.now x.now) }
 {
     match scope.find(&x.word) {
         Some(found) => match found.meaning {
-            Meaning::Scalar(_) => refuse(Cause::NotArray, x.place),
-            Meaning::Array(array) => Ok(array),
+            Binding::Scalar(_) => refuse(Cause::NotArray, x.place),
+            Binding::Array(array) => Ok(array),
         },
         None => refuse(Cause::UnknownName, x.place),
     }
@@ -95,7 +96,7 @@ pub fn resolve_unary(
     scope: &Scope,
     unary: &Unary,
 ) -> Result<lra_program::Expr, SourceError>
-    ensures told { TellsOf (unary_faults scope.now (unary_view unary.now)) result }
+    ensures told { StopsAtFirstFault (unary_faults scope.now (unary_view unary.now)) result }
     ensures found { IfOk result (λ e. expr_view e ≡ resolve_unary scope.now (unary_view unary.now)) }
 {
     match unary {
@@ -122,7 +123,7 @@ pub fn resolve_unary(
 
 #[cycle(expression)]
 fn resolve_factor(alloc: Global, scope: &Scope, factor: &Factor) -> Result<Operation, SourceError>
-    ensures told { TellsOf (factor_faults scope.now (factor_view factor.now)) result }
+    ensures told { StopsAtFirstFault (factor_faults scope.now (factor_view factor.now)) result }
     ensures found { IfOk result (λ o. operation_view o ≡ resolve_factor scope.now (factor_view factor.now)) }
 {
     let operand = resolve_unary(alloc, scope, &factor.unary)?;
@@ -136,7 +137,7 @@ fn resolve_summand(
     scope: &Scope,
     summand: &Summand,
 ) -> Result<Operation, SourceError>
-    ensures told { TellsOf (summand_faults scope.now (summand_view summand.now)) result }
+    ensures told { StopsAtFirstFault (summand_faults scope.now (summand_view summand.now)) result }
     ensures found { IfOk result (λ o. operation_view o ≡ resolve_summand scope.now (summand_view summand.now)) }
 {
     let operand = resolve_term(alloc, scope, &summand.term)?;
@@ -147,7 +148,7 @@ fn resolve_summand(
 #[cycle(expression)]
 #[tactic(auto, using(crate::proofs::ChainLaws::term_rules))]
 fn resolve_term(alloc: Global, scope: &Scope, term: &Term) -> Result<lra_program::Expr, SourceError>
-    ensures told { TellsOf (term_faults scope.now (term_view term.now)) result }
+    ensures told { StopsAtFirstFault (term_faults scope.now (term_view term.now)) result }
     ensures found { IfOk result (λ e. expr_view e ≡ resolve_term scope.now (term_view term.now)) }
 {
     let first = resolve_unary(alloc, scope, &term.first)?;
@@ -169,7 +170,7 @@ pub fn resolve_expr(
     scope: &Scope,
     expr: &Expr,
 ) -> Result<lra_program::Expr, SourceError>
-    ensures told { TellsOf (expr_faults scope.now (tree_expr_view expr.now)) result }
+    ensures told { StopsAtFirstFault (expr_faults scope.now (tree_expr_view expr.now)) result }
     ensures found { IfOk result (λ e. expr_view e ≡ resolve_expr scope.now (tree_expr_view expr.now)) }
 {
     let first = resolve_term(alloc, scope, &expr.first)?;
@@ -184,14 +185,14 @@ pub fn resolve_expr(
 /// An element: the array's name, then the index.
 ///
 /// `UnknownName` or `NotArray` at the first name at fault, `Memory` where memory runs out.
-#[tactic(auto, using(crate::proofs::Telling::telling_rules))]
+#[tactic(auto, using(crate::proofs::FirstFaults::telling_rules))]
 pub fn resolve_element(
     alloc: Global,
     scope: &Scope,
     x: &Identifier,
     index: &Expr,
 ) -> Result<Element, SourceError>
-    ensures told { TellsOf (named_faults scope.now x.now
+    ensures told { StopsAtFirstFault (named_faults scope.now x.now
         ++ expr_faults scope.now (tree_expr_view index.now)) result }
     ensures found { IfOk result (λ e. element_view e
         ≡ resolve_element scope.now x.now (tree_expr_view index.now)) }

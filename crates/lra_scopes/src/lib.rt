@@ -2,21 +2,21 @@
 //! conditions, calls and assignments resolved in a scope, or their first fault of names.
 #![tactic(auto)]
 
+mod bindings;
 mod calls;
 mod conditions;
 mod errors;
 mod expressions;
-mod meanings;
 mod names;
 mod scopes;
 mod signatures;
 mod variables;
 
+pub use bindings::{Binding, build_array};
 pub use calls::{resolve_assign, resolve_call, resolve_given};
 pub use conditions::resolve_cond;
 pub use errors::refuse;
 pub use expressions::resolve_expr;
-pub use meanings::{Meaning, build_array};
 pub use names::Names;
 pub use scopes::Scope;
 pub use signatures::{Functions, Signature};

@@ -4,7 +4,7 @@ ghost use Rattle.std.specs.Prelude.{◌≡◌, ◌≤◌, ◌-◌, ◌++◌, ◌
 ghost use Rattle.std.specs.Prelude.{IsSome, IfOk, IfErr};
 ghost use Rattle.std.specs.List.{list_any};
 ghost use Rattle.indexmap.specs.IndexMap.{get_by_text};
-ghost use Rattle.lra_meaning.specs.Scope.{newest};
+ghost use Rattle.lra_resolution_spec.specs.Scope.{newest};
 
 use indexmap::IndexMap;
 use lra_syntax::Word;

@@ -1,11 +1,11 @@
 //! Scopes: the scalars and arrays that can be named, oldest first.
 
 ghost use Rattle.std.specs.Prelude.{◌≡◌, ◌∷◌, ◌++◌, [], length, option_map, IfOk};
-ghost use Rattle.lra_meaning.specs.Scope.{found_of, is_declared, with_local, inner};
-ghost use Rattle.lra_scopes.specs.Meanings.{meaning_view, found_view};
+ghost use Rattle.lra_resolution_spec.specs.Scope.{found_of, is_declared, with_local, inner};
+ghost use Rattle.lra_scopes.specs.Bindings.{binding_view, lookup_view};
 ghost use Rattle.lra_scopes.specs.Scopes.{left_to};
 
-use crate::meanings::{Found, Meaning};
+use crate::bindings::{Binding, Lookup};
 use crate::variables::Variables;
 use lra_program::Slot;
 use lra_syntax::Word;
@@ -31,7 +31,7 @@ impl Drop for Scope {
 }
 
 impl Model for Scope {
-    ghost use Rattle.lra_meaning.specs.Scope.{Scope};
+    ghost use Rattle.lra_resolution_spec.specs.Scope.{Scope};
 
     ghost Value = { Scope };
 
@@ -40,16 +40,16 @@ impl Model for Scope {
 
 impl Scope {
     /// What the name means.
-    pub fn find(&self, name: &Word) -> Option<Found>
-        ensures { option_map found_view result ≡ found_of self.now name.now }
+    pub fn find(&self, name: &Word) -> Option<Lookup>
+        ensures { option_map lookup_view result ≡ found_of self.now name.now }
     {
         match self.locals.find(name) {
-            Some(placed) => Some(Found {
+            Some(placed) => Some(Lookup {
                 slot: Slot::Local(placed.scalars),
                 meaning: placed.meaning,
             }),
             None => match self.globals.find(name) {
-                Some(placed) => Some(Found {
+                Some(placed) => Some(Lookup {
                     slot: Slot::Global(placed.scalars),
                     meaning: placed.meaning,
                 }),
@@ -63,10 +63,10 @@ impl Scope {
         &mut self,
         alloc: Global,
         name: &Word,
-        meaning: Meaning,
+        meaning: Binding,
     ) -> Result<(), AllocError>
         ensures { IfOk result (λ _. self.new ≡
-            with_local self.old (record { name = name.now; meaning = meaning_view meaning })) }
+            with_local self.old (record { name = name.now; binding = binding_view meaning })) }
     {
         self.locals.push(alloc, name, meaning)
     }
@@ -123,11 +123,11 @@ impl Scope {
         &mut self,
         alloc: Global,
         name: &Word,
-        meaning: Meaning,
+        meaning: Binding,
     ) -> Result<(), AllocError>
         ensures { IfOk result (λ _. self.new ≡ record {
           globals = self.old.globals
-              ++ record { name = name.now; meaning = meaning_view meaning } ∷ [];
+              ++ record { name = name.now; binding = binding_view meaning } ∷ [];
           locals = self.old.locals;
           outer = self.old.outer;
         }) }

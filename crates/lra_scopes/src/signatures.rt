@@ -5,7 +5,7 @@ ghost use Rattle.std.specs.Option.{option_or};
 ghost use Rattle.indexmap.specs.IndexMap.{get_by_text};
 ghost use Rattle.lra_syntax.specs.Views.{function_view};
 ghost use Rattle.lra_syntax.specs.Functions.{function_named};
-ghost use Rattle.lra_meaning.specs.Resolve.{function_place};
+ghost use Rattle.lra_resolution_spec.specs.Resolve.{function_place};
 ghost use Rattle.lra_scopes.specs.Calls.{functions_at};
 ghost use Rattle.lra_scopes.specs.Signatures.{signature_at, named_signature};
 

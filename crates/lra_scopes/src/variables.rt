@@ -3,11 +3,11 @@
 ghost use Rattle.std.specs.Prelude.{◌≡◌, ◌++◌, ◌∷◌, [], ℕ, length, take, drop, bytes_eq, option_map, IfOk};
 ghost use Rattle.std.specs.List.{list_any};
 ghost use Rattle.lra_program.specs.Program.{Slot};
-ghost use Rattle.lra_meaning.specs.Scope.{names_in, found_among, width_of_all};
-ghost use Rattle.lra_scopes.specs.Meanings.{meaning_view};
+ghost use Rattle.lra_resolution_spec.specs.Scope.{names_in, found_among, width_of_all};
+ghost use Rattle.lra_scopes.specs.Bindings.{binding_view};
 ghost use Rattle.lra_scopes.specs.Variables.{placed_view};
 
-use crate::meanings::Meaning;
+use crate::bindings::Binding;
 use crate::names::Names;
 use lra_syntax::Word;
 use std::alloc::{AllocError, Global};
@@ -17,7 +17,7 @@ use std::marker::Model;
 #[derive(Clone, Copy)]
 pub struct Placed {
     pub scalars: usize,
-    pub meaning: Meaning,
+    pub meaning: Binding,
 }
 
 /// Scalars and arrays in the order of their declarations, each found by its name.
@@ -38,10 +38,10 @@ impl Drop for Variables {
 
 impl Model for Variables {
     ghost use Rattle.std.specs.Prelude.{◌≡◌, length, List};
-    ghost use Rattle.lra_meaning.specs.Scope.{Entry};
+    ghost use Rattle.lra_resolution_spec.specs.Scope.{SymbolEntry};
     ghost use Rattle.lra_scopes.specs.Variables.{entries_of, AreCounted};
 
-    ghost Value = { List Entry };
+    ghost Value = { List SymbolEntry };
 
     ghost view = { λ v. entries_of v.names v.placed.items };
 
@@ -96,9 +96,9 @@ impl Variables {
     }
 
     /// One more. It hides the older ones of its name.
-    pub fn push(&mut self, alloc: Global, name: &Word, meaning: Meaning) -> Result<(), AllocError>
+    pub fn push(&mut self, alloc: Global, name: &Word, meaning: Binding) -> Result<(), AllocError>
         ensures { IfOk result (λ _. self.new
-            ≡ self.old ++ record { name = name.now; meaning = meaning_view meaning } ∷ []) }
+            ≡ self.old ++ record { name = name.now; binding = binding_view meaning } ∷ []) }
     {
         let scalars = self.count_scalars();
         self.placed.reserve(1)?;

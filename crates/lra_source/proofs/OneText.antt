@@ -1,6 +1,6 @@
 -- Two answers to one source that have the same text are the same report.
 use Rattle.lra_syntax.specs.Grammar.{Spells}
-use Rattle.lra_meaning.specs.Refuse.{OneAnswer}
+use Rattle.lra_resolution_spec.specs.Refuse.{OneAnswer}
 use Rattle.lra_report.proofs.SourceTexts.{one_source}
 use Rattle.lra_source.specs.Claims.{OneAnsweredText}
 

@@ -4,14 +4,14 @@ use Rattle.std.specs.Prelude.{slice_get, option_map}
 use Rattle.std.specs.List.{AllByRecursion}
 use Rattle.lra_syntax.specs.Trees.{FileTree}
 use Rattle.lra_syntax.specs.Labels.{Labelled, labels_of}
-use Rattle.lra_meaning.specs.Resolve.{resolve}
+use Rattle.lra_resolution_spec.specs.Resolve.{resolve}
 use Rattle.lra_program.specs.Sites.{Site, sites_of}
 use Rattle.lra_report.specs.Report.{Invariant, PointReport, Report}
-use Rattle.lra_meaning.specs.ShownNames.{shown_names}
+use Rattle.lra_resolution_spec.specs.ShownNames.{shown_names}
 use Rattle.lra_report.specs.Listing.{HasWidth, AreListed, Lists}
-use Rattle.lra_meaning.specs.LiveNames.{live_names, globals_named}
+use Rattle.lra_resolution_spec.specs.LiveNames.{live_names, globals_named}
 use Rattle.lra_report.specs.Spelled.{IsSpelledPart, IsReadablePart, IsReadablePoint, IsSmallFlag, IsReadable}
-use Rattle.lra_formed.proofs.Named.{shown_as_many}
+use Rattle.lra_resolution_sound.proofs.Named.{shown_as_many}
 use Rattle.lra_options.specs.declared.options.Domain.{Domain}
 use Rattle.lra_options.specs.declared.options.Options.{Options}
 use Rattle.lra_states.specs.Canonical.{IsCanonicalState}

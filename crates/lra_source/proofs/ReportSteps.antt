@@ -18,12 +18,12 @@ use Rattle.lra_syntax.specs.Trees.{FileTree}
 use Rattle.lra_operations.specs.Tree.{Node}
 use Rattle.lra_syntax.specs.Labels.{Labelled, labels_of}
 use Rattle.lra_program.specs.Sites.{Site, Event, comes, one_call_more, events_of, event_sites, sites_of}
-use Rattle.lra_meaning.specs.Resolve.{resolve}
+use Rattle.lra_resolution_spec.specs.Resolve.{resolve}
 use Rattle.lra_options.specs.declared.options.Domain.{Domain}
 use Rattle.lra_options.specs.declared.options.Options.{Options}
 use Rattle.lra_report.specs.Report.{Invariant, Report}
 use Rattle.lra_report.specs.Listing.{Lists}
-use Rattle.lra_meaning.specs.Refuse.{greatest_live, greatest_points, limit_fault}
+use Rattle.lra_resolution_spec.specs.Refuse.{greatest_live, greatest_points, limit_fault}
 use Rattle.lra_domain.specs.Abstraction.{Abstraction}
 use Rattle.lra_domain.specs.Laws.{Laws}
 use Rattle.lra_flow.specs.Room.{most_live}

@@ -12,7 +12,7 @@ use Rattle.lra_base.specs.declared.refusals.Place.{Place}
 use Rattle.lra_program.specs.Accesses.{AccessesOutOfBounds}
 use Rattle.lra_program.specs.Overflow.{Overflows}
 use Rattle.lra_program.specs.Run.{At, Fails}
-use Rattle.lra_meaning.specs.Resolve.{resolve}
+use Rattle.lra_resolution_spec.specs.Resolve.{resolve}
 use Rattle.lra_program.specs.Sites.{Site, sites_of}
 use Rattle.lra_operations.specs.Agree.{point_of, Agrees}
 use Rattle.lra_operations.specs.CheckedOperations.{computing_ops, accessing_ops}
@@ -21,14 +21,14 @@ use Rattle.lra_options.specs.declared.options.Domain.{Domain}
 use Rattle.lra_options.specs.declared.options.Options.{Options}
 use Rattle.lra_report.specs.Report.{Invariant, Holds, PointReport, Verdict, Report, IsInvariant, IsRight, IsSound}
 use Rattle.lra_report.specs.Parts.{Tells}
-use Rattle.lra_meaning.specs.Refuse.{Accepts}
+use Rattle.lra_resolution_spec.specs.Refuse.{Accepts}
 use Rattle.lra_report.specs.declared.verdict_kinds.VerdictKind.{VerdictKind}
 use Rattle.lra_report.specs.declared.verdict_kinds.VerdictKind.TheVariants.{Assertion, Fit}
 use Rattle.lra_report.specs.VerdictKinds.{Breaks}
 use Rattle.lra_report.specs.Listing.{AreListed, Subject, subject, subjects_of, fits_asked, computes_at, computing_from, accesses_at, accesses_from, subjects}
 use Rattle.lra_report.specs.Listing.{Lists, IsFlag, AreParts, IsReportOf}
 use Rattle.lra_program.specs.Assertions.{assertions_from}
-use Rattle.lra_meaning.specs.LiveNames.{globals_named}
+use Rattle.lra_resolution_spec.specs.LiveNames.{globals_named}
 use Rattle.lra_flow.specs.Plan.{plan_of}
 use Rattle.lra_flow.specs.Operations.{dropping}
 use Rattle.lra_flow.specs.Fits.{OpFits, JudgesIf}
@@ -41,7 +41,7 @@ use Rattle.lra_source.specs.Analysed.{IsAnalysed}
 use Rattle.lra_source.proofs.Numbering.{numbered}
 use Rattle.lra_iter.proofs.Counting.{iteration_fails_once}
 use Rattle.lra_source.proofs.Flags.{IsBelow, graph_below, iteration_below}
-use Rattle.lra_formed.proofs.Named.{shown_as_many}
+use Rattle.lra_resolution_sound.proofs.Named.{shown_as_many}
 use Rattle.lra_source.proofs.Handing.{as_many, contained, one_access, one_told, value_dims}
 use Rattle.lra_source.proofs.Found.{flagged_below}
 use Rattle.lra_source.proofs.Sound.{value_there, proved_holds, IsListed, listed_all, IsOn, judged_all}

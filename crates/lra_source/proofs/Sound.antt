@@ -13,8 +13,8 @@ use Rattle.lra_report.specs.Report.{PointReport, Verdict}
 use Rattle.lra_syntax.specs.Labels.{Labelled}
 use Rattle.lra_program.specs.Sites.{Site, sites_of}
 use Rattle.lra_operations.specs.Agree.{point_of, Agrees}
-use Rattle.lra_meaning.specs.ShownNames.{shown_names}
-use Rattle.lra_meaning.specs.LiveNames.{live_names}
+use Rattle.lra_resolution_spec.specs.ShownNames.{shown_names}
+use Rattle.lra_resolution_spec.specs.LiveNames.{live_names}
 use Rattle.lra_report.specs.Listing.{Subject, access_subjects, accesses_from, computing_from, AreListed, AreJudged}
 use Rattle.lra_program.specs.Assertions.{assertions_from}
 use Rattle.lra_flow.specs.Plan.{Plan}

@@ -4,7 +4,7 @@ use Rattle.lra_syntax.specs.Trees.{FileTree}
 use Rattle.lra_syntax.specs.Grammar.{Spells}
 use Rattle.lra_options.specs.declared.options.Options.{Options}
 use Rattle.lra_report.specs.Report.{Invariant, Report}
-use Rattle.lra_meaning.specs.Refuse.{Accepts}
+use Rattle.lra_resolution_spec.specs.Refuse.{Accepts}
 use Rattle.lra_domain.specs.Abstraction.{Abstraction}
 use Rattle.lra_domain.specs.Laws.{Laws}
 use Rattle.lra_front.specs.Stages.{HasConstants, HasTree}

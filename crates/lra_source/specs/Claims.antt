@@ -6,12 +6,12 @@ use Rattle.lra_operations.specs.Tree.{Node}
 use Rattle.lra_options.specs.declared.options.Options.{Options}
 use Rattle.lra_report.specs.Report.{Invariant, Report, IsSound}
 use Rattle.lra_report.specs.ReportText.{report_text}
-use Rattle.lra_meaning.specs.Resolve.{resolve}
+use Rattle.lra_resolution_spec.specs.Resolve.{resolve}
 use Rattle.lra_program.specs.Sites.{sites_of}
 use Rattle.lra_operations.specs.Agree.{IsInlinedTree, Agrees}
 use Rattle.lra_program.specs.WellFormed.{IsWellFormed}
 use Rattle.lra_syntax.specs.Grammar.{Spells}
-use Rattle.lra_meaning.specs.Refuse.{Accepts}
+use Rattle.lra_resolution_spec.specs.Refuse.{Accepts}
 use Rattle.lra_report.specs.Listing.{Lists, IsReportOf}
 use Rattle.lra_outcomes.specs.Fits.{TreeFits}
 use Rattle.lra_iter.specs.Numbers.{AreBelow, IsNumbered}

@@ -2,16 +2,16 @@
 use Rattle.std.specs.Prelude.{◌≡◌, ℕ, ℤ, List, [], map, Bool, false, None}
 use Rattle.lra_base.specs.declared.refusals.Place.{Place}
 use Rattle.lra_syntax.specs.Trees.{FileTree}
-use Rattle.lra_meaning.specs.NameFaults.{name_faults}
+use Rattle.lra_resolution_spec.specs.NameFaults.{name_faults}
 use Rattle.lra_syntax.specs.Labels.{labels_of}
-use Rattle.lra_meaning.specs.Resolve.{resolve}
+use Rattle.lra_resolution_spec.specs.Resolve.{resolve}
 use Rattle.lra_program.specs.Sites.{events_of}
 use Rattle.lra_operations.specs.Agree.{Agrees}
 use Rattle.lra_options.specs.declared.options.Options.{Options}
 use Rattle.lra_report.specs.Report.{Invariant, PointReport, Report}
 use Rattle.lra_report.specs.Listing.{Lists}
 use Rattle.lra_listing.specs.Given.{told_all, told_of}
-use Rattle.lra_meaning.specs.Refuse.{limit_fault}
+use Rattle.lra_resolution_spec.specs.Refuse.{limit_fault}
 use Rattle.lra_syntax.specs.Reach.{NotRecursive}
 use Rattle.lra_report.specs.Spelled.{IsReadable}
 use Rattle.lra_domain.specs.Abstraction.{Abstraction}

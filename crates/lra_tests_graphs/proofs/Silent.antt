@@ -18,7 +18,7 @@ use Rattle.lra_listing.specs.Given.{AreInside}
 use Rattle.lra_flow.proofs.OneTree.{one_tree}
 use Rattle.lra_linear_spec.proofs.Membership.{contains_none}
 use Rattle.lra_syntax.specs.Trees.{FileTree}
-use Rattle.lra_meaning.specs.Resolve.{resolve}
+use Rattle.lra_resolution_spec.specs.Resolve.{resolve}
 use Rattle.lra_program.specs.Sites.{Site}
 use Rattle.std.proofs.lemmas.Option.{none-some}
 use Rattle.std.specs.Prelude.{IsTrue, nat_lt}

@@ -3,15 +3,15 @@
 ghost use Rattle.std.specs.Prelude.{◌≡◌, IfOk};
 ghost use Rattle.lra_syntax.specs.Views.{tree_view};
 ghost use Rattle.lra_syntax.specs.Labels.{labels_of};
-ghost use Rattle.lra_meaning.specs.Resolve.{resolve};
+ghost use Rattle.lra_resolution_spec.specs.Resolve.{resolve};
 ghost use Rattle.lra_program.specs.ProgramViews.{program_view};
 ghost use Rattle.lra_program.specs.WellFormed.{IsWellFormed};
-ghost use Rattle.lra_formed.specs.Literals.{HasSmallLiterals};
+ghost use Rattle.lra_resolution_sound.specs.Literals.{HasSmallLiterals};
 
 use lra_base::{Cause, GREATEST_LENGTH, Place, Refusal, SourceError};
 use lra_lex::tokens;
-use lra_names::{Resolution, resolve};
 use lra_parse::parse;
+use lra_resolve::{Resolution, resolve};
 use lra_syntax::TranslationUnit;
 use std::alloc::Global;
 

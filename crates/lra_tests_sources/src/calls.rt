@@ -1,9 +1,9 @@
 //! The first recursive call of small sources, by hand.
 
 use lra_base::{NumberType, Place, SourceError};
-use lra_calls::first_recursive;
 use lra_program::{BlockItems, Program};
-use lra_simple::Labelling;
+use lra_recursion::first_recursive;
+use lra_resolve_simple::Labelling;
 use lra_syntax::{
     Block, ExternalDeclaration, Function, Identifier, Parameters, TranslationUnit, Word,
 };

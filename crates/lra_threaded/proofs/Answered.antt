@@ -6,9 +6,9 @@ use Rattle.std.proofs.lemmas.Option.{get_or_from_slice_get, same_Some, slice_get
 use Rattle.std.proofs.lemmas.List.{length-map}
 use Rattle.lra_syntax.specs.Grammar.{Spells}
 use Rattle.lra_syntax.specs.Trees.{FileTree}
-use Rattle.lra_meaning.specs.RefuseThreads.{AcceptsThreads}
-use Rattle.lra_meaning.specs.Resolve.{resolved_functions}
-use Rattle.lra_meaning.specs.Threads.{thread_places, thread_program}
+use Rattle.lra_resolution_spec.specs.RefuseThreads.{AcceptsThreads}
+use Rattle.lra_resolution_spec.specs.Resolve.{resolved_functions}
+use Rattle.lra_resolution_spec.specs.Threads.{thread_places, thread_program}
 use Rattle.lra_program.specs.Program.{Function, Program}
 use Rattle.lra_program.specs.ProgramViews.{function_or, program_view}
 use Rattle.lra_program.specs.declared.program.GlobalVariable.{GlobalVariable}

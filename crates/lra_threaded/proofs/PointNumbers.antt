@@ -6,8 +6,8 @@ use Rattle.std.proofs.lemmas.List.{length-map}
 use Rattle.std.proofs.lemmas.List.Sums.{sum_by-cons, sum_by_more_le}
 use Rattle.std.proofs.lemmas.Option.{get_or_from_slice_get, slice_get_within}
 use Rattle.lra_syntax.specs.Trees.{FileTree}
-use Rattle.lra_meaning.specs.Refuse.{greatest_points}
-use Rattle.lra_meaning.specs.Threads.{thread_places, thread_program}
+use Rattle.lra_resolution_spec.specs.Refuse.{greatest_points}
+use Rattle.lra_resolution_spec.specs.Threads.{thread_places, thread_program}
 use Rattle.lra_program.specs.Sites.{sites_of}
 use Rattle.lra_operations.specs.TreeViews.{site_view}
 use Rattle.lra_operations.specs.declared.tree.InlinedProgram.{InlinedProgram}

@@ -15,7 +15,7 @@ use Rattle.lra_report.specs.Report.{Invariant, PointReport}
 use Rattle.lra_report.specs.declared.verdict_kinds.VerdictKind.TheVariants.{Assertion, Fit}
 use Rattle.lra_syntax.specs.Labels.{Labelled, labels_of}
 use Rattle.lra_syntax.specs.Trees.{FileTree}
-use Rattle.lra_meaning.specs.LiveNames.{globals_named}
+use Rattle.lra_resolution_spec.specs.LiveNames.{globals_named}
 use Rattle.lra_operations.specs.declared.tree.InlinedProgram.{InlinedProgram}
 use Rattle.lra_iter.specs.Lives.{AreWide}
 use Rattle.lra_listing.specs.Given.{AreInvariants, accesses_told, state_of, verdict_at}

@@ -7,15 +7,15 @@ use Rattle.std.proofs.lemmas.List.{length-map}
 use Rattle.std.proofs.lemmas.List.Sums.{sum_by-cons}
 use Rattle.std.proofs.lemmas.Option.{get_or_from_slice_get, none-some, same_Some, slice_get-get_or}
 use Rattle.std.proofs.Math.Seq.{take-length}
-use Rattle.lra_formed.proofs.Faultless.{none_right}
+use Rattle.lra_resolution_sound.proofs.Faultless.{none_right}
 use Rattle.lra_base.specs.declared.refusals.Refusal.{Refusal}
 use Rattle.lra_syntax.specs.Functions.{functions_of}
 use Rattle.lra_syntax.specs.Labels.{labels_of}
 use Rattle.lra_syntax.specs.Trees.{FileTree}
-use Rattle.lra_meaning.specs.NameFaults.{parts_faults}
-use Rattle.lra_meaning.specs.Refuse.{greatest_points, limit_fault}
-use Rattle.lra_meaning.specs.Resolve.{function_place}
-use Rattle.lra_meaning.specs.Threads.{has_thread, thread_events, thread_faults, thread_name, thread_places, thread_places_from, thread_program}
+use Rattle.lra_resolution_spec.specs.NameFaults.{parts_faults}
+use Rattle.lra_resolution_spec.specs.Refuse.{greatest_points, limit_fault}
+use Rattle.lra_resolution_spec.specs.Resolve.{function_place}
+use Rattle.lra_resolution_spec.specs.Threads.{has_thread, thread_events, thread_faults, thread_name, thread_places, thread_places_from, thread_program}
 use Rattle.lra_program.specs.Accesses.{op_accesses_any}
 use Rattle.lra_program.specs.Program.{Program}
 use Rattle.lra_program.specs.Sites.{Event, Site, comes, events_of, one_call_more, event_sites, sites_of}

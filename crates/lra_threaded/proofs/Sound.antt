@@ -13,9 +13,9 @@ use Rattle.lra_box.specs.Abstraction.{box_abstraction}
 use Rattle.lra_box.specs.declared.interval.Interval.{Interval}
 use Rattle.lra_syntax.specs.Labels.{Labelled, labels_of}
 use Rattle.lra_syntax.specs.Trees.{FileTree}
-use Rattle.lra_meaning.specs.LiveNames.{globals_named}
-use Rattle.lra_meaning.specs.Resolve.{resolved_functions}
-use Rattle.lra_meaning.specs.Threads.{thread_places, thread_program}
+use Rattle.lra_resolution_spec.specs.LiveNames.{globals_named}
+use Rattle.lra_resolution_spec.specs.Resolve.{resolved_functions}
+use Rattle.lra_resolution_spec.specs.Threads.{thread_places, thread_program}
 use Rattle.lra_program.specs.Program.{Function, Program}
 use Rattle.lra_program.specs.ProgramViews.{function_or}
 use Rattle.lra_program.specs.Sites.{Site, sites_of}
@@ -25,7 +25,7 @@ use Rattle.lra_report.specs.Listing.{AreListed, listed_verdict}
 use Rattle.lra_report.specs.Report.{Holds, Invariant, PointReport, Verdict}
 use Rattle.lra_report.specs.declared.verdict_kinds.VerdictKind.{VerdictKind}
 use Rattle.lra_report.specs.declared.verdict_kinds.VerdictKind.TheVariants.{Assertion, Access}
-use Rattle.lra_formed.proofs.Named.{globals_as_many}
+use Rattle.lra_resolution_sound.proofs.Named.{globals_as_many}
 use Rattle.lra_listing.specs.Given.{access_verdicts, accesses_told, site_at, state_of, verdict_at}
 use Rattle.lra_states.specs.Shown.{shown_state}
 use Rattle.lra_source.proofs.Handing.{contained, image_of}

@@ -2,7 +2,7 @@
 use Rattle.std.proofs.Common.{◌≡◌, ◌∙◌, ℕ, List, refl, sym}
 use Rattle.std.specs.Prelude.{Option, None, Some, option_map}
 use Rattle.std.proofs.lemmas.Option.{none-some, same_Some}
-use Rattle.lra_meaning.specs.Threads.{thread_program}
+use Rattle.lra_resolution_spec.specs.Threads.{thread_program}
 use Rattle.lra_threaded.specs.Listed.{number_in, thread_place, thread_sites}
 use Rattle.lra_threaded.specs.Threaded.{AreDefinedThreads, FlaggedThreadsStrain, IsThreadsOf, StrainsAtNumber, UnflaggedThreadsAreDefined}
 use Rattle.lra_threaded.specs.Threaded.{shared_program, threads_plan}

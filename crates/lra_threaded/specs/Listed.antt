@@ -8,8 +8,8 @@ use Rattle.lra_box.specs.declared.interval.Interval.{Interval}
 use Rattle.lra_box.specs.Abstraction.{box_abstraction}
 use Rattle.lra_syntax.specs.Labels.{labels_of}
 use Rattle.lra_syntax.specs.Trees.{FileTree}
-use Rattle.lra_meaning.specs.LiveNames.{globals_named}
-use Rattle.lra_meaning.specs.Threads.{thread_places, thread_program}
+use Rattle.lra_resolution_spec.specs.LiveNames.{globals_named}
+use Rattle.lra_resolution_spec.specs.Threads.{thread_places, thread_program}
 use Rattle.lra_program.specs.Sites.{Site, sites_of}
 use Rattle.lra_options.specs.declared.options.Domain.TheVariants.{Box}
 use Rattle.lra_report.specs.Listing.{AreListed}

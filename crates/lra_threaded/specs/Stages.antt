@@ -6,9 +6,9 @@ use Rattle.lra_syntax.specs.Grammar.{Spells}
 use Rattle.lra_syntax.specs.Labels.{labels_of}
 use Rattle.lra_syntax.specs.Trees.{FileTree}
 use Rattle.lra_syntax.specs.Views.{tree_view}
-use Rattle.lra_meaning.specs.Refuse.{greatest_points}
-use Rattle.lra_meaning.specs.RefuseThreads.{AcceptsThreads}
-use Rattle.lra_meaning.specs.Threads.{thread_places, thread_program}
+use Rattle.lra_resolution_spec.specs.Refuse.{greatest_points}
+use Rattle.lra_resolution_spec.specs.RefuseThreads.{AcceptsThreads}
+use Rattle.lra_resolution_spec.specs.Threads.{thread_places, thread_program}
 use Rattle.lra_program.specs.ProgramViews.{program_view}
 use Rattle.lra_operations.specs.TreeViews.{node_view}
 use Rattle.lra_operations.specs.declared.tree.InlinedProgram.{InlinedProgram}

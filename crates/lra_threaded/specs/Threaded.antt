@@ -4,9 +4,9 @@ use Rattle.std.specs.Prelude.{◌≡◌, ◌<◌, ◌+◌, ℕ, suc, ℤ, List, 
 use Rattle.std.specs.List.{Contains}
 use Rattle.lra_box.specs.Bounds.{InInterval}
 use Rattle.lra_syntax.specs.Trees.{FileTree}
-use Rattle.lra_meaning.specs.LiveNames.{globals_named}
-use Rattle.lra_meaning.specs.Resolve.{resolved_functions}
-use Rattle.lra_meaning.specs.Threads.{thread_places, thread_program}
+use Rattle.lra_resolution_spec.specs.LiveNames.{globals_named}
+use Rattle.lra_resolution_spec.specs.Resolve.{resolved_functions}
+use Rattle.lra_resolution_spec.specs.Threads.{thread_places, thread_program}
 use Rattle.lra_program.specs.Program.{Function, Program}
 use Rattle.lra_program.specs.ProgramViews.{function_or}
 use Rattle.lra_program.specs.Run.{Point}

@@ -5,8 +5,8 @@ ghost use Rattle.std.specs.Prelude.{option_map, slice_get, string_bytes, codes, 
 ghost use Rattle.std.specs.List.{flat_map, sum_by};
 ghost use Rattle.lra_syntax.specs.Labels.{labels_of};
 ghost use Rattle.lra_syntax.specs.Views.{tree_view};
-ghost use Rattle.lra_meaning.specs.LiveNames.{globals_named};
-ghost use Rattle.lra_meaning.specs.Refuse.{greatest_points};
+ghost use Rattle.lra_resolution_spec.specs.LiveNames.{globals_named};
+ghost use Rattle.lra_resolution_spec.specs.Refuse.{greatest_points};
 ghost use Rattle.lra_report.specs.Report as report;
 ghost use Rattle.lra_report.specs.View.{point_report_of, verdict_of};
 ghost use Rattle.lra_report.specs.declared.verdict_kinds.VerdictKind.TheVariants.{Assertion, Fit};
@@ -26,9 +26,9 @@ ghost use Rattle.lra_threaded.specs.Stages.{IsJudgedIn, IsOfGraph, judged_alone,
 use crate::text::{ThreadsReport, Writes};
 use lra_box::Interval;
 use lra_listing::{Found, list_points, list_verdicts, names_of_globals, number_of};
-use lra_meaning::Labels;
 use lra_operations::InlinedProgram;
 use lra_report::{PointReport, Verdict};
+use lra_resolution_spec::Labels;
 use lra_rounds::{Intervals, SettledRound};
 use lra_show::Names;
 use lra_states::states_of;

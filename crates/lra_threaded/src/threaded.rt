@@ -4,7 +4,7 @@ ghost use Rattle.std.specs.Prelude.{◌≡◌, ◌<◌, ◌+◌, ◌^◌, ℕ, L
 ghost use Rattle.std.specs.List.{AllZip};
 ghost use Rattle.lra_base.specs.Refused.{IfRefused};
 ghost use Rattle.lra_syntax.specs.Grammar.{Spells};
-ghost use Rattle.lra_meaning.specs.RefuseThreads.{RefuseThreads};
+ghost use Rattle.lra_resolution_spec.specs.RefuseThreads.{RefuseThreads};
 ghost use Rattle.lra_threaded.specs.Stages.{AreThreadsOpened, IsOpened, IsReadOf};
 ghost use Rattle.lra_threaded.specs.Threaded as threaded;
 ghost use Rattle.lra_threaded.specs.Threaded.{IsThreadsOf};

@@ -5,7 +5,7 @@ use Rattle.std.proofs.lemmas.Option.{none-some}
 use Rattle.lra_base.specs.declared.refusals.Refusal.{Refusal}
 use Rattle.lra_syntax.specs.Labels.{Labelled}
 use Rattle.lra_program.specs.Sites.{Event, comes, one_call_more, event_sites}
-use Rattle.lra_meaning.specs.Refuse.{greatest_live, greatest_points, limit_fault}
+use Rattle.lra_resolution_spec.specs.Refuse.{greatest_live, greatest_points, limit_fault}
 
 then_case : (many full : Bool) (x y : Refusal) (f g : Option Refusal) → (f ≡ None → g ≡ None) → (if many then Some x else (if full then Some y else f)) ≡ None
     → (if many then Some x else (if full then Some y else g)) ≡ None

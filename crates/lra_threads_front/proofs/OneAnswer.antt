@@ -10,11 +10,11 @@ use Rattle.lra_syntax.specs.Tokens.{Lex, OneReading}
 use Rattle.lra_syntax.specs.Faults.{Language, IsTree, IsTextFault, OneTree, OneTextFault}
 use Rattle.lra_syntax.specs.Labels.{labels_of}
 use Rattle.lra_syntax.specs.Reach.{NotRecursive}
-use Rattle.lra_meaning.specs.Refuse.{limit_fault}
-use Rattle.lra_meaning.specs.Threads.{thread_faults, thread_events}
-use Rattle.lra_meaning.specs.RefuseThreads.{RefusesThreads, bad_name, recursive, past_limit, Unread, too_long}
-use Rattle.lra_meaning.specs.RefuseThreads.{bad_token, bad_text, RefuseThreads, unread, bad_tree}
-use Rattle.lra_meaning.specs.RefuseThreads.{AcceptsThreads, OneThreadsAnswer}
+use Rattle.lra_resolution_spec.specs.Refuse.{limit_fault}
+use Rattle.lra_resolution_spec.specs.Threads.{thread_faults, thread_events}
+use Rattle.lra_resolution_spec.specs.RefuseThreads.{RefusesThreads, bad_name, recursive, past_limit, NotParsed, too_long}
+use Rattle.lra_resolution_spec.specs.RefuseThreads.{bad_token, bad_text, RefuseThreads, unread, bad_tree}
+use Rattle.lra_resolution_spec.specs.RefuseThreads.{AcceptsThreads, OneThreadsAnswer}
 use Rattle.lra_front.proofs.OneAnswer.{not_both, heads, one_recursive, Same, same_refusal, same_tokens, same_tree, not_long, text_and_tree}
 
 one_tree_fault : (t : FileTree) (c d : Cause) (p q : Place) → RefusesThreads t c p → RefusesThreads t d q → Same c d p q
@@ -35,7 +35,7 @@ faultless t _ _ e n l (recursive at f g) = n at g
 faultless t _ _ e n l (past_limit r f m h) = none-some r (sym l ∙ h)
 
 module _ (L : Language) (reading : OneReading) (tree : OneTree L) (fault : OneTextFault L) where
-  one_unread : (source : List ℕ) (c d : Cause) (p q : Place) → Unread L source c p → Unread L source d q → Same c d p q
+  one_unread : (source : List ℕ) (c d : Cause) (p q : Place) → NotParsed L source c p → NotParsed L source d q → Same c d p q
   one_unread source _ _ _ _ (too_long l) (too_long m) = (refl, refl)
   one_unread source _ _ _ _ (too_long l) (bad_token d q m f) = absurd (not_long L reading tree fault source _ l m)
   one_unread source _ _ _ _ (too_long l) (bad_text T d q m a f) = absurd (not_long L reading tree fault source _ l m)
@@ -49,7 +49,7 @@ module _ (L : Language) (reading : OneReading) (tree : OneTree L) (fault : OneTe
 
   -- a source that has a tree is read
   unread_tree : (source : List ℕ) (T : List Token) (t : FileTree) (c : Cause) (p : Place) → length source ≤ greatest_length → Lex source T → IsTree L T t
-      → Unread L source c p → ⊥
+      → NotParsed L source c p → ⊥
   unread_tree source T t _ _ m b is (too_long l) = not_long L reading tree fault source _ l m
   unread_tree source T t _ _ m b is (bad_token c p l e) = (reading source).2 T c p b e
   unread_tree source T t _ _ m b is (bad_text U c p l a e) = text_and_tree L reading tree fault source U T c p t a b e is

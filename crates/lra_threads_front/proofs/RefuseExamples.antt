@@ -12,7 +12,7 @@ use Rattle.lra_syntax.specs.Grammar.{Spells}
 use Rattle.lra_syntax.proofs.TreeSamples.{at, x_at, literal_text, void_of}
 use Rattle.lra_syntax.proofs.Lexemes.{ExternalDeclaration, written, reading, all_lexed}
 use Rattle.lra_syntax.proofs.LexedByTest.{space, sign, word_of, one, is_written, are_read_by}
-use Rattle.lra_meaning.specs.RefuseThreads.{RefuseThreads, RefusesThreads, bad_tree, bad_name}
+use Rattle.lra_resolution_spec.specs.RefuseThreads.{RefuseThreads, RefusesThreads, bad_tree, bad_name}
 use Rattle.lra_parser_spec.specs.Reading.{Text, loop}
 use Rattle.lra_parser_spec.specs.Expressions.{unary_at, tests}
 use Rattle.lra_parser_spec.specs.Statements.{levels}

@@ -14,13 +14,13 @@ use Rattle.lra_syntax.specs.Grammar.{Spells}
 use Rattle.lra_program.specs.Sites.{events_of, event_sites}
 use Rattle.lra_program.specs.WellFormed.{IsWellFormed}
 use Rattle.lra_operations.specs.Tree.{Node}
-use Rattle.lra_meaning.specs.Refuse.{limit_fault}
-use Rattle.lra_meaning.specs.Threads.{thread_faults, thread_places, thread_program, thread_events}
-use Rattle.lra_meaning.specs.RefuseThreads.{bad_name, recursive, past_limit, too_long, bad_token, bad_text, unread, bad_tree, OneThreadsAnswer}
+use Rattle.lra_resolution_spec.specs.Refuse.{limit_fault}
+use Rattle.lra_resolution_spec.specs.Threads.{thread_faults, thread_places, thread_program, thread_events}
+use Rattle.lra_resolution_spec.specs.RefuseThreads.{bad_name, recursive, past_limit, too_long, bad_token, bad_text, unread, bad_tree, OneThreadsAnswer}
 use Rattle.lra_lex.proofs.EachReading.{each_reading}
 use Rattle.lra_parser_spec.specs.Files.{file_at}
 use Rattle.lra_parser_spec.proofs.Ended.{lexed_end}
-use Rattle.lra_calls.proofs.Deciding.{each_recursion}
+use Rattle.lra_recursion.proofs.Deciding.{each_recursion}
 use Rattle.lra_agreement.proofs.Agreement.{graphs_agree}
 use Rattle.lra_agreement.proofs.DistinctSites.{distinct_sites}
 use Rattle.lra_graph.proofs.Totals.{fewer_within}

@@ -23,12 +23,12 @@ use Rattle.lra_program.specs.Program as resolved
 use Rattle.lra_program.specs.ProgramViews.{function_or, program_view}
 use Rattle.lra_program.specs.Sites.{Event, events_of, sites_of}
 use Rattle.lra_program.specs.WellFormed.{IsWellFormed}
-use Rattle.lra_meaning.specs.Refuse.{limit_fault}
-use Rattle.lra_meaning.specs.Threads.{thread_faults, thread_places, thread_program, thread_events}
-use Rattle.lra_meaning.specs.RefuseThreads.{RefusesThreads, bad_name, recursive, past_limit, RefuseThreads, Unread, unread, bad_tree, AcceptsThreads}
-use Rattle.lra_formed.proofs.Spelled.{spelled_are_small}
-use Rattle.lra_formed.proofs.Whole.{threads_formed}
-use Rattle.lra_scopes.specs.Outcome.{first_fault, Tells}
+use Rattle.lra_resolution_spec.specs.Refuse.{limit_fault}
+use Rattle.lra_resolution_spec.specs.Threads.{thread_faults, thread_places, thread_program, thread_events}
+use Rattle.lra_resolution_spec.specs.RefuseThreads.{RefusesThreads, bad_name, recursive, past_limit, RefuseThreads, NotParsed, unread, bad_tree, AcceptsThreads}
+use Rattle.lra_resolution_sound.proofs.Spelled.{spelled_are_small}
+use Rattle.lra_resolution_sound.proofs.Whole.{threads_formed}
+use Rattle.lra_scopes.specs.Outcome.{first_fault, IsFirstFault}
 use Rattle.lra_front.specs.Stages.{HasTree, IsRecursionRefusal}
 use Rattle.lra_front.proofs.StageSteps.{first_is}
 use Rattle.lra_threads_front.specs.Stages.{HasThreads}
@@ -39,11 +39,11 @@ use Rattle.lra_threads_front.proofs.Limits.{fault_behind, fault_stays}
 names_refused : (t : FileTree) (r : Refusal) → first_fault (thread_faults t) ≡ Some r → RefusesThreads t r.cause r.place
 names_refused t r e = let (further, is) = first_is (thread_faults t) r e in bad_name r further is
 
-told_refused : (t : FileTree) (e : SourceError) → Tells (thread_faults t) e → IfRefusal (λ r. RefusesThreads t r.cause r.place) e
+told_refused : (t : FileTree) (e : SourceError) → IsFirstFault (thread_faults t) e → IfRefusal (λ r. RefusesThreads t r.cause r.place) e
 told_refused t (Refused r) told = names_refused t r told
 told_refused t Memory told = tt
 
-pub exit_named : {X : Type 0} (t : FileTree) (x : Result X SourceError) (e : SourceError) → IsErrAnd x (λ y. y ≡ e) → Tells (thread_faults t) e
+pub exit_named : {X : Type 0} (t : FileTree) (x : Result X SourceError) (e : SourceError) → IsErrAnd x (λ y. y ≡ e) → IsFirstFault (thread_faults t) e
     → IfRefused x (λ r. RefusesThreads t r.cause r.place)
 exit_named t x e is told = exit_refused (λ r. RefusesThreads t r.cause r.place) x e is (told_refused t e told)
 
@@ -160,10 +160,10 @@ accepted source t has threads = record {
 
 -- exits by the errors of the stages
 pub exit_unread : {X : Type 0} (source : List ℕ) (x : Result X SourceError) (e : SourceError) → IsErrAnd x (λ y. y ≡ e)
-    → IfRefusal (λ r. Unread Spells source r.cause r.place) e → IfRefused x (λ r. RefuseThreads Spells source r.cause r.place)
+    → IfRefusal (λ r. NotParsed Spells source r.cause r.place) e → IfRefused x (λ r. RefuseThreads Spells source r.cause r.place)
 exit_unread source x e is fault =
     exit_refused (λ r. RefuseThreads Spells source r.cause r.place) x e is
-    (refusal_by (λ r. Unread Spells source r.cause r.place) _ (λ r. unread r.cause r.place) e fault)
+    (refusal_by (λ r. NotParsed Spells source r.cause r.place) _ (λ r. unread r.cause r.place) e fault)
 
 tree_refused : (source : List ℕ) (t : FileTree) (c : Cause) (at : Place) → HasTree source t → RefusesThreads t c at → RefuseThreads Spells source c at
 tree_refused source t c at has fault = bad_tree has.tokens t c at has.not_long has.lexed has.parsed fault

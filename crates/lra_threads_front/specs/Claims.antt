@@ -8,8 +8,8 @@ use Rattle.lra_syntax.specs.Trees.{FileTree}
 use Rattle.lra_syntax.specs.Grammar.{Spells}
 use Rattle.lra_operations.specs.Tree.{Node}
 use Rattle.lra_operations.specs.Agree.{IsInlinedTree, Agrees}
-use Rattle.lra_meaning.specs.Threads.{thread_places, thread_program}
-use Rattle.lra_meaning.specs.RefuseThreads.{RefuseThreads, AcceptsThreads}
+use Rattle.lra_resolution_spec.specs.Threads.{thread_places, thread_program}
+use Rattle.lra_resolution_spec.specs.RefuseThreads.{RefuseThreads, AcceptsThreads}
 
 -- the source is refused for some cause at some place
 abbrev pub HasThreadsRefusal : List ℕ → Type 0

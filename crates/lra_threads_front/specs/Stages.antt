@@ -9,8 +9,8 @@ use Rattle.lra_program.specs.WellFormed.{IsWellFormed}
 use Rattle.lra_operations.specs.Agree.{IsInlinedTree, Agrees}
 use Rattle.lra_operations.specs.TreeViews.{node_view, site_view}
 use Rattle.lra_operations.specs.declared.tree.InlinedProgram.{InlinedProgram}
-use Rattle.lra_meaning.specs.Refuse.{limit_fault}
-use Rattle.lra_meaning.specs.Threads.{thread_faults, thread_program, thread_events}
+use Rattle.lra_resolution_spec.specs.Refuse.{limit_fault}
+use Rattle.lra_resolution_spec.specs.Threads.{thread_faults, thread_program, thread_events}
 use Rattle.lra_front.specs.Claims.{AreFew}
 
 -- the tree of operations of a well-formed program, and its points

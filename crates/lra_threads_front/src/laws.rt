@@ -1,7 +1,7 @@
 //! Laws: each of these does nothing, and its contract is the theorem.
 
 ghost use Rattle.lra_syntax.specs.Grammar.{Spells};
-ghost use Rattle.lra_meaning.specs.RefuseThreads.{OneThreadsAnswer};
+ghost use Rattle.lra_resolution_spec.specs.RefuseThreads.{OneThreadsAnswer};
 ghost use Rattle.lra_threads_front.specs.Claims.{EachThreadsAnswer};
 
 /// As a program of several threads a source is accepted with at most one tree, or refused for at most one cause at one

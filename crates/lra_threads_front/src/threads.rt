@@ -9,19 +9,19 @@ ghost use Rattle.lra_syntax.specs.Reach.{NotRecursive};
 ghost use Rattle.lra_program.specs.ProgramViews.{program_view};
 ghost use Rattle.lra_program.specs.Sites.{events_of, sites_of};
 ghost use Rattle.lra_program.specs.WellFormed.{IsWellFormed};
-ghost use Rattle.lra_meaning.specs.Refuse.{limit_fault};
-ghost use Rattle.lra_meaning.specs.Threads.{thread_events, thread_faults, thread_places, thread_program};
-ghost use Rattle.lra_meaning.specs.RefuseThreads.{RefusesThreads};
+ghost use Rattle.lra_resolution_spec.specs.Refuse.{limit_fault};
+ghost use Rattle.lra_resolution_spec.specs.Threads.{thread_events, thread_faults, thread_places, thread_program};
+ghost use Rattle.lra_resolution_spec.specs.RefuseThreads.{RefusesThreads};
 ghost use Rattle.lra_opening.specs.Inlining.{points_in};
 ghost use Rattle.lra_threads_front.specs.Stages.{HasThreads, IsGraphOf, IsThreadGraph};
 
 use lra_base::SourceError;
 use lra_front::check_calls;
 use lra_graph::{GraphError, build_thread, refusal};
-use lra_meaning::Labels;
-use lra_names::{Resolution, ThreadsResolution, resolve_threads};
 use lra_operations::{InlinedProgram, Site};
 use lra_program::Program;
+use lra_resolution_spec::Labels;
+use lra_resolve::{Resolution, ThreadsResolution, resolve_threads};
 use lra_syntax::TranslationUnit;
 use std::alloc::Global;
 

@@ -15,7 +15,7 @@ use Rattle.lra_flow.specs.Fits.{Judges, JudgesIf}
 use Rattle.lra_operations.specs.Tree.{Node}
 use Rattle.lra_listing.specs.Given.{told_all, told_of}
 use Rattle.lra_source.proofs.OneReport.{unflagged_behind, unflagged_first}
-use Rattle.lra_meaning.specs.Resolve.{resolve}
+use Rattle.lra_resolution_spec.specs.Resolve.{resolve}
 use Rattle.lra_report.specs.Report.{Invariant, Holds, PointReport, Report, IsInvariant}
 use Rattle.lra_report.specs.Parts.{Tells}
 use Rattle.lra_report.specs.Listing.{AreParts}

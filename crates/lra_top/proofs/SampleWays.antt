@@ -9,7 +9,7 @@ use Rattle.lra_report.specs.Report.{Report}
 use Rattle.lra_report.specs.ReportText.{unknown_count}
 use Rattle.lra_report.specs.RefusalText.{refusal_text}
 use Rattle.lra_syntax.specs.Grammar.{Spells}
-use Rattle.lra_meaning.specs.Refuse.{Refuse}
+use Rattle.lra_resolution_spec.specs.Refuse.{Refuse}
 use Rattle.lra_sample.specs.Sample.{sample_source}
 use Rattle.lra_sample.specs.Summary.{summary_text}
 use Rattle.lra_sample.proofs.Samples.{accepted}

@@ -10,8 +10,8 @@ use Rattle.std.proofs.lemmas.Option.{same_Some, none-some}
 use Rattle.lra_base.specs.declared.refusals.Refusal.{Refusal}
 use Rattle.lra_syntax.specs.Labels.{Labelled, labels_of}
 use Rattle.lra_syntax.proofs.LexedByTest.{and_second}
-use Rattle.lra_meaning.specs.Refuse.{greatest_live, greatest_points, limit_fault}
-use Rattle.lra_meaning.specs.Resolve.{resolve}
+use Rattle.lra_resolution_spec.specs.Refuse.{greatest_live, greatest_points, limit_fault}
+use Rattle.lra_resolution_spec.specs.Resolve.{resolve}
 use Rattle.lra_program.specs.Program.{Program}
 use Rattle.lra_program.specs.Sites.{Site, Event, comes, one_call_more, event_sites, events_of, sites_of}
 use Rattle.lra_operations.specs.Tree.{Node}

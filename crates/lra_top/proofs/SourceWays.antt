@@ -6,7 +6,7 @@ use Rattle.lra_options.specs.declared.options.Options.{Options}
 use Rattle.lra_report.specs.Report.{Report}
 use Rattle.lra_report.specs.ReportText.{unknown_count}
 use Rattle.lra_syntax.specs.Grammar.{Spells}
-use Rattle.lra_meaning.specs.Refuse.{Refuse}
+use Rattle.lra_resolution_spec.specs.Refuse.{Refuse}
 use Rattle.lra_report.specs.RefusalText.{refusal_text}
 use Rattle.lra_source.specs.Answers.{IsAnswered}
 use Rattle.lra_answers.specs.Statuses.{Ends, reported}

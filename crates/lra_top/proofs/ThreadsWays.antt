@@ -9,7 +9,7 @@ use Rattle.lra_base.specs.declared.refusals.Place.{Place}
 use Rattle.lra_base.specs.Places.{place_after, greatest_length}
 use Rattle.lra_syntax.specs.Trees.{FileTree}
 use Rattle.lra_syntax.specs.Grammar.{Spells}
-use Rattle.lra_meaning.specs.RefuseThreads.{RefuseThreads, AcceptsThreads, Unread, too_long, bad_token, bad_text, unread, bad_tree}
+use Rattle.lra_resolution_spec.specs.RefuseThreads.{RefuseThreads, AcceptsThreads, NotParsed, too_long, bad_token, bad_text, unread, bad_tree}
 use Rattle.lra_report.specs.RefusalText.{refusal_text}
 use Rattle.lra_report.specs.ReportText.{unknown_count}
 use Rattle.lra_threads_front.specs.Claims.{HasThreadsRefusal}
@@ -51,7 +51,7 @@ longer_too_long bytes rest long =
     subst (λ (front : List ℕ). RefuseThreads Spells (bytes ++ rest) TooLong (place_after front)) (take-append-le greatest_length bytes rest reached)
     (unread _ _ (too_long (front_long bytes rest long)))
 
-longer_unread : (bytes rest : List ℕ) (c : Cause) (at : Place) → greatest_length < length bytes → Unread Spells bytes c at
+longer_unread : (bytes rest : List ℕ) (c : Cause) (at : Place) → greatest_length < length bytes → NotParsed Spells bytes c at
     → RefuseThreads Spells (bytes ++ rest) c at
 longer_unread bytes rest _ _ long (too_long past) = longer_too_long bytes rest past
 longer_unread bytes rest _ _ long (bad_token c p l e) = absurd (not_past bytes long l)

@@ -8,9 +8,9 @@ use Rattle.lra_options.specs.declared.options.Domain.TheVariants.{Poly}
 use Rattle.lra_options.specs.declared.options.Options.{Options}
 use Rattle.lra_syntax.specs.Trees.{FileTree}
 use Rattle.lra_syntax.specs.Grammar.{Spells}
-use Rattle.lra_meaning.specs.Refuse.{Accepts}
-use Rattle.lra_meaning.specs.RefuseThreads.{AcceptsThreads}
-use Rattle.lra_meaning.specs.Resolve.{resolve}
+use Rattle.lra_resolution_spec.specs.Refuse.{Accepts}
+use Rattle.lra_resolution_spec.specs.RefuseThreads.{AcceptsThreads}
+use Rattle.lra_resolution_spec.specs.Resolve.{resolve}
 use Rattle.lra_program.specs.Program.{Program}
 use Rattle.lra_program.specs.Run.{At, Fails}
 use Rattle.lra_program.specs.Sites.{Site, sites_of}

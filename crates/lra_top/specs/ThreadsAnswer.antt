@@ -5,7 +5,7 @@ use Rattle.lra_base.specs.declared.refusals.Cause.{Cause}
 use Rattle.lra_base.specs.declared.refusals.Place.{Place}
 use Rattle.lra_syntax.specs.Trees.{FileTree}
 use Rattle.lra_syntax.specs.Grammar.{Spells}
-use Rattle.lra_meaning.specs.RefuseThreads.{RefuseThreads, AcceptsThreads}
+use Rattle.lra_resolution_spec.specs.RefuseThreads.{RefuseThreads, AcceptsThreads}
 use Rattle.lra_report.specs.RefusalText.{refusal_text}
 use Rattle.lra_report.specs.ReportText.{unknown_count}
 use Rattle.lra_threads_front.specs.Claims.{HasThreadsRefusal}

@@ -10,7 +10,7 @@ use Rattle.lra_systems.specs.LinearSystems.{LinearSystem}
 use Rattle.lra_program.specs.Sites as sites
 use Rattle.lra_operations.specs.declared.tree.Site.{Site}
 use Rattle.lra_operations.specs.TreeViews.{site_view}
-use Rattle.lra_meaning.proofs.NameLists.{last_or_before}
+use Rattle.lra_resolution_spec.proofs.NameLists.{last_or_before}
 use Rattle.lra_paths.specs.Paths.{live_of}
 use Rattle.lra_certificate.specs.Certificates.{state_or_empty}
 use Rattle.lra_certificate.specs.Judged.{Left, Judged, State, judged_state, judged_states}

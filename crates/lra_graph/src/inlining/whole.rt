@@ -4,7 +4,7 @@ ghost use Rattle.std.specs.Prelude.{◌≡◌, ◌≤◌, ℕ, List, [], ◌++�
 ghost use Rattle.lra_operations.specs.Agree.{IsInlinedTree, Agrees};
 ghost use Rattle.lra_operations.specs.CheckedOperations.{AgreesOnAccesses};
 ghost use Rattle.lra_syntax.specs.Labels.{Labelled};
-ghost use Rattle.lra_meaning.specs.Refuse.{greatest_live, limit_fault};
+ghost use Rattle.lra_resolution_spec.specs.Refuse.{greatest_live, limit_fault};
 ghost use Rattle.lra_program.specs.Sites as points;
 ghost use Rattle.lra_program.specs.Sites.{events_of, sites_of};
 ghost use Rattle.lra_program.specs.WellFormed.{IsWellFormed};

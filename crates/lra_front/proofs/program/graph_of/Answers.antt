@@ -6,7 +6,7 @@ use Rattle.lra_syntax.specs.Views.{tree_view}
 use Rattle.lra_program.specs.ProgramViews.{program_view}
 use Rattle.lra_operations.specs.TreeViews.{node_view, site_view}
 use Rattle.lra_program.specs.Sites.{events_of}
-use Rattle.lra_meaning.specs.Refuse.{limit_fault}
+use Rattle.lra_resolution_spec.specs.Refuse.{limit_fault}
 use Rattle.lra_opening.specs.Limits.{refusal_of}
 use Rattle.lra_program.specs.Program.{Program}
 use Rattle.lra_front.proofs.StageSteps.{has_graph, exit_recursive, limit_passed, limit_refused}

@@ -7,7 +7,7 @@ use Rattle.lra_base.proofs.Limit.{taken}
 use Rattle.lra_syntax.specs.Views.{tree_view}
 use Rattle.lra_syntax.specs.Faults.{IsTree}
 use Rattle.lra_syntax.specs.Grammar.{Spells}
-use Rattle.lra_meaning.specs.RefuseThreads.{Unread}
+use Rattle.lra_resolution_spec.specs.RefuseThreads.{NotParsed}
 use Rattle.lra_parser_spec.specs.Files.{EndsOnce}
 use Rattle.lra_parser_spec.proofs.Ended.{lexed_end}
 use Rattle.lra_front.proofs.ReadSteps.{long_unread, unread_refused, refused_unread, exit_lexed, exit_parsed, has_constants, has_tree}
@@ -21,7 +21,7 @@ place_after-place-requires c = let e = taken 65536 c.args.bytes.now c.if-bytes-g
 
 pub returns-then-bytes-gt-GREATEST_LENGTH-clause-unread : goal.returns-then-bytes-gt-GREATEST_LENGTH-clause-unread
 returns-then-bytes-gt-GREATEST_LENGTH-clause-unread c =
-    subst (λ (p : Place). Unread Spells c.args.bytes.now TooLong p) (sym c.place_after-place.ensures)
+    subst (λ (p : Place). NotParsed Spells c.args.bytes.now TooLong p) (sym c.place_after-place.ensures)
     (long_unread c.args.bytes.now 65536 refl c.if-bytes-gt-GREATEST_LENGTH.true)
 
 pub returns-then-bytes-gt-GREATEST_LENGTH-clause-refused : goal.returns-then-bytes-gt-GREATEST_LENGTH-clause-refused

@@ -3,7 +3,7 @@ use Rattle.std.proofs.Common.{List, map, ◌++◌, refl, subst}
 use Rattle.std.specs.List.{flat_map}
 use Rattle.lra_operations.specs.TreeViews.{site_view}
 use Rattle.lra_syntax.specs.Views.{tree_view}
-use Rattle.lra_meaning.specs.Resolve.{resolve}
+use Rattle.lra_resolution_spec.specs.Resolve.{resolve}
 use Rattle.lra_program.specs.Sites.{Site, sites_of}
 use Rattle.lra_syntax.specs.Labels.{Labelled, labels_of}
 use Rattle.lra_report.specs.declared.verdict_kinds.VerdictKind.TheVariants.{Assertion, Fit}

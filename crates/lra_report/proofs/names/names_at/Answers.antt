@@ -1,6 +1,6 @@
 -- Goals of `names_at`: the names as they are printed.
 use Rattle.std.proofs.Common.{arith, string_bytes, ◌∙◌, ap, ◌+◌, ◌-◌, length, count_by, bytes_eq, map, take, drop, ◌++◌, ◌∷◌, []}
-use Rattle.lra_meaning.specs.ShownNames.{shown_name, shown_names}
+use Rattle.lra_resolution_spec.specs.ShownNames.{shown_name, shown_names}
 use Rattle.lra_report.proofs.NamesShown.{rest_whole, name_step, names_end}
 use Rattle.lra_report.proofs.names.names_at.Goals as goal
 

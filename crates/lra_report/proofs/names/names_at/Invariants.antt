@@ -1,5 +1,5 @@
 use Rattle.std.proofs.Common.{◌≡◌, ◌++◌, drop, map, string_bytes}
-use Rattle.lra_meaning.specs.ShownNames.{shown_names}
+use Rattle.lra_resolution_spec.specs.ShownNames.{shown_names}
 use Rattle.lra_report.proofs.names.names_at.Given as goal
 
 abbrev pub invariant-loop-index : goal.invariant-loop-index

@@ -1,6 +1,6 @@
 -- Goals of `push_shown`: adds the text of a name that so many newer variables of the name hide.
 use Rattle.std.proofs.Common.{◌≡◌, ◌∙◌}
-use Rattle.lra_meaning.specs.ShownNames.{shown_name}
+use Rattle.lra_resolution_spec.specs.ShownNames.{shown_name}
 use Rattle.lra_report.proofs.NamesShown.{hidden_name}
 use Rattle.lra_report.proofs.names.push_shown.Goals as goal
 

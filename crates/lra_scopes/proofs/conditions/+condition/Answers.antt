@@ -2,8 +2,8 @@
 -- `resolve_negation`, `resolve_test`.
 use Rattle.std.proofs.Common.{map, ap, arith, refl, ◌∙◌}
 use Rattle.lra_program.specs.ProgramViews.{cond_view}
-use Rattle.lra_meaning.specs.NameFaults.{negation_faults, test_faults}
-use Rattle.lra_scopes.proofs.Telling.{parts_clean}
+use Rattle.lra_resolution_spec.specs.NameFaults.{negation_faults, test_faults}
+use Rattle.lra_scopes.proofs.FirstFaults.{parts_clean}
 use Rattle.lra_scopes.proofs.Loops.{memory_told, only_told, first_told, part_told, made_told, found_so, all_clean, rest_clean, parts_found}
 use Rattle.lra_scopes.proofs.CondLaws.{faults_of_test, test_means, faults_of_conjunction, conjunction_means, code_conjunction_faults, code_cond_faults, conjunction_found, cond_found, again_is}
 use Rattle.lra_scopes.proofs.CondLaws.{operand_is, opposite_is, value_is, compare_is}

@@ -5,7 +5,7 @@ use Rattle.lra_syntax.specs.declared.trees.Conjunction.{out-Conjunction}
 use Rattle.lra_syntax.specs.declared.trees.Cond.{out-Cond}
 use Rattle.lra_syntax.specs.Views.{conjunction_view, cond_view as tree_cond_view}
 use Rattle.lra_program.specs.ProgramViews.{cond_view}
-use Rattle.lra_meaning.specs.NameFaults.{conjunction_faults, cond_faults}
+use Rattle.lra_resolution_spec.specs.NameFaults.{conjunction_faults, cond_faults}
 use Rattle.lra_scopes.proofs.CondLaws.{faults_of_test, test_means, faults_of_conjunction, conjunction_means}
 use Rattle.lra_scopes.proofs.conditions.+condition.Given as goal
 

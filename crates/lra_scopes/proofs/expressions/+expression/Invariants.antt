@@ -5,8 +5,8 @@ use Rattle.lra_syntax.specs.declared.trees.Term.{out-Term}
 use Rattle.lra_syntax.specs.declared.trees.Expr.{out-Expr}
 use Rattle.lra_syntax.specs.Views.{unary_view, term_view, expr_view as tree_expr_view}
 use Rattle.lra_program.specs.ProgramViews.{expr_view, operation_view}
-use Rattle.lra_meaning.specs.NameFaults.{term_faults, expr_faults}
-use Rattle.lra_meaning.specs.Resolve.{resolve_unary, resolve_term}
+use Rattle.lra_resolution_spec.specs.NameFaults.{term_faults, expr_faults}
+use Rattle.lra_resolution_spec.specs.Resolve.{resolve_unary, resolve_term}
 use Rattle.lra_scopes.proofs.ChainLaws.{faults_of_factor, factor_means, faults_of_summand, summand_means}
 use Rattle.lra_scopes.proofs.expressions.+expression.Given as goal
 

@@ -2,7 +2,7 @@
 use Rattle.std.proofs.Common.{map}
 use Rattle.lra_syntax.specs.Views.{tree_view}
 use Rattle.lra_operations.specs.TreeViews.{node_view, site_view}
-use Rattle.lra_meaning.specs.Resolve.{resolve}
+use Rattle.lra_resolution_spec.specs.Resolve.{resolve}
 use Rattle.lra_source.proofs.ReportSteps.{fits, globals_seen, small_globals, good_globals, is_numbered}
 use Rattle.lra_source.proofs.reporting.solve_front.Goals as goal
 

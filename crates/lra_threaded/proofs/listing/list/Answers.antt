@@ -1,7 +1,7 @@
 -- Goals of `list`: the report of all threads.
 use Rattle.std.proofs.Common.{◌∙◌, ℕ, List, ap}
 use Rattle.lra_syntax.specs.Views.{tree_view}
-use Rattle.lra_meaning.specs.LiveNames.{globals_named}
+use Rattle.lra_resolution_spec.specs.LiveNames.{globals_named}
 use Rattle.lra_rounds.specs.Intervals.{Table}
 use Rattle.lra_threaded.specs.Listed.{one_by_one, writes_told}
 use Rattle.lra_threaded.proofs.PointNumbers.{flag_number}

@@ -3,8 +3,8 @@ use Rattle.std.proofs.Common.{◌∙◌, ap, sym, subst}
 use Rattle.std.specs.List.{AllByRecursion, AllZip}
 use Rattle.lra_syntax.specs.Views.{tree_view}
 use Rattle.lra_program.specs.WellFormed.{IsWellFormed}
-use Rattle.lra_meaning.specs.Threads.{thread_program}
-use Rattle.lra_meaning.specs.LabelTable.{Listed}
+use Rattle.lra_resolution_spec.specs.Threads.{thread_program}
+use Rattle.lra_resolution_spec.specs.LabelTable.{LabelLists}
 use Rattle.lra_threads_front.specs.Stages.{IsThreadGraph}
 use Rattle.lra_threads_front.proofs.ThreadSteps.{exit_unread, exit_tree, well, accepted}
 use Rattle.lra_threads_front.proofs.front.read_threads.Goals as goal
@@ -38,7 +38,7 @@ graphs_of-requires-clause-well c =
     (well c.args.bytes.now t c.in_ok-reading.ensures.found c.in_ok-found.ensures.clean)
 
 pub returns-clause-labels : goal.returns-clause-labels
-returns-clause-labels c = ap (λ (l : Listed). l.labels) c.in_ok-graphs.ensures.labels ∙ c.in_ok-found.ensures.labelled
+returns-clause-labels c = ap (λ (l : LabelLists). l.labels) c.in_ok-graphs.ensures.labels ∙ c.in_ok-found.ensures.labelled
 
 pub returns-clause-graphs : goal.returns-clause-graphs
 returns-clause-graphs c =

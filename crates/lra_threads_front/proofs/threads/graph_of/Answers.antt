@@ -4,7 +4,7 @@ use Rattle.std.proofs.Common.{◌≡◌, List, length, Some, sym, ap, ◌∙◌}
 use Rattle.lra_syntax.specs.Labels.{Labelled}
 use Rattle.lra_program.specs.ProgramViews.{program_view}
 use Rattle.lra_program.specs.Sites.{events_of}
-use Rattle.lra_meaning.specs.Refuse.{limit_fault}
+use Rattle.lra_resolution_spec.specs.Refuse.{limit_fault}
 use Rattle.lra_opening.specs.Inlining.{points_in}
 use Rattle.lra_opening.specs.Limits.{refusal_of}
 use Rattle.lra_front.proofs.StageSteps.{limit_passed}

@@ -9,9 +9,9 @@ use Rattle.lra_program.specs.Program.{Program}
 use Rattle.lra_program.specs.Sites.{events_of, sites_of}
 use Rattle.lra_program.specs.WellFormed.{IsWellFormed}
 use Rattle.lra_operations.specs.TreeViews.{site_view}
-use Rattle.lra_meaning.specs.LabelTable.{Listed}
-use Rattle.lra_meaning.specs.Refuse.{limit_fault}
-use Rattle.lra_meaning.specs.Threads.{thread_program}
+use Rattle.lra_resolution_spec.specs.LabelTable.{LabelLists}
+use Rattle.lra_resolution_spec.specs.Refuse.{limit_fault}
+use Rattle.lra_resolution_spec.specs.Threads.{thread_program}
 use Rattle.lra_opening.specs.Inlining.{points_in}
 use Rattle.lra_threads_front.specs.Stages.{IsGraphOf, IsThreadGraph}
 use Rattle.lra_threads_front.proofs.ThreadSteps.{exit_recursive, placed, stays_placed, events_at, events_behind}
@@ -80,7 +80,7 @@ returns-in_err-graph-clause-refused c =
     c.in_ok-check_calls.ensures.straight
     (c.threads.invariant.within ∙ next_at (λ places. limit_fault (labels_of t) n (events_at t places)) xs i place c.threads-test.true
     (same_within xs i 0 place c.threads-test.true))
-    (ap (λ (l : Listed). l.labels) c.threads.invariant.labels ∙ c.requires.labels) (placed t c.threads.resolution.program place c.threads.invariant.program)
+    (ap (λ (l : LabelLists). l.labels) c.threads.invariant.labels ∙ c.requires.labels) (placed t c.threads.resolution.program place c.threads.invariant.program)
     c.from_residual-in_err-graph.ensures.1 c.in_err-graph.ensures.refused
 
 pub returns-clause-threads : goal.returns-clause-threads

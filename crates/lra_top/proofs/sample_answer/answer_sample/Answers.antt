@@ -1,7 +1,7 @@
 -- Goals of `answer_sample`: the answer to a sample of up to 400 blocks.
 use Rattle.std.proofs.Common.{◌∙◌, rules}
 use Rattle.lra_syntax.specs.Grammar.{Spells}
-use Rattle.lra_meaning.specs.Refuse.{Refuse}
+use Rattle.lra_resolution_spec.specs.Refuse.{Refuse}
 use Rattle.lra_top.proofs.SampleWays.{summary_answer, refusal_answer}
 use Rattle.lra_top.proofs.sample_answer.answer_sample.Goals as goal
 

@@ -1,7 +1,7 @@
 -- Goals of `build`: a program that is written out with no points before it has its own tree and its own points.
 use Rattle.std.proofs.Common.{◌≡◌, List, map, length, Some, None, ap, subst}
 use Rattle.lra_syntax.specs.Labels.{Labelled}
-use Rattle.lra_meaning.specs.Refuse.{limit_fault}
+use Rattle.lra_resolution_spec.specs.Refuse.{limit_fault}
 use Rattle.lra_program.specs.Sites.{events_of}
 use Rattle.lra_program.specs.ProgramViews.{program_view}
 use Rattle.lra_operations.specs.TreeViews.{node_view, site_view}

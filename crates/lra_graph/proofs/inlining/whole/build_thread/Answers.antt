@@ -2,7 +2,7 @@
 use Rattle.std.proofs.Common.{◌≡◌, ◌++◌, List, map, length, Some, None, sym, ◌∙◌, arith}
 use Rattle.std.proofs.lemmas.Option.{none-some}
 use Rattle.lra_syntax.specs.Labels.{Labelled}
-use Rattle.lra_meaning.specs.Refuse.{limit_fault}
+use Rattle.lra_resolution_spec.specs.Refuse.{limit_fault}
 use Rattle.lra_program.specs.Sites.{events_of, sites_of}
 use Rattle.lra_program.specs.ProgramViews.{program_view}
 use Rattle.lra_operations.specs.Agree.{IsInlinedTree}

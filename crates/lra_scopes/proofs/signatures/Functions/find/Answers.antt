@@ -4,7 +4,7 @@ use Rattle.std.specs.Prelude.{option_map}
 use Rattle.indexmap.specs.IndexMap.{get_by_text}
 use Rattle.lra_syntax.specs.declared.trees.ExternalDeclaration.{ExternalDeclaration}
 use Rattle.lra_syntax.specs.Functions.{function_named}
-use Rattle.lra_meaning.specs.Resolve.{function_place}
+use Rattle.lra_resolution_spec.specs.Resolve.{function_place}
 use Rattle.lra_scopes.specs.Calls.{functions_at}
 use Rattle.lra_scopes.specs.Signatures.{signature_at}
 use Rattle.lra_scopes.proofs.SignatureLaws.{first_is}

@@ -1,7 +1,7 @@
 -- Goals of `Variables::count_scalars`: how many of them are scalars.
 use Rattle.std.proofs.Common.{◌≡◌, ◌∙◌, ◌+◌, ◌≤◌, ◌-◌, ◌^◌, ℕ, suc, List, length, Some, sym, ap, arith, rules}
 use Rattle.std.specs.Prelude.{slice_get}
-use Rattle.lra_meaning.specs.Scope.{width_of_all}
+use Rattle.lra_resolution_spec.specs.Scope.{width_of_all}
 use Rattle.lra_scopes.specs.declared.variables.Placed.{Placed}
 use Rattle.lra_scopes.proofs.VariableLaws.{all_scalars, scalars_within}
 use Rattle.lra_scopes.proofs.variables.Variables.count_scalars.Goals as goal

@@ -1,7 +1,7 @@
 -- Goals of `Variables::has_behind`: whether one behind the oldest `count` has the name.
 use Rattle.std.proofs.Common.{◌∙◌, ℕ, List, drop, bytes_eq, sym, ap}
 use Rattle.std.specs.List.{list_any}
-use Rattle.lra_meaning.specs.Scope.{names_in}
+use Rattle.lra_resolution_spec.specs.Scope.{names_in}
 use Rattle.lra_scopes.proofs.VariableLaws.{entries_named}
 use Rattle.lra_scopes.proofs.variables.Variables.has_behind.Goals as goal
 

@@ -1,8 +1,0 @@
--- Each row so far, and then what the calls that are left add to it, is what all of them add.
-use Rattle.std.proofs.Common.{◌≡◌, ◌<◌, ◌++◌, ℕ, [], map, drop, length, get_or}
-use Rattle.lra_calls.specs.Calls.{row_by}
-use Rattle.lra_calls.proofs.rows.find_rows.Given as goal
-
-abbrev pub invariant-calls : goal.invariant-calls
-invariant-calls l = (length l.rows.items ≡ l.count)
-    × ((j : ℕ) → j < l.count → get_or (map (λ row. row.items) l.rows.items) j [] ++ row_by j (drop l.call-index l.calls) ≡ row_by j l.calls)

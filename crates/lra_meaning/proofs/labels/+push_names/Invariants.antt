@@ -1,5 +1,0 @@
--- A list goes on from one with a lower number.
-use Rattle.lra_meaning.proofs.labels.+push_names.Given as goal
-
-abbrev pub decreases-push_names : goal.decreases-push_names
-decreases-push_names l = l.number

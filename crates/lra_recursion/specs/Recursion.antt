@@ -1,0 +1,16 @@
+-- Calls whose callee comes to their caller, in the places of functions.
+use Rattle.std.specs.Prelude.{◌≡◌, ℕ, List, ◌∷◌, ◌++◌}
+use Rattle.std.specs.List.{AllByRecursion}
+use Rattle.lra_base.specs.declared.refusals.Place.{Place}
+use Rattle.lra_recursion.specs.declared.calls.Call.{Call}
+use Rattle.lra_recursion.specs.Search.{IsReachableFrom}
+
+-- the callee comes to the caller
+abbrev pub IsRecursiveCall : List (List ℕ) → Call → Type 0
+IsRecursiveCall rows c = IsReachableFrom rows c.callee c.caller
+
+-- the first such call
+abbrev pub IsFirstRecursiveCall : List (List ℕ) → List Call → Place → Type 0
+IsFirstRecursiveCall rows calls at =
+    (before after : List Call) × (c : Call) × (calls ≡ before ++ c ∷ after) × (at ≡ c.place)
+    × IsRecursiveCall rows c × AllByRecursion (λ d. IsRecursiveCall rows d → ⊥) before
