@@ -11,8 +11,8 @@ use Rattle.lra_syntax.specs.Trees.{FileTree}
 use Rattle.lra_syntax.specs.Grammar.{Spells}
 use Rattle.lra_resolution_spec.specs.Refuse.{Refuse, too_long, bad_token, bad_text, bad_tree, Accepts}
 use Rattle.lra_report.specs.RefusalText.{refusal_text}
-use Rattle.lra_front.specs.Claims.{HasRefusal}
-use Rattle.lra_front.proofs.EachAnswer.{each_answer}
+use Rattle.lra_front_end.specs.Claims.{HasRefusal}
+use Rattle.lra_front_end.proofs.EachAnswer.{each_answer}
 use Rattle.lra_answers.specs.Statuses.{Ends, reported, refused, source_statuses}
 use Rattle.lra_answers.specs.Told.{DeservesTold, CallsTold}
 use Rattle.lra_answers.proofs.Answering.{IsAnswering, small, past}

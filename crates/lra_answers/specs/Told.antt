@@ -6,7 +6,7 @@ use Rattle.lra_syntax.specs.Trees.{FileTree}
 use Rattle.lra_syntax.specs.Grammar.{Spells}
 use Rattle.lra_resolution_spec.specs.Refuse.{Refuse, Accepts}
 use Rattle.lra_report.specs.RefusalText.{refusal_text}
-use Rattle.lra_front.specs.Claims.{HasRefusal}
+use Rattle.lra_front_end.specs.Claims.{HasRefusal}
 use Rattle.lra_answers.specs.Statuses.{refused}
 use Rattle.lra_answers.specs.declared.status.Status.{Status}
 use Rattle.lra_answers.specs.declared.status.Status.TheVariants.{Refused}

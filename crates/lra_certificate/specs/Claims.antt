@@ -14,7 +14,7 @@ use Rattle.lra_program.specs.Run.{At, Fails}
 use Rattle.lra_program.specs.Sites.{Site, sites_of}
 use Rattle.lra_operations.specs.Tree.{Node}
 use Rattle.lra_operations.specs.Agree.{point_of}
-use Rattle.lra_front.specs.Stages.{HasTree, HasGraph}
+use Rattle.lra_front_end.specs.Stages.{HasTree, HasInlinedTree}
 use Rattle.lra_domain.specs.Moves.{SomeLeads}
 use Rattle.lra_ways.specs.Ways.{Goal, comes_to, denies}
 use Rattle.lra_paths.specs.Paths.{live_at, leading, paths_of, AreFewPaths, HasTooMany}
@@ -30,7 +30,7 @@ pub record IsProgram (source : List ℕ) : Type 0 where
   pub read : HasTree source tree
   pub operations : Node
   pub sites : List Site
-  pub graph : HasGraph tree operations sites
+  pub graph : HasInlinedTree tree operations sites
 
 abbrev pub program_of : {source : List ℕ} → IsProgram source → Program
 program_of p = resolve p.tree

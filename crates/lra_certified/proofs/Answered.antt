@@ -23,7 +23,7 @@ use Rattle.lra_poly_domain.specs.Laws.{polyhedron_laws}
 use Rattle.lra_poly_domain.specs.Abstraction.{polyhedron_abstraction}
 use Rattle.lra_states.specs.Polyhedra.{shown_polyhedron}
 use Rattle.lra_report.specs.Report.{Report}
-use Rattle.lra_front.specs.Stages.{HasTree, HasGraph, HasConstants}
+use Rattle.lra_front_end.specs.Stages.{HasTree, HasInlinedTree, HasConstants}
 use Rattle.lra_paths.specs.Paths.{AreFewPaths, live_of}
 use Rattle.lra_closed.specs.Closed.{AreClosed, AreWide, FailOnce}
 use Rattle.lra_closed.specs.RationalPoints.{rational_points}
@@ -54,20 +54,20 @@ use Rattle.lra_certified.proofs.Written.{stops_there, counted}
 
 -- ---- the program
 -- few variables live at each point
-pub live_small : (t : FileTree) (g : Node) (sites : List declared.Site) → HasGraph t g (map site_view sites) → All (λ s. s.live < 2 ^ 31) sites
+pub live_small : (t : FileTree) (g : Node) (sites : List declared.Site) → HasInlinedTree t g (map site_view sites) → All (λ s. s.live < 2 ^ 31) sites
 live_small t g sites has = live_few sites (sites_of (resolve t)) has.points has.few
 
-pub many_small : (t : FileTree) (g : Node) (sites : List declared.Site) → HasGraph t g (map site_view sites) → length sites < 2 ^ 31
+pub many_small : (t : FileTree) (g : Node) (sites : List declared.Site) → HasInlinedTree t g (map site_view sites) → length sites < 2 ^ 31
 many_small t g sites has =
     let few = few_points t g (map site_view sites) has in
     let same = length-map sites site_view in
     omega (arith, few, same)
 
-pub sites_are : (t : FileTree) (g : Node) (sites : List Site) (P : Program) → HasGraph t g sites → P ≡ resolve t → sites ≡ sites_of P
+pub sites_are : (t : FileTree) (g : Node) (sites : List Site) (P : Program) → HasInlinedTree t g sites → P ≡ resolve t → sites ≡ sites_of P
 sites_are t g sites P has is = has.points ∙ ap sites_of (sym is)
 
 -- ---- what the iteration hands over
-module _ (t : FileTree) (g : Node) (sites : List Site) (has : HasGraph t g sites) (constants : List ℤ) (values : List Polyhedron)
+module _ (t : FileTree) (g : Node) (sites : List Site) (has : HasInlinedTree t g sites) (constants : List ℤ) (values : List Polyhedron)
     (verdicts : List (ℕ × Bool)) (flagged : Option ℕ)
     (solved : IsSolved polyhedron_abstraction (plan_of certify_options constants) (resolve t) g values verdicts flagged) where
   many : length values ≡ length (sites_of (resolve t))
@@ -140,7 +140,7 @@ module _ (P Q : Program) (g : Node) (seen states : List State) (listed_now prove
   failed_so (Err e) h = same_lines (λ p ss qs. IsFailure p g ss qs e) h
 
 -- ---- answers
-module _ (source : List ℕ) (t : FileTree) (g : Node) (sites : List Site) (read : HasTree source t) (has : HasGraph t g sites) where
+module _ (source : List ℕ) (t : FileTree) (g : Node) (sites : List Site) (read : HasTree source t) (has : HasInlinedTree t g sites) where
   abbrev program : IsProgram source
   program = record { tree = t; read = read; operations = g; sites = sites; graph = has }
 

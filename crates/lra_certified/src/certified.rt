@@ -14,7 +14,7 @@ ghost use Rattle.lra_paths.specs.Paths.{AreFewPaths};
 ghost use Rattle.lra_certificate.specs.CertificateText.{text_line, numbered_text, head_text};
 ghost use Rattle.lra_certify.specs.Certified.{IsCertified, IsFailure};
 ghost use Rattle.lra_report.specs.View.{report_of, verdict_of};
-ghost use Rattle.lra_front.specs.Stages.{HasGraph};
+ghost use Rattle.lra_front_end.specs.Stages.{HasInlinedTree};
 ghost use Rattle.lra_source.specs.Answers.{IsAnswered};
 ghost use Rattle.lra_certified.specs.Settings as settings;
 ghost use Rattle.lra_certified.specs.Taken.{state_by, proved_in};
@@ -26,7 +26,7 @@ use crate::refusals::CertifyError;
 use crate::settings::certify_options;
 use crate::taken::{proved_of, states_of};
 use lra_certify::{CertifyFailure, certify};
-use lra_front::{Front, read_source};
+use lra_front_end::{AcceptedSource, read_source};
 use lra_iter::{Plan, Solution};
 use lra_poly_domain::Polyhedron;
 use lra_report::{Report, Verdict, VerdictKind};
@@ -88,10 +88,10 @@ fn text_of(alloc: Global, source: &[u8], body: &str) -> Result<Vec<u8>, AllocErr
 /// The lines behind the source, by what the iteration found of its program.
 fn certify_solution(
     alloc: Global,
-    front: &Front,
+    front: &AcceptedSource,
     solution: &Solution<Polyhedron>,
 ) -> Result<String, CertifyFailure>
-    requires graph { HasGraph (tree_view front.now.tree) (node_view front.now.graph.tree)
+    requires graph { HasInlinedTree (tree_view front.now.tree) (node_view front.now.graph.tree)
         (map site_view front.now.graph.sites.items) }
     requires program { program_view front.now.resolution.program ≡
         resolve (tree_view front.now.tree) }
@@ -120,8 +120,8 @@ fn certify_solution(
 }
 
 /// What the iteration finds of the program that is read of a source.
-fn solve(alloc: Global, front: &Front) -> Result<Solution<Polyhedron>, AllocError>
-    requires graph { HasGraph (tree_view front.now.tree) (node_view front.now.graph.tree)
+fn solve(alloc: Global, front: &AcceptedSource) -> Result<Solution<Polyhedron>, AllocError>
+    requires graph { HasInlinedTree (tree_view front.now.tree) (node_view front.now.graph.tree)
         (map site_view front.now.graph.sites.items) }
     requires program { program_view front.now.resolution.program ≡
         resolve (tree_view front.now.tree) }

@@ -25,9 +25,9 @@ use Rattle.lra_operations.specs.Inlined.{as_assert, as_assume, as_switch, as_wri
 use Rattle.lra_operations.specs.Inlined.{loop_node, return_node, switch_node}
 use Rattle.lra_operations.proofs.ArmRows.{row_behind}
 use Rattle.lra_flow.specs.Opened as opened
-use Rattle.lra_agreement.proofs.Landing.{config, Matches}
-use Rattle.lra_agreement.proofs.Shapes.{tail_node}
-use Rattle.lra_agreement.proofs.Split.{trail, named, not_there, receiver_is, no_mark, IsClosed, IsThere, IsSought}
+use Rattle.lra_inline_sound.proofs.Landing.{config, Matches}
+use Rattle.lra_inline_sound.proofs.Shapes.{tail_node}
+use Rattle.lra_inline_sound.proofs.Split.{trail, named, not_there, receiver_is, no_mark, IsClosed, IsThere, IsSought}
 use Rattle.lra_interleavings.specs.Writes.{OpWrites}
 use Rattle.lra_gifts.proofs.TopGifts.{TopGives, no_end, tail_gives, row_gives, loop_gives, neither, asked_only, any_only}
 

@@ -11,8 +11,8 @@ use Rattle.lra_program.specs.Traces.{TraceEvent, visit, Trace, with_visit, Becom
 use Rattle.lra_operations.specs.Tree.{Node}
 use Rattle.lra_operations.specs.Agree.{IsInlinedTree}
 use Rattle.lra_operations.specs.TracesAgree.{KeepsWidth}
-use Rattle.lra_agreement.proofs.Landing.{IsBare}
-use Rattle.lra_agreement.proofs.Reached.{found}
+use Rattle.lra_inline_sound.proofs.Landing.{IsBare}
+use Rattle.lra_inline_sound.proofs.Reached.{found}
 use Rattle.lra_interleavings.specs.Writes.{OpWrites, StepWrites}
 use Rattle.lra_interleavings.specs.ThreadModular.{WritesThere}
 use Rattle.lra_gifts.specs.GiftsAgree.{TreeGives, AllGiftsAgree}

@@ -19,7 +19,7 @@ use Rattle.lra_program.specs.Step.{do_rvalue, do_write, do_break}
 use Rattle.lra_program.specs.Step.{do_continue, do_leave, do_return, do_switch, chosen, do_stmt, do_declare, next_at}
 use Rattle.lra_program.specs.Run.{label_on, Point}
 use Rattle.lra_program.specs.Traces.{TraceEvent, with_visit, Becomes, TracedSteps}
-use Rattle.lra_agreement.proofs.Landing.{IsBare}
+use Rattle.lra_inline_sound.proofs.Landing.{IsBare}
 
 abbrev pub IsGuarded : List Item → Type 0
 IsGuarded [] = ⊤

@@ -13,8 +13,8 @@ use Rattle.lra_operations.specs.Tree.{Node, Arms, no_arms, entry, arm}
 use Rattle.lra_operations.specs.Traces.{VisitsPoint}
 use Rattle.lra_operations.specs.Inlined.{loop_node}
 use Rattle.lra_operations.proofs.ArmRows.{arms_row, row_behind}
-use Rattle.lra_agreement.proofs.Landing.{IsBare}
-use Rattle.lra_agreement.proofs.Shapes.{tail_node, Round, rounds_first}
+use Rattle.lra_inline_sound.proofs.Landing.{IsBare}
+use Rattle.lra_inline_sound.proofs.Shapes.{tail_node, Round, rounds_first}
 use Rattle.lra_flow.specs.Opened as opened
 use Rattle.lra_interleavings.specs.Writes.{OpWrites, StepWrites}
 

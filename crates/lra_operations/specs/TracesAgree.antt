@@ -55,6 +55,6 @@ module _ (may : State → State → Type 0) (P : Program) (g : Node) where
         (a.events ≡ visit (point_at (sites_of P) number) b.state ∷ b.events)
 
 -- each tree of a program, which runs alone, has the program's trails. For other changes at points that keep the store's
--- length it is the lemma from which this follows (`trails_agree` of lra_graph's proofs)
+-- length it is the lemma from which this follows (`traces_agree` of lra_inline's proofs)
 abbrev pub TreesHaveTraces : Type 0
 TreesHaveTraces = (P : Program) (g : Node) → AreDistinct (sites_of P) → IsInlinedTree P g → TracesAgree NoChange P g

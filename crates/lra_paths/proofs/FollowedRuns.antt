@@ -11,9 +11,9 @@ use Rattle.lra_operations.specs.Tree.{Node}
 use Rattle.lra_operations.specs.Traces.{to_point}
 use Rattle.lra_operations.specs.Agree.{AreDistinct, IsInlinedTree}
 use Rattle.lra_operations.specs.TracesAgree.{TreeRunsUpTo, TracesAgree}
-use Rattle.lra_agreement.proofs.Agreement.{graphs_have_trails}
-use Rattle.lra_agreement.proofs.DistinctSites.{distinct_sites}
-use Rattle.lra_agreement.proofs.Performed.{performed}
+use Rattle.lra_inline_sound.proofs.Agreement.{graphs_have_trails}
+use Rattle.lra_inline_sound.proofs.DistinctSites.{distinct_sites}
+use Rattle.lra_inline_sound.proofs.Performed.{performed}
 
 -- the tree comes to the points of the program's runs, on their trails; no two points are the same
 pub record FollowsRuns (P : Program) (g : Node) : Type 0 where

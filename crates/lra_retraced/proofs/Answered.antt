@@ -12,7 +12,7 @@ use Rattle.lra_operations.specs.Tree.{Node}
 use Rattle.lra_operations.specs.TreeViews.{site_view}
 use Rattle.lra_operations.specs.declared.tree.Site as declared
 use Rattle.lra_report.specs.BackText.{BackReport}
-use Rattle.lra_front.specs.Stages.{HasTree, HasGraph, HasConstants}
+use Rattle.lra_front_end.specs.Stages.{HasTree, HasInlinedTree, HasConstants}
 use Rattle.lra_paths.specs.Paths.{AreFewIn, HasTooManyIn}
 use Rattle.lra_certificate.specs.Claims.{IsProgram}
 use Rattle.lra_poly_domain.specs.Abstraction.{polyhedron_abstraction}
@@ -29,7 +29,7 @@ use Rattle.lra_retraced.proofs.Flags.{flag_below}
 use Rattle.lra_retraced.proofs.Forward.{taken}
 
 -- ---- of a program, by its globals and points as they are handed on
-module _ (t : FileTree) (g : Node) (sites : List Site) (has : HasGraph t g sites) (globals : List GlobalVariable) (is : (resolve t).globals ≡ globals)
+module _ (t : FileTree) (g : Node) (sites : List Site) (has : HasInlinedTree t g sites) (globals : List GlobalVariable) (is : (resolve t).globals ≡ globals)
     (constants : List ℤ) (p : ℕ) where
   module _ (forward values : List Polyhedron) (flagged last : Option ℕ) (holds : Bool)
       (traced : IsTraced polyhedron_abstraction polyhedron_backward globals sites g forward flagged p values last) where
@@ -66,7 +66,7 @@ module _ (t : FileTree) (g : Node) (sites : List Site) (has : HasGraph t g sites
       (λ q same. many q (ap (λ (f : BackFailure). let err : Result X BackFailure = Err f in err) same))
 
 -- ---- of a source
-module _ (source : List ℕ) (t : FileTree) (g : Node) (sites : List Site) (read : HasTree source t) (has : HasGraph t g sites) (p : ℕ) where
+module _ (source : List ℕ) (t : FileTree) (g : Node) (sites : List Site) (read : HasTree source t) (has : HasInlinedTree t g sites) (p : ℕ) where
   abbrev program : IsProgram source
   program = record { tree = t; read = read; operations = g; sites = sites; graph = has }
 
@@ -91,7 +91,8 @@ module _ (source : List ℕ) (t : FileTree) (g : Node) (sites : List Site) (read
   refused of_back.Memory none = tt
 
 -- ---- numbers of points
-pub small_number : (sites : List declared.Site) (t : FileTree) (g : Node) → HasGraph t g (map site_view sites) → (q : ℕ) → q < length sites → suc q < 2 ^ 32
+pub small_number : (sites : List declared.Site) (t : FileTree) (g : Node) → HasInlinedTree t g (map site_view sites) → (q : ℕ) → q < length sites →
+    suc q < 2 ^ 32
 small_number sites t g has q low =
     let few = few_points t g (map site_view sites) has in
     let same = length-map sites site_view in

@@ -14,7 +14,7 @@ use Rattle.lra_flow.specs.Operations.{defined, dropping, straining}
 use Rattle.lra_flow.specs.Room.{most_live}
 use Rattle.lra_flow.proofs.OneAccess.{accesses_written, accesses_strained}
 use Rattle.lra_iter.specs.Solved.{IsSolved}
-use Rattle.lra_front.specs.Stages.{HasGraph}
+use Rattle.lra_front_end.specs.Stages.{HasInlinedTree}
 use Rattle.lra_poly_domain.specs.Laws.{polyhedron_laws}
 use Rattle.lra_poly_domain.specs.Abstraction.{polyhedron_abstraction}
 use Rattle.lra_source.proofs.Fitting.{few_globals, tree_fits}
@@ -28,7 +28,7 @@ use Rattle.lra_failing.proofs.PathsMade.{paths_made}
 use Rattle.lra_retraced.specs.Forward.{IsForward, forward_plan}
 
 -- ---- what is found
-module _ (t : FileTree) (g : Node) (sites : List Site) (has : HasGraph t g sites) (constants : List ℤ) (values : List Polyhedron)
+module _ (t : FileTree) (g : Node) (sites : List Site) (has : HasInlinedTree t g sites) (constants : List ℤ) (values : List Polyhedron)
     (verdicts : List (ℕ × Bool)) (behind : Option ℕ)
     (solved : IsSolved polyhedron_abstraction (forward_plan constants) (resolve t) g values verdicts behind) where
   pub wide_at : AreWide polyhedron_abstraction (sites_of (resolve t)) values
@@ -80,7 +80,7 @@ module _ (t : FileTree) (g : Node) (sites : List Site) (has : HasGraph t g sites
     }
 
 -- ---- what going back asks
-module _ (t : FileTree) (g : Node) (sites : List Site) (has : HasGraph t g sites) where
+module _ (t : FileTree) (g : Node) (sites : List Site) (has : HasInlinedTree t g sites) where
   pub paths_at : PathsFit (resolve t).globals (sites_of (resolve t)) g
   paths_at =
       paths_made (resolve t).globals (sites_of (resolve t)) g small (tree_fits (resolve t) g has.well has.few has.is_graph)

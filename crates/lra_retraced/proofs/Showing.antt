@@ -12,7 +12,7 @@ use Rattle.lra_resolution_spec.specs.Resolve.{resolve}
 use Rattle.lra_program.specs.Sites.{Site, sites_of}
 use Rattle.lra_operations.specs.Tree.{Node}
 use Rattle.lra_options.specs.declared.options.Domain.TheVariants.{Poly}
-use Rattle.lra_front.specs.Stages.{HasGraph}
+use Rattle.lra_front_end.specs.Stages.{HasInlinedTree}
 use Rattle.lra_report.specs.Listing.{AreListed, HasWidth}
 use Rattle.lra_report.specs.Parts.{HasSamePoints, Tells}
 use Rattle.lra_report.specs.Report.{Invariant, PointReport}
@@ -66,7 +66,7 @@ pub backs_same_points : BacksHaveSamePoints
 backs_same_points source p r x = same_points x.program.tree x.values r.points x.shows
 
 -- the points of a source as they are listed
-pub shows_points : (t : FileTree) (g : Node) (sites : List Site) → HasGraph t g sites → (values : List Polyhedron) (states : List Invariant)
+pub shows_points : (t : FileTree) (g : Node) (sites : List Site) → HasInlinedTree t g sites → (values : List Polyhedron) (states : List Invariant)
     (points : List PointReport) (names : List (List ℕ)) (labels : List Labelled) → AreWide polyhedron_abstraction sites values
     → AreShown polyhedron_abstraction Poly shown_polyhedron values → states ≡ map shown_polyhedron values → names ≡ globals_named t.parts
     → labels ≡ labels_of t → AreListed names labels 1 sites points → map state_of points ≡ states → ShowsAtPoints t values points

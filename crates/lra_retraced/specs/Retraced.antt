@@ -24,7 +24,7 @@ use Rattle.lra_report.specs.Parts.{HasSamePoints}
 use Rattle.lra_report.specs.Report.{PointReport, Holds}
 use Rattle.lra_states.specs.Polyhedra.{shown_polyhedron}
 use Rattle.lra_states.specs.Shown.{AreShown}
-use Rattle.lra_front.specs.Stages.{HasConstants}
+use Rattle.lra_front_end.specs.Stages.{HasConstants}
 use Rattle.lra_flow.specs.Accesses.{JudgesAccesses}
 use Rattle.lra_flow.specs.Analysis.{Written, Solves, Strains}
 use Rattle.lra_flow.specs.Operations as iteration

@@ -6,7 +6,7 @@ ghost use Rattle.lra_syntax.specs.Views.{tree_view};
 ghost use Rattle.lra_resolution_spec.specs.Resolve.{resolve};
 ghost use Rattle.lra_program.specs.ProgramViews.{program_view};
 ghost use Rattle.lra_operations.specs.TreeViews.{node_view, site_view};
-ghost use Rattle.lra_front.specs.Stages.{HasGraph};
+ghost use Rattle.lra_front_end.specs.Stages.{HasInlinedTree};
 ghost use Rattle.lra_iter.specs.Solved.{IsSolved};
 ghost use Rattle.lra_poly_domain.specs.Abstraction.{polyhedron_abstraction};
 ghost use Rattle.lra_report.specs.View.{back_report_of, point_report_of};
@@ -17,7 +17,7 @@ ghost use Rattle.lra_retraced.specs.Retraced.{IsBackOf, IsRefusedSo, IsRetraced,
 
 use crate::refusals::BackError;
 use lra_back::{BackFailure, Backs, back};
-use lra_front::{Front, read_source};
+use lra_front_end::{AcceptedSource, read_source};
 use lra_inside::judge_accesses;
 use lra_iter::{Plan, Solution};
 use lra_listing::{list_points, names_of_globals, number_of};
@@ -36,8 +36,8 @@ struct Forward {
 }
 
 /// What the iteration finds of the program that is read of a source.
-fn solve(alloc: Global, front: &Front) -> Result<Solution<Polyhedron>, AllocError>
-    requires graph { HasGraph (tree_view front.now.tree) (node_view front.now.graph.tree)
+fn solve(alloc: Global, front: &AcceptedSource) -> Result<Solution<Polyhedron>, AllocError>
+    requires graph { HasInlinedTree (tree_view front.now.tree) (node_view front.now.graph.tree)
         (map site_view front.now.graph.sites.items) }
     requires program { program_view front.now.resolution.program ≡
         resolve (tree_view front.now.tree) }
@@ -51,8 +51,8 @@ fn solve(alloc: Global, front: &Front) -> Result<Solution<Polyhedron>, AllocErro
 }
 
 /// What is gone back over.
-fn look_forward(alloc: Global, front: &Front) -> Result<Forward, AllocError>
-    requires graph { HasGraph (tree_view front.now.tree) (node_view front.now.graph.tree)
+fn look_forward(alloc: Global, front: &AcceptedSource) -> Result<Forward, AllocError>
+    requires graph { HasInlinedTree (tree_view front.now.tree) (node_view front.now.graph.tree)
         (map site_view front.now.graph.sites.items) }
     requires program { program_view front.now.resolution.program ≡
         resolve (tree_view front.now.tree) }
@@ -78,8 +78,12 @@ fn look_forward(alloc: Global, front: &Front) -> Result<Forward, AllocError>
 }
 
 /// What going back over that from a point finds.
-fn retrace(alloc: Global, front: &Front, point: usize) -> Result<Backs<Polyhedron>, BackFailure>
-    requires graph { HasGraph (tree_view front.now.tree) (node_view front.now.graph.tree)
+fn retrace(
+    alloc: Global,
+    front: &AcceptedSource,
+    point: usize,
+) -> Result<Backs<Polyhedron>, BackFailure>
+    requires graph { HasInlinedTree (tree_view front.now.tree) (node_view front.now.graph.tree)
         (map site_view front.now.graph.sites.items) }
     requires program { program_view front.now.resolution.program ≡
         resolve (tree_view front.now.tree) }
@@ -108,10 +112,10 @@ fn retrace(alloc: Global, front: &Front, point: usize) -> Result<Backs<Polyhedro
 /// The points of a source, each with the state that shows the value there.
 fn list_states(
     alloc: Global,
-    front: &Front,
+    front: &AcceptedSource,
     values: &[Polyhedron],
 ) -> Result<Vec<PointReport>, AllocError>
-    requires graph { HasGraph (tree_view front.now.tree) (node_view front.now.graph.tree)
+    requires graph { HasInlinedTree (tree_view front.now.tree) (node_view front.now.graph.tree)
         (map site_view front.now.graph.sites.items) }
     requires labels { front.now.resolution.labels.labels ≡ labels_of (tree_view front.now.tree) }
     requires wide { AreWide polyhedron_abstraction (map site_view front.now.graph.sites.items)

@@ -6,7 +6,8 @@ use Rattle.std.proofs.lemmas.List.{length-take}
 use Rattle.lra_program.specs.Value.{value_of}
 use Rattle.lra_program.specs.Step.{State, environment_at, Op, append, fill, store_value, store_element, havoc, push, push_for, truncate_to, run_op}
 use Rattle.lra_program.specs.Step as step
-use Rattle.lra_agreement.proofs.Lengths.{length_append, length_fill, length_given, length_give_element, length_any, length_push, length_push_for, length_test}
+use Rattle.lra_inline_sound.proofs.Lengths.{length_append, length_fill, length_given, length_give_element, length_any, length_push, length_push_for}
+use Rattle.lra_inline_sound.proofs.Lengths.{length_test}
 use Rattle.lra_flow.specs.Live.{dims_behind}
 
 least_of_both : (n k : ℕ) → min n k ≡ k - (k - n)

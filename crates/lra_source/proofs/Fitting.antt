@@ -27,7 +27,7 @@ use Rattle.lra_operations.specs.Inlined.{InlineCases, as_switch, as_no_cases, as
 use Rattle.lra_operations.specs.Agree.{IsInlinedTree}
 use Rattle.lra_program.specs.WellFormed.{IsLive, IsGoodRvalue, IsGoodGiven, IsGoodStmt, AreGoodCases, AreGoodItems, IsGoodFunction, IsWellFormed}
 use Rattle.lra_program.specs.WellFormed.{Jumps, no_jumps, in_loop as in_loop_jumps, in_switch}
-use Rattle.lra_agreement.proofs.Lengths.{grows_all}
+use Rattle.lra_inline_sound.proofs.Lengths.{grows_all}
 use Rattle.lra_flow.specs.Live.{dims_behind, live_after}
 use Rattle.lra_change.specs.Changes.{CellFits, PlaceFits, OpFits}
 use Rattle.lra_program.proofs.GivenArguments.{given_width}

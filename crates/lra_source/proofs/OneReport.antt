@@ -48,7 +48,7 @@ use Rattle.std.proofs.lemmas.List.Elements.{Contains-append_cases}
 use Rattle.lra_source.proofs.Found.{found_of, none_before, one_asked_there}
 use Rattle.lra_source.proofs.Handing.{one_access, one_told}
 use Rattle.lra_source.proofs.FitsHanded.{unflagged_before}
-use Rattle.lra_front.specs.Stages.{OneConstants}
+use Rattle.lra_front_end.specs.Stages.{OneConstants}
 use Rattle.lra_flow.specs.Plan.{plan_of}
 use Rattle.lra_flow.specs.Analysis.{Written}
 use Rattle.lra_flow.proofs.OneTree.{one_tree}

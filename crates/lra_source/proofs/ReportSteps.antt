@@ -36,7 +36,7 @@ use Rattle.lra_listing.specs.Given.{AreInvariants, AreVerdicts, AreFitting, AreI
 use Rattle.lra_report.specs.Spelled.{IsSpelledPart}
 use Rattle.lra_states.specs.Canonical.{AreCanonicallyShown}
 use Rattle.lra_states.specs.Shown.{AreShown}
-use Rattle.lra_front.specs.Stages.{HasGraph}
+use Rattle.lra_front_end.specs.Stages.{HasInlinedTree}
 use Rattle.lra_source.specs.Stages.{IsToldOf, TellsSolution}
 use Rattle.lra_source.proofs.Fitting.{tree_fits, few_globals}
 use Rattle.lra_source.proofs.Numbering.{numbered}
@@ -51,8 +51,8 @@ use Rattle.lra_flow.proofs.OneJudgement.{judged_written, judged_strained}
 use Rattle.lra_flow.proofs.OneAccess.{accesses_written, accesses_strained}
 use Rattle.lra_flow.proofs.OneTree.{one_tree}
 use Rattle.lra_fits.specs.Judged.{AreBelow}
-use Rattle.lra_agreement.proofs.Asked.{graphs_access_well, graphs_ask_well}
-use Rattle.lra_agreement.proofs.DistinctSites.{distinct_sites}
+use Rattle.lra_inline_sound.proofs.CheckedOperations.{trees_agree_on_accesses, trees_agree_on_overflows}
+use Rattle.lra_inline_sound.proofs.DistinctSites.{distinct_sites}
 use Rattle.lra_source.proofs.Flags.{graph_below}
 use Rattle.lra_source.proofs.Found.{asked_one, flagged_below, none_before, site_there}
 use Rattle.lra_source.proofs.FitsHanded.{fitting_on, unflagged_before}
@@ -62,7 +62,7 @@ use Rattle.lra_source.proofs.Readable.{canonical, readable}
 
 -- what the iteration asks --------------------------------------------------------------------------------------------
 
-pub fits : (t : FileTree) (g : Node) (sites : List Site) (globals : List GlobalVariable) → HasGraph t g sites → (resolve t).globals ≡ globals → TreeFits g
+pub fits : (t : FileTree) (g : Node) (sites : List Site) (globals : List GlobalVariable) → HasInlinedTree t g sites → (resolve t).globals ≡ globals → TreeFits g
     (length globals)
 fits t g sites globals has is = subst (λ (l : List GlobalVariable). TreeFits g (length l)) is (tree_fits (resolve t) g has.well has.few has.is_graph)
 
@@ -71,18 +71,19 @@ pub globals_seen : (p : declared.Program) (t : FileTree) (globals : List GlobalV
     (resolve t).globals ≡ globals
 globals_seen p t globals is same = sym (ap (λ (P : Program). P.globals) is) ∙ sym same
 
-pub small_globals : (t : FileTree) (g : Node) (sites : List Site) (globals : List GlobalVariable) → HasGraph t g sites → (resolve t).globals ≡ globals → length
+pub small_globals : (t : FileTree) (g : Node) (sites : List Site) (globals : List GlobalVariable) → HasInlinedTree t g sites → (resolve t).globals ≡ globals →
+    length
     globals ≤ most_live
 small_globals t g sites globals has is =
     let few = few_globals (resolve t) g has.few has.is_graph in
     let same : length (resolve t).globals ≡ length globals = ap length is in
     omega (arith, few, same)
 
-pub good_globals : (t : FileTree) (g : Node) (sites : List Site) (globals : List GlobalVariable) → HasGraph t g sites → (resolve t).globals ≡ globals →
+pub good_globals : (t : FileTree) (g : Node) (sites : List Site) (globals : List GlobalVariable) → HasInlinedTree t g sites → (resolve t).globals ≡ globals →
     AreGoodGlobals globals
 good_globals t g sites globals has is = subst AreGoodGlobals is has.well.globals
 
-pub is_numbered : (t : FileTree) (g : Node) (sites : List Site) → HasGraph t g sites → IsNumbered sites g
+pub is_numbered : (t : FileTree) (g : Node) (sites : List Site) → HasInlinedTree t g sites → IsNumbered sites g
 is_numbered t g sites has = subst (λ (T : List Site). IsNumbered T g) (sym has.points) (numbered (resolve t) g has.is_graph)
 
 -- limits -------------------------------------------------------------------------------------------------------------
@@ -106,7 +107,7 @@ few_behind ls n (comes s ∷ es) e l =
 few_behind ls n (one_call_more at ∷ es) e l = let wrong : ⊥ = cc in absurd wrong
 
 -- no more than 2,048 points
-pub few_points : (t : FileTree) (g : Node) (sites : List Site) → HasGraph t g sites → length sites ≤ 2048
+pub few_points : (t : FileTree) (g : Node) (sites : List Site) → HasInlinedTree t g sites → length sites ≤ 2048
 few_points t g sites has =
     let few = few_behind (labels_of t) 0 (events_of (resolve t)) has.within (omega arith) in
     let same : length sites ≡ length (sites_of (resolve t)) = ap length has.points in
@@ -127,10 +128,10 @@ canonical_there {V} dims shown domain named values listed is same are =
 
 -- what the listing asks ----------------------------------------------------------------------------------------------
 
-accesses_well : (t : FileTree) (g : Node) (sites : List Site) → HasGraph t g sites → AgreesOnAccesses (resolve t) g
-accesses_well t g sites has = graphs_access_well (resolve t) g (distinct_sites (resolve t) has.well) has.is_graph
+accesses_well : (t : FileTree) (g : Node) (sites : List Site) → HasInlinedTree t g sites → AgreesOnAccesses (resolve t) g
+accesses_well t g sites has = trees_agree_on_accesses (resolve t) g (distinct_sites (resolve t) has.well) has.is_graph
 
-module _ {V H : Type 0} (m : Abstraction V H) (t : FileTree) (g : Node) (sites : List Site) (has : HasGraph t g sites) (plan : Plan)
+module _ {V H : Type 0} (m : Abstraction V H) (t : FileTree) (g : Node) (sites : List Site) (has : HasInlinedTree t g sites) (plan : Plan)
     (values : List V) (verdicts : List (ℕ × Bool)) (flagged : Option ℕ) (solved : IsSolved m plan (resolve t) g values verdicts flagged) where
   pub states_handed : Laws m → (domain : Domain) (shown : V → Invariant) → AreShown m domain shown values
       → (states : List Invariant) → states ≡ map shown values → AreInvariants sites states
@@ -208,7 +209,8 @@ module _ {V H : Type 0} (m : Abstraction V H) (t : FileTree) (g : Node) (sites :
 pub is_told : {V H : Type 0} (m : Abstraction V H) (shown : V → Invariant) (o : Options) (constants : List ℤ) (t : FileTree) (g : Node) (sites : List Site)
     (values : List V) (verdicts : List (ℕ × Bool)) (flagged : Option ℕ) (fitting : List (ℕ × Bool)) (behind : Option ℕ)
     (inside : List (ℕ × List (Place × Bool))) (last : Option ℕ) (states : List Invariant) (r : Report)
-    → HasGraph t g sites → IsSolved m (plan_of o constants) (resolve t) g values verdicts flagged → JudgesIf m (dropping m) o.fits g values flagged fitting
+    → HasInlinedTree t g sites → IsSolved m (plan_of o constants) (resolve t) g values verdicts flagged →
+    JudgesIf m (dropping m) o.fits g values flagged fitting
     behind → JudgesAccesses m (dropping m) g values behind inside last → states ≡ map shown values → AreShown m o.domain shown values
     → AllByRecursion (AllByRecursion IsSpelledPart) states → Laws m → AreCanonicallyShown o.domain m.dims shown values → r.options ≡ o → Lists t r → map state_of r.points ≡ states
     → map told_of r.verdicts ≡ told_all verdicts fitting inside → r.flagged ≡ option_map suc last → IsToldOf m shown o constants t r
@@ -223,7 +225,7 @@ is_told m shown o constants t g sites values verdicts flagged fitting behind ins
         globals = has.well.globals;
         tree = g;
         is_graph = has.is_graph;
-        asks = graphs_ask_well (resolve t) g (distinct_sites (resolve t) has.well) has.is_graph;
+        asks = trees_agree_on_overflows (resolve t) g (distinct_sites (resolve t) has.well) has.is_graph;
         accesses = accesses_well t g sites has;
         result = solved.result;
         values = values;

@@ -7,8 +7,8 @@ use Rattle.lra_report.specs.Report.{Invariant, Report}
 use Rattle.lra_resolution_spec.specs.Refuse.{Accepts}
 use Rattle.lra_domain.specs.Abstraction.{Abstraction}
 use Rattle.lra_domain.specs.Laws.{Laws}
-use Rattle.lra_front.specs.Stages.{HasConstants, HasTree}
-use Rattle.lra_front.proofs.StageSteps.{accepted}
+use Rattle.lra_front_end.specs.Stages.{HasConstants, HasTree}
+use Rattle.lra_front_end.proofs.StageSteps.{accepted}
 use Rattle.lra_source.specs.Answers.{IsAnsweredOver}
 use Rattle.lra_source.specs.Stages.{IsToldOf}
 use Rattle.lra_source.proofs.Reports.{sound, is_report}

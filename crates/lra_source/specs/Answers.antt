@@ -20,7 +20,7 @@ use Rattle.lra_states.specs.Polyhedra.{shown_polyhedron}
 use Rattle.lra_states.specs.Sets.{shown_set}
 use Rattle.lra_states.specs.Canonical.{IsCanonicalState}
 use Rattle.lra_states.specs.Shown.{shown_state}
-use Rattle.lra_front.specs.Stages.{HasConstants}
+use Rattle.lra_front_end.specs.Stages.{HasConstants}
 use Rattle.lra_source.specs.Analysed.{IsAnalysed}
 
 -- over polyhedra each state is shown by canonical lists, flagged or not

@@ -16,7 +16,7 @@ use Rattle.lra_report.specs.Listing.{Lists, IsReportOf}
 use Rattle.lra_outcomes.specs.Fits.{TreeFits}
 use Rattle.lra_iter.specs.Numbers.{AreBelow, IsNumbered}
 use Rattle.lra_domain.specs.Abstraction.{Abstraction}
-use Rattle.lra_front.specs.Claims.{AreFew}
+use Rattle.lra_front_end.specs.Claims.{AreFew}
 use Rattle.lra_source.specs.Analysed.{IsAnalysed}
 use Rattle.lra_source.specs.Answers.{IsAnswered}
 

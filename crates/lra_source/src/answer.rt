@@ -12,14 +12,14 @@ ghost use Rattle.lra_syntax.specs.Grammar.{Spells};
 ghost use Rattle.lra_resolution_spec.specs.Refuse.{Refuse};
 ghost use Rattle.lra_report.specs.View.{report_of};
 ghost use Rattle.lra_source.specs.Answers.{IsAnsweredOver, AloneOrSets, IsAnswered};
-ghost use Rattle.lra_front.specs.Stages.{HasGraph};
+ghost use Rattle.lra_front_end.specs.Stages.{HasInlinedTree};
 ghost use Rattle.lra_source.specs.Stages.{IsToldOf};
 
 use crate::reporting::{report_solution, solve_front};
 use lra_base::SourceError;
 use lra_box::Boxes;
 use lra_domain::BaseDomain;
-use lra_front::{Front, read_source};
+use lra_front_end::{AcceptedSource, read_source};
 use lra_iter::Plan;
 use lra_octagon::Octagon;
 use lra_options::{Domain, Options};
@@ -34,12 +34,12 @@ fn report_front<D: Show>(
     alloc: Global,
     options: Options,
     plan: &Plan,
-    front: &Front,
+    front: &AcceptedSource,
 ) -> Result<Report, AllocError>
     requires parts { 1 ≤ options.parts }
     requires named { options.domain ≡ D.named }
     requires plan { plan.now ≡ plan_of options front.now.constants.items }
-    requires graph { HasGraph (tree_view front.now.tree) (node_view front.now.graph.tree)
+    requires graph { HasInlinedTree (tree_view front.now.tree) (node_view front.now.graph.tree)
         (map site_view front.now.graph.sites.items) }
     requires labels { front.now.resolution.labels.labels ≡ labels_of (tree_view front.now.tree) }
     requires program { program_view front.now.resolution.program ≡

@@ -7,7 +7,7 @@ ghost use Rattle.lra_source.specs.Claims.{OneAnsweredText, TreesFit, TreesAreNum
 ghost use Rattle.lra_source.specs.Claims.{AnalysedAreReports, OneUnflaggedReport};
 
 use lra_domain::Domain;
-use lra_front::{one_answer, one_constants};
+use lra_front_end::{one_answer, one_constants};
 
 /// Two reports that answer one source under one list of options and have the same text are the same report.
 pub fn one_answered_text()

@@ -1,8 +1,8 @@
 //! What a source deserves: its one refusal, or its report.
 //!
-//! [`analyse_source`] goes on from the tree of operations that `lra_front` reads: iteration, states, report. `proofs/`
-//! joins the laws of the parts: the text of an answer makes one report; the tree of operations of a well-formed program
-//! fits the iteration, and has each point once; so what an iteration finds holds in all runs.
+//! [`analyse_source`] goes on from the tree of operations that `lra_front_end` reads: iteration, states, report.
+//! `proofs/` joins the laws of the parts: the text of an answer makes one report; the tree of operations of a
+//! well-formed program fits the iteration, and has each point once; so what an iteration finds holds in all runs.
 #![tactic(auto)]
 
 mod answer;

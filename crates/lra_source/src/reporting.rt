@@ -16,12 +16,12 @@ ghost use Rattle.lra_fits.specs.Judged.{AreBelow};
 ghost use Rattle.lra_iter.specs.Solved.{IsSolved};
 ghost use Rattle.lra_listing.specs.Views.{told_view};
 ghost use Rattle.lra_report.specs.View.{report_of};
-ghost use Rattle.lra_front.specs.Stages.{HasGraph};
+ghost use Rattle.lra_front_end.specs.Stages.{HasInlinedTree};
 ghost use Rattle.lra_source.specs.Stages.{IsToldOf, TellsSolution};
 
 use lra_domain::Domain as AbstractDomain;
 use lra_fits::{Fitting, judge};
-use lra_front::Front;
+use lra_front_end::AcceptedSource;
 use lra_inside::{Inside, judge_accesses};
 use lra_iter::{Plan, Solution, analyse};
 use lra_listing::{Found, Outline, list};
@@ -91,10 +91,10 @@ fn judge_solution<D: AbstractDomain>(
 pub fn solve_front<D: AbstractDomain>(
     alloc: Global,
     plan: &Plan,
-    front: &Front,
+    front: &AcceptedSource,
 ) -> Result<Solution<D>, AllocError>
     requires parts { 1 ≤ plan.now.parts }
-    requires graph { HasGraph (tree_view front.now.tree) (node_view front.now.graph.tree)
+    requires graph { HasInlinedTree (tree_view front.now.tree) (node_view front.now.graph.tree)
         (map site_view front.now.graph.sites.items) }
     requires program { program_view front.now.resolution.program ≡
         resolve (tree_view front.now.tree) }
@@ -110,12 +110,12 @@ pub fn solve_front<D: AbstractDomain>(
 pub fn report_solution<D: Show>(
     alloc: Global,
     options: Options,
-    front: &Front,
+    front: &AcceptedSource,
     solution: &Solution<D>,
 ) -> Result<Report, AllocError>
     requires parts { 1 ≤ options.parts }
     requires named { options.domain ≡ D.named }
-    requires graph { HasGraph (tree_view front.now.tree) (node_view front.now.graph.tree)
+    requires graph { HasInlinedTree (tree_view front.now.tree) (node_view front.now.graph.tree)
         (map site_view front.now.graph.sites.items) }
     requires labels { front.now.resolution.labels.labels ≡ labels_of (tree_view front.now.tree) }
     requires program { program_view front.now.resolution.program ≡

@@ -4,7 +4,7 @@ ghost use Rattle.lra_sides.specs.Tables.{IsTable};
 
 use crate::sources::{program_of, tree_of};
 use lra_base::SourceError;
-use lra_graph::build;
+use lra_inline::build;
 use lra_paths::{PathsFailure, Source, find_paths};
 use lra_ways::Goal;
 use std::alloc::{AllocError, Global};

@@ -2,7 +2,7 @@
 
 use crate::sources::{program_of, tree_of};
 use lra_base::{NumberType, SourceError};
-use lra_graph::{GraphError, Limit, build};
+use lra_inline::{InlineError, Limit, build};
 use lra_operations::{Node, Op, Site};
 use lra_program::{Cell, Expr};
 use std::alloc::{AllocError, Global};
@@ -112,7 +112,10 @@ fn chain(alloc: Global, functions: usize) -> Result<String, AllocError> {
 }
 
 /// How many points the program of such a chain has, or why it has no graph.
-fn count_points(alloc: Global, functions: usize) -> Result<Result<usize, GraphError>, SourceError> {
+fn count_points(
+    alloc: Global,
+    functions: usize,
+) -> Result<Result<usize, InlineError>, SourceError> {
     let source = chain(alloc, functions)?;
     let tree = tree_of(alloc, &source)?;
     let resolution = program_of(alloc, &tree)?;
@@ -128,6 +131,6 @@ fn count_points(alloc: Global, functions: usize) -> Result<Result<usize, GraphEr
 fn a_call_past_the_limit_is_told(rt: HostRuntime) {
     assert!(rt; count_points(rt.alloc(), 1) == Ok(Ok(3)));
     assert!(rt; count_points(rt.alloc(), 32) == Ok(Ok(65)));
-    let past = Err(GraphError::Passed(Limit::Calls(2)));
+    let past = Err(InlineError::Passed(Limit::Calls(2)));
     assert!(rt; count_points(rt.alloc(), 33) == Ok(past));
 }

@@ -16,7 +16,7 @@ use crate::sources::{program_of, tree_of};
 use lra_array::accesses;
 use lra_base::SourceError;
 use lra_doings::list_doings;
-use lra_graph::build;
+use lra_inline::build;
 use lra_listing::{Found, Outline, list};
 use lra_operations::{Node, Site};
 use lra_options::{DEFAULT_OPTIONS, Domain, Options};

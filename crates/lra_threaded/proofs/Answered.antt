@@ -17,7 +17,7 @@ use Rattle.lra_operations.specs.Agree.{IsInlinedTree}
 use Rattle.lra_operations.specs.Tree.{Node}
 use Rattle.lra_operations.specs.TreeViews.{node_view, site_view}
 use Rattle.lra_operations.specs.declared.tree.InlinedProgram.{InlinedProgram}
-use Rattle.lra_front.specs.Stages.{HasConstants}
+use Rattle.lra_front_end.specs.Stages.{HasConstants}
 use Rattle.lra_threads_front.specs.Claims.{IsAcceptedThreads, IsThreadTree}
 use Rattle.lra_threads_front.specs.Stages.{IsGraphOf, IsThreadGraph}
 use Rattle.lra_source.proofs.Handing.{image_of}

@@ -14,7 +14,7 @@ use Rattle.lra_operations.specs.TreeViews.{node_view}
 use Rattle.lra_operations.specs.declared.tree.InlinedProgram.{InlinedProgram}
 use Rattle.lra_report.specs.Report.{Verdict}
 use Rattle.lra_report.specs.declared.verdict_kinds.VerdictKind.TheVariants.{Assertion, Fit}
-use Rattle.lra_front.specs.Stages.{HasConstants}
+use Rattle.lra_front_end.specs.Stages.{HasConstants}
 use Rattle.lra_threads_front.specs.Stages.{IsThreadGraph}
 use Rattle.lra_threads_front.specs.declared.front.ThreadsFront.{ThreadsFront}
 use Rattle.lra_listing.specs.Given.{accesses_told, verdict_at}

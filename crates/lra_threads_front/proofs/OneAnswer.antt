@@ -15,7 +15,7 @@ use Rattle.lra_resolution_spec.specs.Threads.{thread_faults, thread_events}
 use Rattle.lra_resolution_spec.specs.RefuseThreads.{RefusesThreads, bad_name, recursive, past_limit, NotParsed, too_long}
 use Rattle.lra_resolution_spec.specs.RefuseThreads.{bad_token, bad_text, RefuseThreads, unread, bad_tree}
 use Rattle.lra_resolution_spec.specs.RefuseThreads.{AcceptsThreads, OneThreadsAnswer}
-use Rattle.lra_front.proofs.OneAnswer.{not_both, heads, one_recursive, Same, same_refusal, same_tokens, same_tree, not_long, text_and_tree}
+use Rattle.lra_front_end.proofs.OneAnswer.{not_both, heads, one_recursive, Same, same_refusal, same_tokens, same_tree, not_long, text_and_tree}
 
 one_tree_fault : (t : FileTree) (c d : Cause) (p q : Place) → RefusesThreads t c p → RefusesThreads t d q → Same c d p q
 one_tree_fault t _ _ _ _ (bad_name r x e) (bad_name s y f) = same_refusal r s (heads r s x y (sym e ∙ f))

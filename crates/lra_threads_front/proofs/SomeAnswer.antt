@@ -21,12 +21,12 @@ use Rattle.lra_lex.proofs.EachReading.{each_reading}
 use Rattle.lra_parser_spec.specs.Files.{file_at}
 use Rattle.lra_parser_spec.proofs.Ended.{lexed_end}
 use Rattle.lra_recursion.proofs.Deciding.{each_recursion}
-use Rattle.lra_agreement.proofs.Agreement.{graphs_agree}
-use Rattle.lra_agreement.proofs.DistinctSites.{distinct_sites}
-use Rattle.lra_graph.proofs.Totals.{fewer_within}
-use Rattle.lra_graph.proofs.Existing.{has_graph}
-use Rattle.lra_front.specs.Stages.{HasTree}
-use Rattle.lra_front.proofs.SomeAnswer.{text_read}
+use Rattle.lra_inline_sound.proofs.Agreement.{trees_agree}
+use Rattle.lra_inline_sound.proofs.DistinctSites.{distinct_sites}
+use Rattle.lra_inline.proofs.Totals.{fewer_within}
+use Rattle.lra_inline.proofs.Existing.{has_graph}
+use Rattle.lra_front_end.specs.Stages.{HasTree}
+use Rattle.lra_front_end.proofs.SomeAnswer.{text_read}
 use Rattle.lra_threads_front.specs.Claims.{HasThreadsRefusal, IsThreadTree, IsAcceptedThreads, EachThreadsAnswer}
 use Rattle.lra_threads_front.proofs.Limits.{within_front, fault_behind}
 use Rattle.lra_threads_front.proofs.ThreadSteps.{well, accepted}
@@ -45,7 +45,7 @@ module _ (t : FileTree) where
       let front = within_front (labels_of t) n (events_of P) rest e in
       let (g, is_graph) = has_graph P well.0 (labels_of t) (fewer_within (labels_of t) 0 n (events_of P) (omega arith) front) in
       let (gs, are) = thread_trees (n + length (event_sites (events_of P))) places well.1 (sym (fault_behind (labels_of t) n (events_of P) rest front) ∙ e) in
-      (g ∷ gs, ((is_graph, graphs_agree P g (distinct_sites P well.0) is_graph), are))
+      (g ∷ gs, ((is_graph, trees_agree P g (distinct_sites P well.0) is_graph), are))
 
 -- what the tree of a source leads to
 module _ (source : List ℕ) (t : FileTree) (has : HasTree source t) where

@@ -29,8 +29,8 @@ use Rattle.lra_resolution_spec.specs.RefuseThreads.{RefusesThreads, bad_name, re
 use Rattle.lra_resolution_sound.proofs.Spelled.{spelled_are_small}
 use Rattle.lra_resolution_sound.proofs.Whole.{threads_formed}
 use Rattle.lra_scopes.specs.Outcome.{first_fault, IsFirstFault}
-use Rattle.lra_front.specs.Stages.{HasTree, IsRecursionRefusal}
-use Rattle.lra_front.proofs.StageSteps.{first_is}
+use Rattle.lra_front_end.specs.Stages.{HasTree, IsRecursionRefusal}
+use Rattle.lra_front_end.proofs.StageSteps.{first_is}
 use Rattle.lra_threads_front.specs.Stages.{HasThreads}
 use Rattle.lra_threads_front.proofs.Limits.{fault_behind, fault_stays}
 

@@ -11,7 +11,7 @@ use Rattle.lra_operations.specs.TreeViews.{node_view, site_view}
 use Rattle.lra_operations.specs.declared.tree.InlinedProgram.{InlinedProgram}
 use Rattle.lra_resolution_spec.specs.Refuse.{limit_fault}
 use Rattle.lra_resolution_spec.specs.Threads.{thread_faults, thread_program, thread_events}
-use Rattle.lra_front.specs.Claims.{AreFew}
+use Rattle.lra_front_end.specs.Claims.{AreFew}
 
 -- the tree of operations of a well-formed program, and its points
 pub record IsGraphOf (P : Program) (g : InlinedProgram) : Type 0 where

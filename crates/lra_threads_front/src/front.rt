@@ -9,12 +9,12 @@ ghost use Rattle.lra_syntax.specs.Labels.{labels_of};
 ghost use Rattle.lra_program.specs.ProgramViews.{program_view};
 ghost use Rattle.lra_resolution_spec.specs.Threads.{thread_places, thread_program};
 ghost use Rattle.lra_resolution_spec.specs.RefuseThreads.{AcceptsThreads, RefuseThreads};
-ghost use Rattle.lra_front.specs.Stages.{HasConstants};
+ghost use Rattle.lra_front_end.specs.Stages.{HasConstants};
 ghost use Rattle.lra_threads_front.specs.Stages.{IsThreadGraph};
 
 use crate::threads::{graphs_of, threads_of};
 use lra_base::SourceError;
-use lra_front::{Reading, read_text};
+use lra_front_end::{Reading, read_text};
 use lra_operations::InlinedProgram;
 use lra_resolve::{Resolution, ThreadsResolution};
 use lra_syntax::TranslationUnit;

@@ -3,7 +3,7 @@
 //!
 //! A thread's program is the source's program with the thread's function in the place of `main`, so its points, its
 //! tree and its runs are those of that program; each thread's points are numbered from 0, and all of them count against
-//! the limit on points. The stages before the tree are those of `lra_front`.
+//! the limit on points. The stages before the tree are those of `lra_front_end`.
 #![tactic(auto)]
 
 mod front;

@@ -12,12 +12,12 @@ ghost use Rattle.lra_program.specs.WellFormed.{IsWellFormed};
 ghost use Rattle.lra_resolution_spec.specs.Refuse.{limit_fault};
 ghost use Rattle.lra_resolution_spec.specs.Threads.{thread_events, thread_faults, thread_places, thread_program};
 ghost use Rattle.lra_resolution_spec.specs.RefuseThreads.{RefusesThreads};
-ghost use Rattle.lra_opening.specs.Inlining.{points_in};
+ghost use Rattle.lra_inline_steps.specs.Inlining.{points_in};
 ghost use Rattle.lra_threads_front.specs.Stages.{HasThreads, IsGraphOf, IsThreadGraph};
 
 use lra_base::SourceError;
-use lra_front::check_calls;
-use lra_graph::{GraphError, build_thread, refusal};
+use lra_front_end::check_calls;
+use lra_inline::{InlineError, build_thread, refusal};
 use lra_operations::{InlinedProgram, Site};
 use lra_program::Program;
 use lra_resolution_spec::Labels;
@@ -61,8 +61,8 @@ fn graph_of(
     program.main = thread;
     match build_thread(alloc, program, before) {
         Ok(graph) => Ok(graph),
-        Err(GraphError::Passed(limit)) => Err(SourceError::Refused(refusal(limit, labels))),
-        Err(GraphError::Memory) => Err(SourceError::Memory),
+        Err(InlineError::Passed(limit)) => Err(SourceError::Refused(refusal(limit, labels))),
+        Err(InlineError::Memory) => Err(SourceError::Memory),
     }
 }
 

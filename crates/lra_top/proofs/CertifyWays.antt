@@ -3,7 +3,7 @@ use Rattle.std.proofs.Common.{◌≡◌, ◌<◌, ℕ, List, ◌++◌, length, s
 use Rattle.std.specs.Prelude.{Some}
 use Rattle.lra_base.specs.Places.{greatest_length}
 use Rattle.lra_report.specs.Report.{Report}
-use Rattle.lra_front.proofs.EachAnswer.{each_answer}
+use Rattle.lra_front_end.proofs.EachAnswer.{each_answer}
 use Rattle.lra_source.specs.Answers.{IsAnswered}
 use Rattle.lra_certified.specs.declared.refusals.CertifyRefusal.{CertifyRefusal}
 use Rattle.lra_certified.specs.declared.refusals.CertifyRefusal.TheVariants.{Source, Paths, Strained}

@@ -1,6 +1,6 @@
 -- A source that isn't gone back over from an assertion is refused in one way.
 use Rattle.std.proofs.Common.{refl, ap}
-use Rattle.lra_front.proofs.EachAnswer.{each_answer}
+use Rattle.lra_front_end.proofs.EachAnswer.{each_answer}
 use Rattle.lra_paths.specs.Paths.{HasTooMany}
 use Rattle.lra_certificate.specs.Claims.{program_of}
 use Rattle.lra_certificate.proofs.OneProgram.{as_said}

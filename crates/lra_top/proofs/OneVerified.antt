@@ -6,7 +6,7 @@ use Rattle.lra_base.specs.declared.refusals.Place.{Place}
 use Rattle.lra_syntax.specs.Grammar.{Spells}
 use Rattle.lra_resolution_spec.specs.Refuse.{Refuse}
 use Rattle.lra_program.specs.Sites.{sites_of}
-use Rattle.lra_front.proofs.EachAnswer.{each_answer}
+use Rattle.lra_front_end.proofs.EachAnswer.{each_answer}
 use Rattle.lra_paths.specs.Paths.{AreFewPaths, HasTooMany}
 use Rattle.lra_paths.proofs.ManyPaths.{not_both}
 use Rattle.lra_certificate.specs.Judged.{Judged, Head, too_long, bad_line, judged, head_of}

@@ -15,10 +15,10 @@ use Rattle.lra_resolution_spec.specs.Resolve.{resolve}
 use Rattle.lra_program.specs.Program.{Program}
 use Rattle.lra_program.specs.Sites.{Site, Event, comes, one_call_more, event_sites, events_of, sites_of}
 use Rattle.lra_operations.specs.Tree.{Node}
-use Rattle.lra_front.specs.Claims.{IsAccepted}
-use Rattle.lra_front.specs.Stages.{HasTree}
-use Rattle.lra_front.proofs.SomeAnswer.{some_answer}
-use Rattle.lra_front.proofs.StageSteps.{well}
+use Rattle.lra_front_end.specs.Claims.{IsAccepted}
+use Rattle.lra_front_end.specs.Stages.{HasTree}
+use Rattle.lra_front_end.proofs.SomeAnswer.{some_answer}
+use Rattle.lra_front_end.proofs.StageSteps.{well}
 use Rattle.lra_ways.specs.Ways.{Goal, comes_to, denies, Way, Segment, enter, inside}
 use Rattle.lra_sides.specs.Sides.{written}
 use Rattle.lra_paths.specs.Paths.{same_goal, live_at, started, leading, AreFewFrom, AreFewPaths, HasTooMany}

@@ -4,7 +4,7 @@ use Rattle.std.specs.Fmt.{decimal}
 use Rattle.lra_show.specs.Texts.{text_line}
 use Rattle.lra_report.specs.Report.{Report}
 use Rattle.lra_report.specs.RefusalText.{refusal_text}
-use Rattle.lra_front.specs.Claims.{HasRefusal}
+use Rattle.lra_front_end.specs.Claims.{HasRefusal}
 use Rattle.lra_paths.specs.Paths.{HasTooMany}
 use Rattle.lra_certificate.specs.Claims.{IsProgram, program_of}
 use Rattle.lra_certify.specs.declared.failures.StrainedAt.TheVariants.{Edge, Assertion}

@@ -18,7 +18,7 @@ use Rattle.lra_operations.specs.Tree.{Node}
 use Rattle.lra_operations.specs.Agree.{IsInlinedTree, point_of}
 use Rattle.lra_linear_spec.specs.Descriptions.{LinearRow, Con}
 use Rattle.lra_domain.specs.Abstraction.{Abstraction}
-use Rattle.lra_front.specs.Stages.{HasConstants}
+use Rattle.lra_front_end.specs.Stages.{HasConstants}
 use Rattle.lra_flow.specs.Plan.{plan_of}
 use Rattle.lra_flow.specs.Pass.{Result}
 use Rattle.lra_flow.specs.Analysis.{Written, Solves}

@@ -9,7 +9,7 @@ ghost use Rattle.lra_top.specs.SourceAnswer.{OneWrittenReport};
 pub fn one_written_report()
     ensures { OneWrittenReport }
 {
-    lra_front::one_answer();
+    lra_front_end::one_answer();
 }
 
 /// Each input that is to be a certificate deserves one text and one status.

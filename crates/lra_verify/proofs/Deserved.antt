@@ -25,8 +25,8 @@ use Rattle.lra_resolution_spec.specs.Resolve.{resolve}
 use Rattle.lra_program.specs.ProgramViews.{program_view}
 use Rattle.lra_program.specs.Sites.{Site, sites_of}
 use Rattle.lra_operations.specs.TreeViews.{node_view, site_view}
-use Rattle.lra_front.specs.Stages.{HasTree, HasGraph}
-use Rattle.lra_front.specs.declared.front.Front.{Front}
+use Rattle.lra_front_end.specs.Stages.{HasTree, HasInlinedTree}
+use Rattle.lra_front_end.specs.declared.front.AcceptedSource.{AcceptedSource}
 use Rattle.lra_verify.specs.declared.head.Head as declared
 use Rattle.lra_verify.specs.HeadViews.{head_view}
 use Rattle.lra_verify.proofs.VerifySteps.{live_few}
@@ -70,8 +70,8 @@ module _ (bytes : List ℕ) (o : Option declared.Head) (head : declared.Head) (s
   pub source_deserved : (cause : Cause) (place : Place) → Refuse Spells head.source.now cause place → Deserves bytes (source_refused cause place)
   source_deserved cause place r = (head_view head, has_head, r)
 
-  module _ (f : Front) (tree : HasTree head.source.now (tree_view f.tree))
-      (graph : HasGraph (tree_view f.tree) (node_view f.graph.tree) (map site_view f.graph.sites.items))
+  module _ (f : AcceptedSource) (tree : HasTree head.source.now (tree_view f.tree))
+      (graph : HasInlinedTree (tree_view f.tree) (node_view f.graph.tree) (map site_view f.graph.sites.items))
       (program : program_view f.resolution.program ≡ resolve (tree_view f.tree)) where
     abbrev is_program : IsProgram head.source.now
     is_program = record {

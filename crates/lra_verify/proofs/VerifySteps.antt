@@ -8,7 +8,7 @@ use Rattle.std.specs.List.{All}
 use Rattle.std.proofs.lemmas.List.{length-map}
 use Rattle.std.proofs.lemmas.Bool.Decides.{leb_tells}
 use Rattle.std.proofs.lemmas.Option.{slice_get-get_or, slice_get-map}
-use Rattle.lra_front.specs.Claims.{AreFew}
+use Rattle.lra_front_end.specs.Claims.{AreFew}
 use Rattle.lra_operations.specs.declared.tree.Site as declared
 use Rattle.lra_sides.proofs.TableSteps.{get_left, get_seam}
 use Rattle.lra_domain.specs.Actions.{Action}

@@ -24,7 +24,7 @@ use crate::head::head_of;
 use crate::points::take_points;
 use crate::ways::Ways;
 use lra_base::SourceError;
-use lra_front::read_source;
+use lra_front_end::read_source;
 use lra_lines::{LineFault, VerifyError, VerifyRefusal};
 use lra_operations::{InlinedProgram, Site};
 use lra_paths::{Paths, PathsFailure, Source, find_paths};

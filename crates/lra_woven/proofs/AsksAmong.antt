@@ -22,8 +22,8 @@ use Rattle.lra_operations.specs.Tree.{Node}
 use Rattle.lra_operations.specs.Agree.{IsInlinedTree, point_of, AreDistinct}
 use Rattle.lra_operations.specs.CheckedOperations.{HoldsWithFresh}
 use Rattle.lra_operations.specs.TracesAgree.{KeepsWidth}
-use Rattle.lra_agreement.proofs.Asking.{Question, Asks, all_in}
-use Rattle.lra_agreement.proofs.Reached.{reached}
+use Rattle.lra_inline_sound.proofs.NextOperations.{Question, Asks, all_in}
+use Rattle.lra_inline_sound.proofs.Reached.{reached}
 use Rattle.lra_interleavings.specs.ThreadModular.{NextOpIsThere}
 
 -- others change the first of these states to the second, which is as long and has the same draws

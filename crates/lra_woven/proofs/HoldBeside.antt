@@ -21,10 +21,10 @@ use Rattle.lra_operations.specs.Agree.{point_of}
 use Rattle.lra_operations.specs.Traces.{Stop, to_point, to_failure, stopped}
 use Rattle.lra_operations.specs.TracesAgree.{KeepsWidth, point_at, TreeRunsUpTo, TracesAgree}
 use Rattle.lra_operations.proofs.TraceUses.{renamed, goes_named}
-use Rattle.lra_agreement.proofs.Agreement.{trails_agree}
-use Rattle.lra_agreement.proofs.Asked.{graphs_access_well}
-use Rattle.lra_agreement.proofs.Asking.{strays}
-use Rattle.lra_agreement.proofs.DistinctSites.{distinct_sites}
+use Rattle.lra_inline_sound.proofs.Agreement.{traces_agree}
+use Rattle.lra_inline_sound.proofs.CheckedOperations.{trees_agree_on_accesses}
+use Rattle.lra_inline_sound.proofs.NextOperations.{strays}
+use Rattle.lra_inline_sound.proofs.DistinctSites.{distinct_sites}
 use Rattle.lra_flow.specs.Analysis.{IsUnreachable}
 use Rattle.lra_rounds.specs.Telling.{others_of}
 use Rattle.lra_rounds.specs.Rounds.{Settled}
@@ -106,7 +106,7 @@ module _ (P : Program) (fs : List Function) (graphs : List InlinedProgram) (end 
     own = thread_program P f
 
     trails : TracesAgree (may k) own t.tree
-    trails = trails_agree (may k) (keeps k) own t.tree (distinct_sites own t.well) t.is_graph
+    trails = traces_agree (may k) (keeps k) own t.tree (distinct_sites own t.well) t.is_graph
 
     -- the function of a run is the thread's
     same_function : (h : Function) → slice_get fs k ≡ Some h → h ≡ f
@@ -186,7 +186,7 @@ module _ (P : Program) (fs : List Function) (graphs : List InlinedProgram) (end 
           let (plan, solved) = round.solved in
           let (v, value, held) = held_among (beside k) box_abstraction box_laws plan own t.well.globals t.tree (node_view graph.tree) t.opens
           (values_of found) (notes_of found) (verdicts_of found) found.noted.solution.flagged solved q drawn d a.state goes left in
-          inside_holds t.tree (graphs_access_well own t.tree distinct t.is_graph n).once box_abstraction box_laws (values_of found) round.inside.0
+          inside_holds t.tree (trees_agree_on_accesses own t.tree distinct t.is_graph n).once box_abstraction box_laws (values_of found) round.inside.0
           (told_in found) _ round.inside.1 q js n place listed inner b.asked v a.state b.among b.there value held b.holds
 
       never_strays : (js : List (Place × Bool)) (n : ℕ) (place : Place) → Contains (told_in found) (q, js)

@@ -5,9 +5,9 @@ use Rattle.lra_syntax.specs.Labels.{Labelled}
 use Rattle.lra_program.specs.ProgramViews.{program_view}
 use Rattle.lra_program.specs.Sites.{events_of}
 use Rattle.lra_resolution_spec.specs.Refuse.{limit_fault}
-use Rattle.lra_opening.specs.Inlining.{points_in}
-use Rattle.lra_opening.specs.Limits.{refusal_of}
-use Rattle.lra_front.proofs.StageSteps.{limit_passed}
+use Rattle.lra_inline_steps.specs.Inlining.{points_in}
+use Rattle.lra_inline_steps.specs.Limits.{refusal_of}
+use Rattle.lra_front_end.proofs.StageSteps.{limit_passed}
 use Rattle.lra_threads_front.proofs.threads.graph_of.Goals as goal
 
 pub returns-in-Ok-clause-graph : goal.returns-in-Ok-clause-graph

@@ -12,7 +12,7 @@ use Rattle.lra_operations.specs.TreeViews.{site_view}
 use Rattle.lra_resolution_spec.specs.LabelTable.{LabelLists}
 use Rattle.lra_resolution_spec.specs.Refuse.{limit_fault}
 use Rattle.lra_resolution_spec.specs.Threads.{thread_program}
-use Rattle.lra_opening.specs.Inlining.{points_in}
+use Rattle.lra_inline_steps.specs.Inlining.{points_in}
 use Rattle.lra_threads_front.specs.Stages.{IsGraphOf, IsThreadGraph}
 use Rattle.lra_threads_front.proofs.ThreadSteps.{exit_recursive, placed, stays_placed, events_at, events_behind}
 use Rattle.lra_threads_front.proofs.ThreadSteps.{exit_limit, same_within, each_at, next_at, more_points, zip_more}

@@ -6,7 +6,7 @@ use Rattle.lra_syntax.specs.Labels.{labels_of}
 use Rattle.lra_program.specs.ProgramViews.{program_view}
 use Rattle.lra_resolution_spec.specs.Refuse.{limit_fault}
 use Rattle.lra_resolution_spec.specs.Threads.{thread_program, thread_events}
-use Rattle.lra_opening.specs.Inlining.{points_in}
+use Rattle.lra_inline_steps.specs.Inlining.{points_in}
 use Rattle.lra_threads_front.specs.Stages.{IsThreadGraph}
 use Rattle.lra_threads_front.proofs.ThreadSteps.{events_at}
 use Rattle.lra_threads_front.proofs.threads.graphs_of.Given as goal

@@ -1,9 +1,0 @@
--- Each source has one answer.
-use Rattle.lra_syntax.specs.Grammar.{Spells}
-use Rattle.lra_resolution_spec.specs.Refuse.{OneAnswer}
-use Rattle.lra_lex.proofs.OneReadingLemmas.{one_reading}
-use Rattle.lra_parser_spec.proofs.Laws.{spelled_one, spelled_one_fault}
-use Rattle.lra_front.proofs.OneAnswer as law
-
-pub each_answer : OneAnswer Spells
-each_answer = law.one_answer Spells one_reading spelled_one spelled_one_fault

@@ -1,0 +1,90 @@
+-- What the stages of the reading answer, as answers of the source.
+use Rattle.std.proofs.Common.{◌≡◌, ◌≤◌, ◌<◌, ℕ, ℤ, List, length, take, sym, ap, ◌∙◌, subst, Result}
+use Rattle.std.specs.Result.{IsErrAnd}
+use Rattle.lra_base.specs.declared.refusals.Cause.{Cause}
+use Rattle.lra_base.specs.declared.refusals.Cause.TheVariants.{TooLong}
+use Rattle.lra_base.specs.declared.refusals.Place.{Place}
+use Rattle.lra_syntax.specs.declared.tokens.Token.{Token}
+use Rattle.lra_syntax.specs.Trees.{FileTree}
+use Rattle.lra_base.specs.Places.{place_after, greatest_length}
+use Rattle.lra_syntax.specs.Tokens.{Lex, IsTokenFault, OneReading}
+use Rattle.lra_syntax.specs.Faults.{IsTree, IsTextFault}
+use Rattle.lra_syntax.specs.Grammar.{Spells}
+use Rattle.lra_resolution_spec.specs.Refuse as plain
+use Rattle.lra_resolution_spec.specs.Refuse.{RefusesTree, Refuse, bad_tree}
+use Rattle.lra_resolution_spec.specs.RefuseThreads.{NotParsed, too_long, bad_token, bad_text}
+use Rattle.lra_base.specs.declared.error.SourceError.{SourceError}
+use Rattle.lra_base.specs.Refused.{IfRefusal, IfRefused}
+use Rattle.lra_base.proofs.Refusing.{refusal_by, refused_by, exit_refused}
+use Rattle.lra_base.proofs.Limit.{limit_is}
+use Rattle.lra_syntax.specs.Constants.{constants_of}
+use Rattle.lra_front_end.specs.Stages.{HasConstants, HasTree, OneConstants}
+
+within : (source : List ℕ) → length source ≤ 65536 → length source ≤ greatest_length
+within source l = rw limit_is l
+
+-- a source that is too long
+pub long_unread : (source : List ℕ) (n : ℕ) → n ≡ 65536 → n < length source → NotParsed Spells source TooLong (place_after (take n source))
+long_unread source n is long =
+    let e : greatest_length ≡ n = limit_is ∙ sym is in
+    let past : greatest_length < length source = rw e long in
+    subst (λ (k : ℕ). NotParsed Spells source TooLong (place_after (take k source))) e (too_long past)
+
+-- a source whose tokens have a fault
+tokens_unread : (source : List ℕ) (c : Cause) (at : Place) → length source ≤ 65536 → IsTokenFault source c at → NotParsed Spells source c at
+tokens_unread source c at l fault = bad_token c at (within source l) fault
+
+-- one whose text has a fault
+text_unread : (source : List ℕ) (tokens : List Token) (c : Cause) (at : Place) → length source ≤ 65536 → Lex source tokens → IsTextFault Spells tokens c at
+    → NotParsed Spells source c at
+text_unread source tokens c at l lexed fault = bad_text tokens c at (within source l) lexed fault
+
+-- a source that has no tree is refused
+pub unread_refused : (source : List ℕ) (c : Cause) (at : Place) → NotParsed Spells source c at → Refuse Spells source c at
+unread_refused source _ _ (too_long past) = plain.too_long past
+unread_refused source _ _ (bad_token c at l fault) = plain.bad_token c at l fault
+unread_refused source _ _ (bad_text tokens c at l lexed fault) = plain.bad_text tokens c at l lexed fault
+
+pub refused_unread : {X : Type 0} (source : List ℕ) (x : Result X SourceError) → IfRefused x (λ r. NotParsed Spells source r.cause r.place)
+    → IfRefused x (λ r. Refuse Spells source r.cause r.place)
+refused_unread source x h =
+    refused_by (λ r. NotParsed Spells source r.cause r.place) (λ r. Refuse Spells source r.cause r.place) (λ r. unread_refused source r.cause r.place) x h
+
+-- one that has a tree
+pub has_tree : (source : List ℕ) (tokens : List Token) (t : FileTree) → length source ≤ 65536 → Lex source tokens → IsTree Spells tokens t → HasTree source t
+has_tree source tokens t l lexed parsed = record { tokens = tokens; not_long = within source l; lexed = lexed; parsed = parsed }
+
+-- its constants
+pub has_constants : (source : List ℕ) (tokens given : List Token) (constants : List ℤ) → Lex source tokens → given ≡ tokens → constants ≡ constants_of given
+    → HasConstants source constants
+has_constants source tokens given constants lexed same are = record { tokens = tokens; lexed = lexed; are = are ∙ ap constants_of same }
+
+pub one_list : OneReading → OneConstants
+one_list reading source one two a b =
+    let same : a.tokens ≡ b.tokens = (reading source).0 a.tokens b.tokens a.lexed b.lexed in
+    a.are ∙ ap constants_of same ∙ sym b.are
+
+-- one whose tree is refused
+pub tree_refused : (source : List ℕ) (t : FileTree) (c : Cause) (at : Place) → HasTree source t → RefusesTree t c at → Refuse Spells source c at
+tree_refused source t c at has fault = bad_tree has.tokens t c at has.not_long has.lexed has.parsed fault
+
+-- exits by the errors of the two stages
+pub exit_lexed : {X : Type 0} (source : List ℕ) (x : Result X SourceError) (e : SourceError) → length source ≤ 65536 → IsErrAnd x (λ y. y ≡ e)
+    → IfRefusal (λ r. IsTokenFault source r.cause r.place) e → IfRefused x (λ r. NotParsed Spells source r.cause r.place)
+exit_lexed source x e l is fault =
+    exit_refused (λ r. NotParsed Spells source r.cause r.place) x e is
+    (refusal_by (λ r. IsTokenFault source r.cause r.place) _ (λ r. tokens_unread source r.cause r.place l) e fault)
+
+pub exit_parsed : {X : Type 0} (source : List ℕ) (tokens given : List Token) (x : Result X SourceError) (e : SourceError) → length source ≤ 65536 → Lex source tokens
+    → given ≡ tokens → IsErrAnd x (λ y. y ≡ e) → IfRefusal (λ r. IsTextFault Spells given r.cause r.place) e
+    → IfRefused x (λ r. NotParsed Spells source r.cause r.place)
+exit_parsed source tokens given x e l lexed same is fault =
+    let there : IfRefusal (λ r. IsTextFault Spells tokens r.cause r.place) e = subst (λ (T : List Token). IfRefusal (λ r. IsTextFault Spells T r.cause r.place) e) same fault in
+    exit_refused (λ r. NotParsed Spells source r.cause r.place) x e is
+    (refusal_by (λ r. IsTextFault Spells tokens r.cause r.place) _ (λ r. text_unread source tokens r.cause r.place l lexed) e there)
+
+-- and by those behind it
+pub exit_tree : {X : Type 0} (source : List ℕ) (t : FileTree) (x : Result X SourceError) (e : SourceError) → HasTree source t → IsErrAnd x (λ y. y ≡ e)
+    → IfRefusal (λ r. RefusesTree t r.cause r.place) e → IfRefused x (λ r. Refuse Spells source r.cause r.place)
+exit_tree source t x e has is fault =
+    exit_refused (λ r. Refuse Spells source r.cause r.place) x e is (refusal_by (λ r. RefusesTree t r.cause r.place) _ (λ r. tree_refused source t r.cause r.place has) e fault)

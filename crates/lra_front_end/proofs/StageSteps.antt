@@ -1,0 +1,121 @@
+-- What the stages behind the reading answer, as answers of the tree.
+use Rattle.std.proofs.Common.{◌≡◌, ℕ, List, [], ◌∷◌, Some, None, refl, sym, ap, ◌∙◌, subst}
+use Rattle.std.specs.Prelude.{Option, Result, MatchOption}
+use Rattle.std.specs.Result.{IsErrAnd}
+use Rattle.lra_base.specs.declared.refusals.Refusal.{Refusal}
+use Rattle.lra_base.specs.declared.refusals.Place.{Place}
+use Rattle.lra_base.specs.Refused.{IfRefusal, IfRefused}
+use Rattle.lra_base.proofs.Refusing.{exit_refused, refusal_by}
+use Rattle.lra_base.specs.declared.refusals.Cause.{Cause}
+use Rattle.lra_base.specs.declared.refusals.Cause.TheVariants.{Recursive}
+use Rattle.lra_syntax.specs.Reach.{IsFirstRecursive, NotRecursive}
+use Rattle.lra_syntax.specs.Trees.{FileTree}
+use Rattle.lra_program.specs.Program.{Function, Program}
+use Rattle.lra_operations.specs.Tree.{Node}
+use Rattle.lra_program.specs.Sites.{Site, events_of, sites_of}
+use Rattle.lra_syntax.specs.Labels.{Labelled, labels_of}
+use Rattle.lra_resolution_spec.specs.Resolve.{resolve, resolved_functions}
+use Rattle.lra_resolution_spec.specs.NameFaults.{name_faults}
+use Rattle.lra_operations.specs.Agree.{IsInlinedTree, Agrees}
+use Rattle.lra_program.specs.WellFormed.{IsWellFormed}
+use Rattle.lra_syntax.specs.Grammar.{Spells}
+use Rattle.lra_resolution_spec.specs.Refuse.{limit_fault, RefusesTree, bad_name, recursive, past_limit, Accepts}
+use Rattle.lra_scopes.specs.Outcome.{first_fault, IsFirstFault}
+use Rattle.lra_inline_steps.specs.declared.points.Limit.{Limit}
+use Rattle.lra_inline_steps.specs.declared.points.InlineError.{InlineError}
+use Rattle.lra_inline_steps.specs.declared.points.InlineError.TheVariants.{Passed}
+use Rattle.lra_inline_steps.specs.Limits.{refusal_of, OnError}
+use Rattle.lra_resolution_sound.proofs.Spelled.{spelled_are_small}
+use Rattle.lra_resolution_sound.proofs.Whole.{well_formed}
+use Rattle.lra_base.specs.declared.error.SourceError.{SourceError}
+use Rattle.lra_base.specs.declared.error.SourceError.TheVariants.{Refused, Memory}
+use Rattle.lra_front_end.specs.Claims.{AreFew}
+use Rattle.lra_front_end.specs.Stages.{HasTree, HasInlinedTree, IsRecursionRefusal}
+
+-- names --------------------------------------------------------------------------------------------------------------
+
+pub first_is : (fs : List Refusal) (r : Refusal) → first_fault fs ≡ Some r → (further : List Refusal) × (fs ≡ r ∷ further)
+first_is [] r e = let wrong : ⊥ = cc in absurd wrong
+first_is (f ∷ fs) r e = (fs, cc)
+
+-- a tree whose names have a fault
+names_refused : (t : FileTree) (r : Refusal) → first_fault (name_faults t) ≡ Some r → RefusesTree t r.cause r.place
+names_refused t r e = let (further, is) = first_is (name_faults t) r e in bad_name r further is
+
+-- and so with an error that tells the first of them
+told_refused : (t : FileTree) (e : SourceError) → IsFirstFault (name_faults t) e → IfRefusal (λ r. RefusesTree t r.cause r.place) e
+told_refused t (Refused r) told = names_refused t r told
+told_refused t Memory told = tt
+
+pub exit_named : {X : Type 0} (t : FileTree) (x : Result X SourceError) (e : SourceError) → IsErrAnd x (λ y. y ≡ e) → IsFirstFault (name_faults t) e
+    → IfRefused x (λ r. RefusesTree t r.cause r.place)
+exit_named t x e is told = exit_refused (λ r. RefusesTree t r.cause r.place) x e is (told_refused t e told)
+
+-- recursion ----------------------------------------------------------------------------------------------------------
+
+-- what a search for the first recursive call answers, of the functions of a source and the table of its labels
+module _ (t : FileTree) (functions : List Function) (labels : List Labelled) (x : Option Place) (resolved : functions ≡ resolved_functions t)
+    (labelled : labels ≡ labels_of t)
+    (h : functions ≡ resolved_functions t → labels ≡ labels_of t → MatchOption x (NotRecursive t) (IsFirstRecursive t)) where
+  pub none_recursive : x ≡ None → NotRecursive t
+  none_recursive is = subst (λ (y : Option Place). MatchOption y (NotRecursive t) (IsFirstRecursive t)) is (h resolved labelled)
+
+  pub first_refused : (at : Place) → x ≡ Some at → IsRecursionRefusal t (record { cause = Recursive; place = at })
+  first_refused at is = (refl, subst (λ (y : Option Place). MatchOption y (NotRecursive t) (IsFirstRecursive t)) is (h resolved labelled))
+
+-- it refuses the tree
+recursion_refused : (t : FileTree) (r : Refusal) → name_faults t ≡ [] → IsRecursionRefusal t r → RefusesTree t r.cause r.place
+recursion_refused t r names h = subst (λ (c : Cause). RefusesTree t c r.place) (sym h.0) (recursive r.place names h.1)
+
+pub exit_recursive : {X : Type 0} (t : FileTree) (x : Result X SourceError) (e : SourceError) → name_faults t ≡ [] → IsErrAnd x (λ y. y ≡ e)
+    → IfRefusal (IsRecursionRefusal t) e
+    → IfRefused x (λ r. RefusesTree t r.cause r.place)
+exit_recursive t x e names is fault =
+    exit_refused (λ r. RefusesTree t r.cause r.place) x e is (refusal_by (IsRecursionRefusal t) _ (λ r. recursion_refused t r names) e fault)
+
+-- trees of operations ------------------------------------------------------------------------------------------------
+
+pub has_graph : (t : FileTree) (P : Program) (g : Node) (sites : List Site) → P ≡ resolve t → name_faults t ≡ [] → NotRecursive t → IsWellFormed (resolve t) → IsInlinedTree P g → Agrees P g →
+    sites ≡ sites_of P
+    → AreFew (sites_of P) → ((ls : List Labelled) → limit_fault ls 0 (events_of P) ≡ None) → HasInlinedTree t g sites
+has_graph t P g sites is names straight well graph agrees points few within = record {
+  names = names;
+  straight = straight;
+  well = well;
+  within = subst (λ (Q : Program). limit_fault (labels_of t) 0 (events_of Q) ≡ None) is (within (labels_of t));
+  few = subst (λ (Q : Program). AreFew (sites_of Q)) is few;
+  is_graph = subst (λ (Q : Program). IsInlinedTree Q g) is graph;
+  agrees = subst (λ (Q : Program). Agrees Q g) is agrees;
+  points = subst (λ (Q : Program). sites ≡ sites_of Q) is points;
+}
+
+-- the limit that is passed, where that is the answer
+pub limit_passed : (P : Limit → Type 0) (e : InlineError) (x : Limit) → e ≡ Passed x → OnError e P → P x
+limit_passed P e x is h = subst (λ (y : InlineError). OnError y P) is h
+
+-- a tree whose program passes a limit
+pub limit_refused : (t : FileTree) (P : Program) (x : Limit) (r : Refusal) (labels : List Labelled) → P ≡ resolve t → name_faults t ≡ [] → NotRecursive t
+    → ((ls : List Labelled) → limit_fault ls 0 (events_of P) ≡ Some (refusal_of ls x)) → labels ≡ labels_of t → r ≡ refusal_of labels x → RefusesTree t r.cause r.place
+limit_refused t P x r labels is names straight passed table told_by =
+    let same : r ≡ refusal_of (labels_of t) x = told_by ∙ ap (λ (ls : List Labelled). refusal_of ls x) table in
+    let there : limit_fault (labels_of t) 0 (events_of (resolve t)) ≡ Some (refusal_of (labels_of t) x) =
+    subst (λ (Q : Program). limit_fault (labels_of t) 0 (events_of Q) ≡ Some (refusal_of (labels_of t) x)) is (passed (labels_of t)) in
+    past_limit r names straight (there ∙ ap Some (sym same))
+
+-- sources ------------------------------------------------------------------------------------------------------------
+
+-- without faults of names the program of a source's tree is well-formed
+pub well : (source : List ℕ) (t : FileTree) → HasTree source t → name_faults t ≡ [] → IsWellFormed (resolve t)
+well source t has names = well_formed t (spelled_are_small source has.tokens t has.parsed.0 has.lexed has.parsed.1 has.parsed.2) names
+
+-- without a further fault it is accepted with its tree
+pub accepted : (source : List ℕ) (t : FileTree) → HasTree source t → name_faults t ≡ [] → NotRecursive t → limit_fault (labels_of t) 0 (events_of (resolve t)) ≡ None → Accepts Spells source t
+accepted source t has names straight within = record {
+  tokens = has.tokens;
+  not_long = has.not_long;
+  lexed = has.lexed;
+  parsed = has.parsed;
+  names = names;
+  not_recursive = straight;
+  within = within;
+}

@@ -1,0 +1,54 @@
+-- What is known of a source between the stages of its reading.
+use Rattle.std.specs.Prelude.{◌≡◌, ℕ, ◌≤◌, ℤ, List, [], length, None}
+use Rattle.lra_base.specs.declared.refusals.Cause.TheVariants.{Recursive}
+use Rattle.lra_base.specs.declared.refusals.Refusal.{Refusal}
+use Rattle.lra_syntax.specs.declared.tokens.Token.{Token}
+use Rattle.lra_syntax.specs.Trees.{FileTree}
+use Rattle.lra_base.specs.Places.{greatest_length}
+use Rattle.lra_syntax.specs.Tokens.{Lex}
+use Rattle.lra_syntax.specs.Constants.{constants_of}
+use Rattle.lra_syntax.specs.Faults.{IsTree}
+use Rattle.lra_syntax.specs.Grammar.{Spells}
+use Rattle.lra_resolution_spec.specs.NameFaults.{name_faults}
+use Rattle.lra_syntax.specs.Labels.{labels_of}
+use Rattle.lra_resolution_spec.specs.Resolve.{resolve}
+use Rattle.lra_operations.specs.Tree.{Node}
+use Rattle.lra_program.specs.Sites.{Site, events_of, sites_of}
+use Rattle.lra_operations.specs.Agree.{IsInlinedTree, Agrees}
+use Rattle.lra_program.specs.WellFormed.{IsWellFormed}
+use Rattle.lra_resolution_spec.specs.Refuse.{limit_fault}
+use Rattle.lra_syntax.specs.Reach.{IsFirstRecursive, NotRecursive}
+use Rattle.lra_front_end.specs.Claims.{AreFew}
+
+-- a source that isn't too long, and its tree
+pub record HasTree (source : List ℕ) (t : FileTree) : Type 0 where
+  pub tokens : List Token
+  pub not_long : length source ≤ greatest_length
+  pub lexed : Lex source tokens
+  pub parsed : IsTree Spells tokens t
+
+-- the constants of a source that has tokens: those are its one list (`OneReading`), so these are its own
+pub record HasConstants (source : List ℕ) (constants : List ℤ) : Type 0 where
+  pub tokens : List Token
+  pub lexed : Lex source tokens
+  pub are : constants ≡ constants_of tokens
+
+-- a source has one list of constants
+abbrev pub OneConstants : Type 0
+OneConstants = (source : List ℕ) (one two : List ℤ) → HasConstants source one → HasConstants source two → one ≡ two
+
+-- the refusal of a tree's first recursive call
+abbrev pub IsRecursionRefusal : FileTree → Refusal → Type 0
+IsRecursionRefusal t r = (r.cause ≡ Recursive) × IsFirstRecursive t r.place
+
+-- a tree whose names have no fault, that has no recursion and whose program passes no limit, the tree of operations of
+-- that program, and its points
+pub record HasInlinedTree (t : FileTree) (tree : Node) (sites : List Site) : Type 0 where
+  pub names : name_faults t ≡ []
+  pub straight : NotRecursive t
+  pub well : IsWellFormed (resolve t)
+  pub within : limit_fault (labels_of t) 0 (events_of (resolve t)) ≡ None
+  pub few : AreFew (sites_of (resolve t))
+  pub is_graph : IsInlinedTree (resolve t) tree
+  pub agrees : Agrees (resolve t) tree
+  pub points : sites ≡ sites_of (resolve t)

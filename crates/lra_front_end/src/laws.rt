@@ -1,0 +1,29 @@
+//! Laws: each of these does nothing, and its contract is the theorem.
+
+ghost use Rattle.lra_syntax.specs.Grammar.{Spells};
+ghost use Rattle.lra_resolution_spec.specs.Refuse.{OneAnswer};
+ghost use Rattle.lra_front_end.specs.Claims.{EachAnswer};
+ghost use Rattle.lra_front_end.specs.Stages.{OneConstants};
+
+/// A source is accepted with at most one tree, or refused for at most one cause at one place; never both.
+pub fn one_answer()
+    ensures { OneAnswer Spells }
+{
+    lra_lex::one_reading();
+    lra_parser_spec::one_tree();
+}
+
+/// A source has at most one list of constants.
+pub fn one_constants()
+    ensures { OneConstants }
+{
+    lra_lex::one_reading();
+}
+
+/// Every list of bytes is refused, one of more than 65,536 bytes for that, or accepted with its tree and the tree of
+/// operations of its program; never both.
+pub fn each_answer()
+    ensures { EachAnswer }
+{
+    one_answer();
+}

@@ -1,0 +1,39 @@
+-- Where something holds of what is on top of a run, it holds of what its tree asks there: where a run stops by a number, and where an access is outside.
+use Rattle.std.proofs.Common.{◌≡◌, ℕ, [], length, Some, None, refl, ap, subst, slice_get}
+use Rattle.lra_program.specs.Program.{Program}
+use Rattle.lra_program.specs.Step.{State, Config}
+use Rattle.lra_program.specs.Run.{start, IsOn, Reaches}
+use Rattle.lra_program.specs.Traces.{NoChange}
+use Rattle.lra_program.specs.NextOperation.{NextOpIs}
+use Rattle.lra_program.specs.Sites.{Site, sites_of}
+use Rattle.lra_program.proofs.TraceLaws.{walk_of}
+use Rattle.lra_operations.specs.Tree.{Node}
+use Rattle.lra_operations.specs.Agree.{IsInlinedTree, point_of, AreDistinct}
+use Rattle.lra_operations.specs.CheckedOperations.{AgreesOnOps, TreesAgreeOnOverflows, TreesAgreeOnAccesses}
+use Rattle.lra_operations.specs.TracesAgree.{KeepsWidth}
+use Rattle.lra_inline_sound.proofs.OncePerPoint.{Unasked, asked_once}
+use Rattle.lra_inline_sound.proofs.NextOperations.{Question, overflows, strays, Asks, all_in}
+use Rattle.lra_inline_sound.proofs.Reached.{reached}
+
+alone_keeps : KeepsWidth NoChange
+alone_keeps s t e = ap (λ (x : State). length x.store) e
+
+module _ (Q : Question) (unasked : Unasked Q.asks) (P : Program) (g : Node) (distinct : AreDistinct (sites_of P)) (is : IsInlinedTree P g) where
+  asks_there : (number : ℕ) (s : Site) (c : Config) → slice_get (sites_of P) number ≡ Some s → Reaches P c → IsOn c (point_of s)
+      → NextOpIs Q.holds P c.items c.here c.state → Asks Q (all_in Q None g) number c.state
+  asks_there number s c at r on over =
+      let walk = walk_of P r.length (start P r.draws) c [] r.steps in
+      let hit = reached NoChange alone_keeps Q P g is c walk.0 (point_of s) r.draws r.length walk.1 on in
+      subst (λ q. Asks Q (all_in Q None g) q c.state) (distinct hit.number number _ s hit.site at on.path refl) (hit.asks None over)
+
+  pub graph_asks : AgreesOnOps Q.asks Q.holds P g
+  graph_asks = record {
+    once = asked_once Q.asks unasked P g is;
+    there = λ number s c at r on over. let x = asks_there number s c at r on over in (x.asked, x.among, x.there, x.holds);
+  }
+
+pub trees_agree_on_overflows : TreesAgreeOnOverflows
+trees_agree_on_overflows = graph_asks overflows (record { appends = λ t. refl; anys = λ x. refl; keeps = λ n. refl })
+
+pub trees_agree_on_accesses : TreesAgreeOnAccesses
+trees_agree_on_accesses P g distinct is n = graph_asks (strays n) (record { appends = λ t. refl; anys = λ x. refl; keeps = λ n. refl }) P g distinct is

@@ -1,0 +1,10 @@
+-- Goals of `trees_agree_on_overflows`: does nothing.
+use Rattle.lra_inline_sound.proofs.CheckedOperations.{trees_agree_on_overflows}
+use Rattle.lra_inline_sound.proofs.DistinctSites.{distinct_sites}
+use Rattle.lra_inline_sound.proofs.trees_agree_on_overflows.Goals as goal
+
+pub returns : goal.returns
+returns c = record {
+  theorem = trees_agree_on_overflows;
+  well_formed = λ P g well is. trees_agree_on_overflows P g (distinct_sites P well) is;
+}

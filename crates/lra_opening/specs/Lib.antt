@@ -1,6 +1,0 @@
--- In the order in which they are to be read.
-pub mod Limits
-pub mod Building
-pub mod Inlining
-pub mod Open
-pub mod Steps
