@@ -10,7 +10,7 @@ use Rattle.lra_linear_spec.specs.Polyhedra.{Polyhedron, falsity}
 use Rattle.lra_linear_spec.proofs.SpellingExamples.{quadrant, plain_is_quadrant}
 use Rattle.lra_linear_spec.proofs.StrainExamples.{third_row_strains}
 use Rattle.lra_base.specs.Places.{greatest_length}
-use Rattle.lra_show.specs.Texts.{text_line}
+use Rattle.lra_row_text.specs.Texts.{text_line}
 use Rattle.lra_script.specs.ScriptText.{lines}
 use Rattle.lra_calc.specs.MadeSets.{IsMadeOfRows}
 use Rattle.lra_calc.specs.ShownSets.{polyhedron_text}

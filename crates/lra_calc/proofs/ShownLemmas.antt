@@ -13,13 +13,13 @@ use Rattle.lra_linear_spec.specs.declared.GenKind.{GenKind}
 use Rattle.lra_linear_spec.specs.declared.GenKind.TheVariants as gen
 use Rattle.lra_systems.specs.LinearSystems.{LinearSystem, rows_by_kind, constraints, generators, FitsKind, FitKinds}
 use Rattle.lra_linear_spec.specs.Kinds.{is_equality, is_line}
-use Rattle.lra_show.specs.Shown.{report_row, report_generator}
-use Rattle.lra_show.specs.ShownDescriptions.{generator_kind, shown_constraint, shown_generator}
-use Rattle.lra_show.specs.Rows.{Row}
-use Rattle.lra_show.specs.Part.{Generator}
-use Rattle.lra_show.specs.Texts.{text_line, rows_text, generators_text, generator_text}
-use Rattle.lra_show.specs.Lists.{shown_rows, shown_generators}
-use Rattle.lra_show.specs.Lines.{generator_line}
+use Rattle.lra_row_text.specs.Shown.{report_row, report_generator}
+use Rattle.lra_row_text.specs.ShownDescriptions.{generator_kind, shown_constraint, shown_generator}
+use Rattle.lra_row_text.specs.Rows.{ReportRow}
+use Rattle.lra_row_text.specs.Part.{ReportGenerator}
+use Rattle.lra_row_text.specs.Texts.{text_line, rows_text, generators_text, generator_text}
+use Rattle.lra_row_text.specs.Lists.{shown_rows, shown_generators}
+use Rattle.lra_row_text.specs.Lines.{generator_line}
 use Rattle.lra_calc.specs.ShownSets.{variables_from, variables, empty_or, polyhedron_text, generator_at}
 
 -- ---- lists
@@ -30,7 +30,8 @@ row_is r con.Eq = refl
 rows_are : (rows : List (List ℤ)) (kinds : List ConKind) → map shown_constraint (rows_by_kind is_equality rows kinds) ≡ shown_rows rows kinds
 rows_are [] kinds = refl
 rows_are (r ∷ rows) [] = refl
-rows_are (r ∷ rows) (k ∷ kinds) = ap (λ (x : Row). x ∷ map shown_constraint (rows_by_kind is_equality rows kinds)) (row_is r k) ∙ ap (λ (xs : List Row). report_row r k ∷ xs) (rows_are rows kinds)
+rows_are (r ∷ rows) (k ∷ kinds) =
+    ap (λ (x : ReportRow). x ∷ map shown_constraint (rows_by_kind is_equality rows kinds)) (row_is r k) ∙ ap (λ (xs : List ReportRow). report_row r k ∷ xs) (rows_are rows kinds)
 
 point_at : (z : ℤ) → pos 0 <ℤ z → generator_kind false z ≡ gen.Point
 point_at (pos zero) h = absurd (omega (arith, ints))
@@ -47,7 +48,7 @@ generators_are [] kinds f = refl
 generators_are (r ∷ rows) [] f = refl
 generators_are (r ∷ rows) (k ∷ kinds) f =
     ap (λ (j : GenKind). report_generator r j ∷ map shown_generator (rows_by_kind is_line rows kinds)) (kind_is r k f.0) ∙
-    ap (λ (xs : List Generator). report_generator r k ∷ xs) (generators_are rows kinds f.1)
+    ap (λ (xs : List ReportGenerator). report_generator r k ∷ xs) (generators_are rows kinds f.1)
 
 -- ---- texts
 pub no_point : (p : Polyhedron) (g : LinearSystem GenKind) → generators g ≡ p.generators → g.rows ≡ [] → polyhedron_text p ≡ text_line (codes "  empty")
@@ -59,7 +60,8 @@ some_point : (names : List (List ℕ)) (rows : List ℕ) (rs : List (List ℤ)) 
     → empty_or (rows_by_kind is_line rs ks) (generators_text names (map shown_generator (rows_by_kind is_line rs ks)) rows) ≡ rows ++ flat_map (generator_line names) (shown_generators rs ks)
 some_point names rows [] ks h e f = absurd (omega arith)
 some_point names rows (r ∷ rs) [] h e f = cc
-some_point names rows (r ∷ rs) (k ∷ ks) h e f = ap (λ (xs : List Generator). rows ++ flat_map (generator_line names) xs) (generators_are (r ∷ rs) (k ∷ ks) f)
+some_point names rows (r ∷ rs) (k ∷ ks) h e f =
+    ap (λ (xs : List ReportGenerator). rows ++ flat_map (generator_line names) xs) (generators_are (r ∷ rs) (k ∷ ks) f)
 
 pub shown_whole : (p : Polyhedron) (c : LinearSystem ConKind) (g : LinearSystem GenKind) → constraints c ≡ p.rows → generators g ≡ p.generators → 0 < length g.rows → length g.kinds ≡ length g.rows →
     FitKinds g.rows g.kinds
@@ -68,7 +70,7 @@ shown_whole p c g rows gens some same fit =
     let names = variables p.dims in
     ap (λ (gs : List LinearRow). empty_or gs (generators_text names (map shown_generator gs) (rows_text names (map shown_constraint p.rows)))) (sym gens)
     ∙ some_point names (rows_text names (map shown_constraint p.rows)) g.rows g.kinds some same fit
-    ∙ ap (λ (rs : List Row). rows_text names rs ++ flat_map (generator_line names) (shown_generators g.rows g.kinds)) (ap (map shown_constraint) (sym rows) ∙ rows_are c.rows c.kinds)
+    ∙ ap (λ (rs : List ReportRow). rows_text names rs ++ flat_map (generator_line names) (shown_generators g.rows g.kinds)) (ap (map shown_constraint) (sym rows) ∙ rows_are c.rows c.kinds)
 
 pub some_rows : (b : Bool) (rs gs : List (List ℤ)) → b ≡ nat_eq (length rs) 0 → b ≡ false → rs ≡ gs → 0 < length gs
 some_rows b [] gs e f same = let wrong : nat_eq 0 0 ≡ false = sym e ∙ f in cc

@@ -22,7 +22,7 @@ use Rattle.lra_duality.specs.declared.inclusion.Inclusion.TheVariants as inclusi
 use Rattle.lra_duality.specs.Maxima.{IsMaximum}
 use Rattle.lra_base.specs.declared.refusals.Place.{Place}
 use Rattle.lra_base.specs.Places.{place_after, greatest_length}
-use Rattle.lra_show.specs.Texts.{text_line}
+use Rattle.lra_row_text.specs.Texts.{text_line}
 use Rattle.lra_script.specs.ScriptText.{lines, is_skipped, words}
 use Rattle.lra_script.specs.LineForms.{Generator, given_of, line_of, Line, Dims, Make, Ask, Recipe, Con, Gen, Combine}
 use Rattle.lra_script.specs.LineForms.{Widen, Limited, Map, Forget, Question, Show, Holds, Include, Maximise}

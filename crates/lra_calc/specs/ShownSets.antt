@@ -5,9 +5,9 @@ use Rattle.std.specs.Prelude.{map, codes, get_or, Option, Some, None}
 use Rattle.std.specs.Fmt.{decimal}
 use Rattle.lra_linear_spec.specs.Descriptions.{LinearRow, line}
 use Rattle.lra_linear_spec.specs.Polyhedra.{Polyhedron}
-use Rattle.lra_show.specs.ShownDescriptions.{shown_constraint, shown_generator}
-use Rattle.lra_show.specs.Part.{Part}
-use Rattle.lra_show.specs.Texts.{text_line, part_text, generator_text, fraction_text}
+use Rattle.lra_row_text.specs.ShownDescriptions.{shown_constraint, shown_generator}
+use Rattle.lra_row_text.specs.Part.{Part}
+use Rattle.lra_row_text.specs.Texts.{text_line, part_text, generator_text, fraction_text}
 use Rattle.lra_duality.specs.declared.inclusion.Inclusion.{Inclusion}
 use Rattle.lra_duality.specs.declared.inclusion.Inclusion.TheVariants as inclusion
 use Rattle.lra_duality.specs.declared.maximum.Maximum.{Maximum}

@@ -2,7 +2,7 @@
 
 ghost use Rattle.std.specs.Prelude.{◌≡◌, ◌≤◌, ◌<◌, ◌<ℤ◌, ◌++◌, suc, length, codes, string_bytes, Ok, IfOk, OnOk, pos};
 ghost use Rattle.std.specs.Prelude.{ℕ, ℤ};
-ghost use Rattle.lra_show.specs.Texts.{text_line};
+ghost use Rattle.lra_row_text.specs.Texts.{text_line};
 ghost use Rattle.lra_systems.specs.LinearSystems.{constraints as constraints_of};
 ghost use Rattle.lra_duality.specs.Inclusions.{IsInclusion};
 ghost use Rattle.lra_duality.specs.Maxima.{IsMaximum};

@@ -1,12 +1,12 @@
 //! How polyhedra, their generators and values are printed.
 
 ghost use Rattle.std.specs.Prelude.{◌≡◌, ◌≤◌, ◌<◌, ◌<ℤ◌, ◌++◌, IfOk, OnOk, string_bytes, length, nat_abs, pos};
-ghost use Rattle.lra_show.specs.Texts.{fraction_text};
+ghost use Rattle.lra_row_text.specs.Texts.{fraction_text};
 ghost use Rattle.lra_script.specs.LineForms.{greatest_dims};
 ghost use Rattle.lra_calc.specs.ShownSets as shown;
 
 use lra_poly::Poly;
-use lra_show::{Names, generator_text, push_fraction, push_generators, push_rows};
+use lra_row_text::{Names, generator_text, push_fraction, push_generators, push_rows};
 use std::alloc::{AllocError, Global};
 use std::fmt::Write;
 

@@ -11,13 +11,13 @@ use Rattle.lra_linear_spec.specs.Polyhedra.{Polyhedron}
 use Rattle.lra_linear_spec.proofs.Membership.{map_from, filter_from}
 use Rattle.lra_base.specs.declared.refusals.Place.{Place}
 use Rattle.lra_program.specs.Sites.{Site}
-use Rattle.lra_show.specs.Part.{Generator}
-use Rattle.lra_show.specs.Rows.{Row}
-use Rattle.lra_show.specs.ShownDescriptions.{shown_constraint, shown_generator}
+use Rattle.lra_row_text.specs.Part.{ReportGenerator}
+use Rattle.lra_row_text.specs.Rows.{ReportRow}
+use Rattle.lra_row_text.specs.ShownDescriptions.{shown_constraint, shown_generator}
 use Rattle.lra_report.specs.declared.verdict_kinds.VerdictKind.TheVariants.{Assertion}
 use Rattle.lra_report.specs.Report.{PointReport, Verdict, Report}
-use Rattle.lra_listing.specs.Given.{IsAssertion, Told, told, told_from, told_accesses, told_of, told_all}
-use Rattle.lra_states.specs.Polyhedra.{part_if_any, shown_polyhedron}
+use Rattle.lra_report_build.specs.AnalysisResults.{IsAssertion, ReportedVerdict, reported_verdict, reported_from, reported_accesses, reported_of, reported_all}
+use Rattle.lra_report_states.specs.Polyhedra.{part_if_any, shown_polyhedron}
 use Rattle.lra_source.specs.Stages.{TellsSolution}
 use Rattle.lra_certify.specs.Certified.{AscendStrictly, AreListable}
 use Rattle.lra_certified.specs.Taken.{rows_if_any, state_by, proved_in}
@@ -69,25 +69,25 @@ listable sites verdicts order asserts =
 
 -- ---- what a report shows
 -- of the values
-shown_one : (gs rows : List LinearRow) (generators : List Generator)
+shown_one : (gs rows : List LinearRow) (generators : List ReportGenerator)
     → rows_at (part_if_any gs (record { rows = map shown_constraint rows; generators = generators })) ≡ option_map (map shown_constraint) (rows_if_any gs rows)
 shown_one [] rows generators = refl
 shown_one (g ∷ gs) rows generators = refl
 
 shown_all : (values : List Polyhedron) → map rows_at (map shown_polyhedron values) ≡ map shown_rows (map state_by values)
 shown_all [] = refl
-shown_all (p ∷ ps) = ap₂ (λ (x : Option (List Row)) (xs : List (Option (List Row))). x ∷ xs) (shown_one p.generators p.rows (map shown_generator p.generators)) (shown_all ps)
+shown_all (p ∷ ps) = ap₂ (λ (x : Option (List ReportRow)) (xs : List (Option (List ReportRow))). x ∷ xs) (shown_one p.generators p.rows (map shown_generator p.generators)) (shown_all ps)
 
 -- of the verdicts
-abbrev asserted_so : Told → Bool
+abbrev asserted_so : ReportedVerdict → Bool
 asserted_so v = is_assertion v.0 && v.3
 
-abbrev numbers_in : List Told → List ℕ
-numbers_in vs = map (λ (v : Told). v.1) (filter asserted_so vs)
+abbrev numbers_in : List ReportedVerdict → List ℕ
+numbers_in vs = map (λ (v : ReportedVerdict). v.1) (filter asserted_so vs)
 
 -- one more of them, where it is one of these
-one_more : (b : Bool) (n : ℕ) (v : Told) (vs : List Told) (ns : List ℕ) → v.1 ≡ n → map (λ (x : Told). x.1) vs ≡ ns
-    → map (λ (x : Told). x.1) (cond b (v ∷ vs) vs) ≡ cond b (n ∷ ns) ns
+one_more : (b : Bool) (n : ℕ) (v : ReportedVerdict) (vs : List ReportedVerdict) (ns : List ℕ) → v.1 ≡ n → map (λ (x : ReportedVerdict). x.1) vs ≡ ns
+    → map (λ (x : ReportedVerdict). x.1) (cond b (v ∷ vs) vs) ≡ cond b (n ∷ ns) ns
 one_more true n v vs ns same e = ap₂ (λ (k : ℕ) (l : List ℕ). k ∷ l) same e
 one_more false n v vs ns same e = e
 
@@ -95,16 +95,17 @@ split_map : {A : Type 0} (f : A → ℕ) (b : Bool) (x : A) (xs : List A) → ma
 split_map f true x xs = refl
 split_map f false x xs = refl
 
-numbers_told : (vs : List Verdict) → numbers_in (map told_of vs) ≡ proved_numbers vs
+numbers_told : (vs : List Verdict) → numbers_in (map reported_of vs) ≡ proved_numbers vs
 numbers_told [] = refl
 numbers_told (v ∷ vs) =
-    one_more (is_proved_assertion v) v.number (told_of v) (filter asserted_so (map told_of vs)) (proved_numbers vs) refl (numbers_told vs)
+    one_more (is_proved_assertion v) v.number (reported_of v) (filter asserted_so (map reported_of vs)) (proved_numbers vs) refl (numbers_told vs)
     ∙ sym (split_map (λ (x : Verdict). x.number) (is_proved_assertion v) v (filter is_proved_assertion vs))
 
-numbers_proved : (vs : List (ℕ × Bool)) → numbers_in (map (told Assertion) vs) ≡ map suc (proved_in vs)
+numbers_proved : (vs : List (ℕ × Bool)) → numbers_in (map (reported_verdict Assertion) vs) ≡ map suc (proved_in vs)
 numbers_proved [] = refl
 numbers_proved (v ∷ vs) =
-    one_more v.1 (suc v.0) (told Assertion v) (filter asserted_so (map (told Assertion) vs)) (map suc (proved_in vs)) refl (numbers_proved vs)
+    one_more v.1 (suc v.0) (reported_verdict Assertion v) (filter asserted_so (map (reported_verdict Assertion) vs)) (map suc (proved_in vs)) refl
+    (numbers_proved vs)
     ∙ sym (map_split v.1 v (filter holds_there vs))
   where
     map_split : (b : Bool) (x : ℕ × Bool) (xs : List (ℕ × Bool))
@@ -114,27 +115,29 @@ numbers_proved (v ∷ vs) =
     map_split false x xs = refl
 
 -- accesses are no assertions
-told_none : (number n : ℕ) (js : List (Place × Bool)) → filter asserted_so (told_from number n js) ≡ []
+told_none : (number n : ℕ) (js : List (Place × Bool)) → filter asserted_so (reported_from number n js) ≡ []
 told_none number n [] = refl
 told_none number n (j ∷ js) = told_none number (suc n) js
 
-accesses_none : (inside : List (ℕ × List (Place × Bool))) → filter asserted_so (flat_map told_accesses inside) ≡ []
+accesses_none : (inside : List (ℕ × List (Place × Bool))) → filter asserted_so (flat_map reported_accesses inside) ≡ []
 accesses_none [] = refl
 accesses_none (v ∷ vs) =
-    filter-append asserted_so (told_accesses v) (flat_map told_accesses vs)
-    ∙ ap₂ (λ (xs ys : List Told). xs ++ ys) (told_none (suc v.0) 0 v.1) (accesses_none vs)
+    filter-append asserted_so (reported_accesses v) (flat_map reported_accesses vs)
+    ∙ ap₂ (λ (xs ys : List ReportedVerdict). xs ++ ys) (told_none (suc v.0) 0 v.1) (accesses_none vs)
 
-numbers_all : (verdicts : List (ℕ × Bool)) (inside : List (ℕ × List (Place × Bool))) → numbers_in (told_all verdicts [] inside) ≡ map suc (proved_in verdicts)
+numbers_all : (verdicts : List (ℕ × Bool)) (inside : List (ℕ × List (Place × Bool))) →
+    numbers_in (reported_all verdicts [] inside) ≡ map suc (proved_in verdicts)
 numbers_all verdicts inside =
-    ap (map (λ (v : Told). v.1)) (filter-append asserted_so (map (told Assertion) verdicts) (flat_map told_accesses inside)
-    ∙ ap (λ (l : List Told). filter asserted_so (map (told Assertion) verdicts) ++ l) (accesses_none inside)
-    ∙ append-nil (filter asserted_so (map (told Assertion) verdicts)))
+    ap (map (λ (v : ReportedVerdict). v.1)) (filter-append asserted_so (map (reported_verdict Assertion) verdicts) (flat_map reported_accesses inside)
+    ∙ ap (λ (l : List ReportedVerdict). filter asserted_so (map (reported_verdict Assertion) verdicts) ++ l) (accesses_none inside)
+    ∙ append-nil (filter asserted_so (map (reported_verdict Assertion) verdicts)))
     ∙ numbers_proved verdicts
 
 pub shows_rows : (values : List Polyhedron) (verdicts : List (ℕ × Bool)) (r : Report) → TellsSolution shown_polyhedron false values verdicts r
     → ShowsRows r (map state_by values) (proved_in verdicts)
 shows_rows values verdicts r tells = record {
   rows_are = sym (map-map rows_at (λ (p : PointReport). p.state) r.points) ∙ ap (map rows_at) tells.states ∙ shown_all values;
-  proved_are = sym (numbers_told r.verdicts) ∙ ap numbers_in (tells.told ∙ ap (λ (f : List (ℕ × Bool)). told_all verdicts f tells.inside) (tells.silent refl))
+  proved_are = sym (numbers_told r.verdicts)
+      ∙ ap numbers_in (tells.told ∙ ap (λ (f : List (ℕ × Bool)). reported_all verdicts f tells.inside) (tells.silent refl))
       ∙ numbers_all verdicts tells.inside;
 }

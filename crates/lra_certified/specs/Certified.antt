@@ -3,8 +3,8 @@
 use Rattle.std.specs.Prelude.{◌≡◌, ◌<◌, ◌^◌, ℕ, suc, ⊤, List, [], ◌∷◌, ◌++◌, map, Option, None, Some, option_map}
 use Rattle.lra_syntax.specs.Grammar.{Spells}
 use Rattle.lra_resolution_spec.specs.Refuse.{Refuse}
-use Rattle.lra_show.specs.Rows.{Row}
-use Rattle.lra_show.specs.ShownDescriptions.{shown_constraint}
+use Rattle.lra_row_text.specs.Rows.{ReportRow}
+use Rattle.lra_row_text.specs.ShownDescriptions.{shown_constraint}
 use Rattle.lra_report.specs.Report.{Invariant, PointReport, Report}
 use Rattle.lra_paths.specs.Paths.{AreFewPaths, HasTooMany}
 use Rattle.lra_certificate.specs.Judged.{State}
@@ -23,11 +23,11 @@ use Rattle.lra_certified.specs.Assertions.{proved_numbers}
 -- what a report shows ----------------------------------------------------------------------------------------------
 
 -- the rows of a point; none where no run comes there
-abbrev pub rows_at : Invariant → Option (List Row)
+abbrev pub rows_at : Invariant → Option (List ReportRow)
 rows_at [] = None
 rows_at (part ∷ parts) = Some part.rows
 
-abbrev pub shown_rows : State → Option (List Row)
+abbrev pub shown_rows : State → Option (List ReportRow)
 shown_rows state = option_map (map shown_constraint) state
 
 -- the report shows these rows at its points, and as proved the assertions at these points, which it numbers from 1

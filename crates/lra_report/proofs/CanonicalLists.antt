@@ -9,12 +9,12 @@ use Rattle.lra_linear_spec.specs.Echelon.{HasPivot}
 use Rattle.lra_linear_spec.specs.declared.ConKind.TheVariants as con
 use Rattle.lra_linear_spec.specs.declared.GenKind.TheVariants as gen
 use Rattle.lra_systems.specs.LinearSystems.{FitsKind}
-use Rattle.lra_show.specs.Shown.{report_row, report_generator}
-use Rattle.lra_show.specs.Texts.{is_turned}
+use Rattle.lra_row_text.specs.Shown.{report_row, report_generator}
+use Rattle.lra_row_text.specs.Texts.{is_negated}
 use Rattle.lra_report.specs.Spelled.{IsSpelledRow, IsSpelledGenerator}
 
 -- the first coefficient other than 0 is above 0
-lead_up : (cs : List ℤ) (q : ℕ) → ((j : ℕ) → j < q → entry cs j ≡ pos 0) → pos 0 <ℤ entry cs q → is_turned cs ≡ false
+lead_up : (cs : List ℤ) (q : ℕ) → ((j : ℕ) → j < q → entry cs j ≡ pos 0) → pos 0 <ℤ entry cs q → is_negated cs ≡ false
 lead_up [] q before here = absurd (omega (arith, ints, here))
 lead_up (pos zero ∷ cs) zero before here = absurd (omega (arith, ints, here))
 lead_up (pos zero ∷ cs) (suc q) before here = lead_up cs q (λ j h. before (suc j) (omega arith)) here
@@ -22,13 +22,13 @@ lead_up (pos (suc n) ∷ cs) q before here = refl
 lead_up (negsuc n ∷ cs) zero before here = absurd (omega (arith, ints, here))
 lead_up (negsuc n ∷ cs) (suc q) before here = let wrong : negsuc n ≡ pos 0 = before 0 (omega arith) in cc
 
-all_flat : (cs : List ℤ) → ((j : ℕ) → entry cs j ≡ pos 0) → is_turned cs ≡ false
+all_flat : (cs : List ℤ) → ((j : ℕ) → entry cs j ≡ pos 0) → is_negated cs ≡ false
 all_flat [] flat = refl
 all_flat (pos zero ∷ cs) flat = all_flat cs (λ j. flat (suc j))
 all_flat (pos (suc n) ∷ cs) flat = refl
 all_flat (negsuc n ∷ cs) flat = let wrong : negsuc n ≡ pos 0 = flat 0 in cc
 
-leads_up : (c : ℤ) (cs : List ℤ) (p : ℕ) → HasPivot (c ∷ cs) p → is_turned cs ≡ false
+leads_up : (c : ℤ) (cs : List ℤ) (p : ℕ) → HasPivot (c ∷ cs) p → is_negated cs ≡ false
 leads_up c cs zero h = all_flat cs (λ j. h.before (suc j) (omega arith, inr refl))
 leads_up c cs (suc q) h = lead_up cs q (λ j k. h.before (suc j) (omega arith, inl (omega arith))) h.here
 

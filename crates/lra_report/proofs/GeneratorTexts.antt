@@ -18,10 +18,10 @@ use Rattle.lra_linear_spec.proofs.LowestTerms.{same_multiple, signed_quotient_is
 use Rattle.lra_linear_spec.proofs.Products.{row_same}
 use Rattle.lra_linear_spec.proofs.Signs.{cancel_same}
 use Rattle.lra_linear_spec.proofs.Ring.{v as atom, ◌⊗◌, ring}
-use Rattle.lra_show.specs.Part.{Generator}
+use Rattle.lra_row_text.specs.Part.{ReportGenerator}
 use Rattle.lra_linear_spec.specs.declared.GenKind.{GenKind}
 use Rattle.lra_linear_spec.specs.declared.GenKind.TheVariants.{Point, Ray, Line}
-use Rattle.lra_show.specs.Texts.{greatest_divisor, fraction_text, coordinate_text, value_text, values_text, generator_kind_text, generator_text}
+use Rattle.lra_row_text.specs.Texts.{greatest_divisor, fraction_text, coordinate_text, value_text, values_text, generator_kind_text, generator_text}
 use Rattle.lra_report.specs.Spelled.{IsSpelledGenerator}
 use Rattle.lra_report.proofs.Fronts.{is_visible, Ends, first_same, rest_same, both_same}
 use Rattle.lra_report.proofs.Numbers.{IsShort, decimal_same, signed_same, short_in_range}
@@ -207,7 +207,7 @@ point_same d e ys zs sd se py pz h =
     columns zero = commuted (pos e) (pos d)
     columns (suc j) = crossed_entry d e ys zs j h
 
-generator_by : (k : GenKind) (d e : ℕ) (ys zs : List ℤ) → d ≡ e → ys ≡ zs → (let x : Generator = record { kind = k; divisor = d; numbers = ys } in x) ≡
+generator_by : (k : GenKind) (d e : ℕ) (ys zs : List ℤ) → d ≡ e → ys ≡ zs → (let x : ReportGenerator = record { kind = k; divisor = d; numbers = ys } in x) ≡
     record { kind = k; divisor = e; numbers = zs }
 generator_by k d e ys zs p q = ap (λ x. record { kind = k; divisor = x; numbers = ys }) p ∙ ap (λ x. record { kind = k; divisor = e; numbers = x }) q
 
@@ -217,7 +217,7 @@ other_kind a b t u h e = absurd (eqb-false a b h (first_same e))
 generator_cases : (ns : List (List ℕ)) (k l : GenKind) (d e : ℕ) (ys zs : List ℤ) (u w : List ℕ) → length ys ≡ length ns → length zs ≡ length ns →
     IsSpelledGenerator (record { kind = k; divisor = d; numbers = ys }) → IsSpelledGenerator (record { kind = l; divisor = e; numbers = zs }) →
     generator_kind_text k ++ (values_text (value_text k d) ns ys ++ (10 ∷ u)) ≡ generator_kind_text l ++ (values_text (value_text l e) ns zs ++ (10 ∷ w)) →
-    ((let x : Generator = record { kind = k; divisor = d; numbers = ys } in x) ≡ record { kind = l; divisor = e; numbers = zs }) × (u ≡ w)
+    ((let x : ReportGenerator = record { kind = k; divisor = d; numbers = ys } in x) ≡ record { kind = l; divisor = e; numbers = zs }) × (u ≡ w)
 generator_cases ns Point Point d e ys zs u w ly lz hy hz eq =
     let s = point_values ns d e ys zs u w hy.divides hz.divides (short_in_range (pos d) hy.divisor_in) (short_in_range (pos e) hz.divisor_in) ly lz hy.numbers_in hz.numbers_in
     (append_cancel_left (codes "point") _ _ eq) in
@@ -236,7 +236,7 @@ generator_cases ns Ray Line d e ys zs u w ly lz hy hz eq = other_kind 114 108 _ 
 generator_cases ns Line Point d e ys zs u w ly lz hy hz eq = other_kind 108 112 _ _ refl eq
 generator_cases ns Line Ray d e ys zs u w ly lz hy hz eq = other_kind 108 114 _ _ refl eq
 
-pub generator_same : (ns : List (List ℕ)) (g h : Generator) (u w : List ℕ) → length g.numbers ≡ length ns → length h.numbers ≡ length ns → IsSpelledGenerator g → IsSpelledGenerator h →
+pub generator_same : (ns : List (List ℕ)) (g h : ReportGenerator) (u w : List ℕ) → length g.numbers ≡ length ns → length h.numbers ≡ length ns → IsSpelledGenerator g → IsSpelledGenerator h →
     generator_text ns g ++ (10 ∷ u) ≡ generator_text ns h ++ (10 ∷ w) → (g ≡ h) × (u ≡ w)
 generator_same ns g h u w lg lh hg hh eq =
     generator_cases ns g.kind h.kind g.divisor h.divisor g.numbers h.numbers u w lg lh hg hh

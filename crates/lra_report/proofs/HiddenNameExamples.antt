@@ -4,7 +4,7 @@ use Rattle.std.specs.Prelude.{codes}
 use Rattle.std.specs.List.{flat_map}
 use Rattle.std.specs.Fmt.{digits}
 use Rattle.lra_resolution_spec.specs.ShownNames.{shown_names}
-use Rattle.lra_show.specs.Texts.{text_line}
+use Rattle.lra_row_text.specs.Texts.{text_line}
 use Rattle.lra_report.specs.ReportText.{state_text}
 use Rattle.lra_report.proofs.ReportTextExamples.{rows_alone, is_zero}
 

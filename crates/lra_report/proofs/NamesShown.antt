@@ -5,7 +5,7 @@ use Rattle.std.specs.Fmt.{decimal}
 use Rattle.std.proofs.lemmas.List.{drop_all, length-drop}
 use Rattle.std.proofs.Math.Seq.{take-length}
 use Rattle.lra_resolution_spec.specs.ShownNames.{shown_name, shown_names}
-use Rattle.lra_show.proofs.Lists.{drop_front}
+use Rattle.lra_row_text.proofs.Lists.{drop_front}
 
 pub hidden_name : (k : ℕ) (name : List ℕ) → ¬ (k ≡ 0) → name ++ (codes "~" ++ decimal k) ≡ shown_name k name
 hidden_name zero name h = absurd (h refl)

@@ -8,7 +8,7 @@ use Rattle.lra_syntax.specs.Labels.{Labelled, labels_of, label_at, label_place}
 use Rattle.lra_resolution_spec.specs.Resolve.{resolve}
 use Rattle.lra_program.specs.Sites.{Site, sites_of}
 use Rattle.lra_report.specs.Report.{PointReport, Verdict, Report}
-use Rattle.lra_show.specs.Texts.{text_line}
+use Rattle.lra_row_text.specs.Texts.{text_line}
 use Rattle.std.specs.Prelude.{get_or}
 use Rattle.lra_report.specs.VerdictKinds.{row_of, outcome_text}
 use Rattle.lra_report.proofs.Outcomes.{outcome_same}

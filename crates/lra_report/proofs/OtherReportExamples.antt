@@ -3,8 +3,8 @@ use Rattle.std.proofs.Common.{◌≡◌, ℕ, List, [], ◌∷◌, ap, subst, sy
 use Rattle.std.specs.Prelude.{codes}
 use Rattle.lra_options.specs.declared.options.Domain.TheVariants.{Poly, Box}
 use Rattle.lra_options.specs.declared.options.Options.{Options}
-use Rattle.lra_show.specs.Part.{Part}
-use Rattle.lra_report.specs.Parts.{Tells}
+use Rattle.lra_row_text.specs.Part.{Part}
+use Rattle.lra_report.specs.Parts.{ShowsPart}
 use Rattle.lra_syntax.specs.Grammar.{Spells}
 use Rattle.lra_report.specs.Listing.{AreParts, IsReportOf}
 use Rattle.lra_report.proofs.ReportTextExamples.{defaults, both, a_point, empty_main, one_variable}
@@ -29,4 +29,5 @@ one_part_more p q h = omega (arith, h.few)
 
 -- so this is the report of no source, under no options
 generators_over_boxes : (o : Options) (source : List ℕ) → IsReportOf Spells o source (record empty_main { options = defaults Box }) → ⊥
-generators_over_boxes o source h = box_with_generator (subst (λ (p : Options). Tells p.domain 0 (both [] (a_point 1 [] ∷ []))) (sym h.options) h.parts.0.tell.0)
+generators_over_boxes o source h =
+    box_with_generator (subst (λ (p : Options). ShowsPart p.domain 0 (both [] (a_point 1 [] ∷ []))) (sym h.options) h.parts.0.tell.0)

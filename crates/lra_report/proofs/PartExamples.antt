@@ -4,25 +4,25 @@ use Rattle.std.proofs.lemmas.Int.{ints}
 use Rattle.std.specs.Prelude.{get_or, map}
 use Rattle.std.specs.Int.Signed.{le_z_yes}
 use Rattle.lra_options.specs.declared.options.Domain.TheVariants.{Poly, Box}
-use Rattle.lra_show.specs.Part.{Generator}
+use Rattle.lra_row_text.specs.Part.{ReportGenerator}
 use Rattle.lra_linear_spec.specs.Vectors.{product}
 use Rattle.lra_linear_spec.proofs.Products.{product_none}
-use Rattle.lra_show.specs.Rows.{Row}
-use Rattle.lra_report.specs.Parts.{RationalPoint, IsWithin, IsGenerated, HasSamePoints, Tells}
+use Rattle.lra_row_text.specs.Rows.{ReportRow}
+use Rattle.lra_report.specs.Parts.{RationalPoint, LiesInPart, IsGenerated, HasSamePoints, ShowsPart}
 use Rattle.lra_report.proofs.ReportTextExamples.{both, rows_alone, a_point, a_ray, is_positive}
 
 abbrev rational : ℕ → List ℤ → RationalPoint
 rational d xs = record { divisor = d; numerators = xs }
 
 -- x >= 1/2
-abbrev half_up : List Row
+abbrev half_up : List ReportRow
 half_up = is_positive (negsuc 0) (pos 2 ∷ []) ∷ []
 
-abbrev half_and_ray : List Generator
+abbrev half_and_ray : List ReportGenerator
 half_and_ray = a_point 2 (pos 1 ∷ []) ∷ a_ray (pos 1 ∷ []) ∷ []
 
 -- the vector (4, 3) of 3/4 is twice the point's (2, 1) and once the ray's (0, 1): catches points that are summed without their divisors
-three_quarters : IsWithin half_up (rational 4 (pos 3 ∷ [])) × IsGenerated half_and_ray (rational 4 (pos 3 ∷ []))
+three_quarters : LiesInPart half_up (rational 4 (pos 3 ∷ [])) × IsGenerated half_and_ray (rational 4 (pos 3 ∷ []))
 three_quarters = (
   (le_z_yes tt, tt),
   record {
@@ -35,12 +35,13 @@ three_quarters = (
   },
 )
   where
-    columns : (j : ℕ) → pos 1 *ℤ get_or (pos 3 ∷ []) j (pos 0) ≡ product (pos 2 ∷ pos 1 ∷ []) (map (λ (g : Generator). get_or g.numbers j (pos 0)) half_and_ray)
+    columns : (j : ℕ) → pos 1 *ℤ get_or (pos 3 ∷ []) j (pos 0)
+        ≡ product (pos 2 ∷ pos 1 ∷ []) (map (λ (g : ReportGenerator). get_or g.numbers j (pos 0)) half_and_ray)
     columns zero = refl
     columns (suc j) = refl
 
 -- main without variables: the point without coordinates
-empty_main_tells : Tells Poly 0 (both [] (a_point 1 [] ∷ []))
+empty_main_tells : ShowsPart Poly 0 (both [] (a_point 1 [] ∷ []))
 empty_main_tells = ((omega arith, tt), same, (rational 1 [], record { width = refl; divides = omega arith }, tt))
   where
     columns : (d : ℕ) (xs : List ℤ) → length xs ≡ 0 → (j : ℕ) → pos 1 *ℤ get_or xs j (pos 0) ≡ (pos d *ℤ pos 0) +ℤ pos 0
@@ -60,14 +61,14 @@ empty_main_tells = ((omega arith, tt), same, (rational 1 [], record { width = re
       λ generated. tt,
     )
 
-pub box_with_generator : Tells Box 0 (both [] (a_point 1 [] ∷ [])) → ⊥
+pub box_with_generator : ShowsPart Box 0 (both [] (a_point 1 [] ∷ [])) → ⊥
 box_with_generator h = cc
 
 -- a divisor 0, and rows without a generator
-divided_by_zero : Tells Poly 0 (both [] (a_point 0 [] ∷ [])) → ⊥
+divided_by_zero : ShowsPart Poly 0 (both [] (a_point 0 [] ∷ [])) → ⊥
 divided_by_zero h = omega (arith, h.0.0)
 
-rows_without_generators : Tells Poly 0 (rows_alone []) → ⊥
+rows_without_generators : ShowsPart Poly 0 (rows_alone []) → ⊥
 rows_without_generators h = none ((h.1 (rational 1 []) (record { width = refl; divides = omega arith })).0 tt)
   where
     none : IsGenerated [] (rational 1 []) → ⊥

@@ -9,11 +9,11 @@ use Rattle.lra_options.specs.declared.options.Options.{Options}
 use Rattle.lra_options.specs.OptionRows.{default_options}
 use Rattle.lra_report.specs.declared.verdict_kinds.VerdictKind.TheVariants.{Assertion, Fit, Access}
 use Rattle.lra_report.specs.Report.{Place, PointReport, Verdict, Report}
-use Rattle.lra_show.specs.Part.{Generator, Part}
+use Rattle.lra_row_text.specs.Part.{ReportGenerator, Part}
 use Rattle.lra_linear_spec.specs.declared.GenKind.TheVariants.{Point, Ray, Line}
 use Rattle.lra_linear_spec.specs.declared.ConKind.TheVariants.{Ge, Eq}
-use Rattle.lra_show.specs.Rows.{Row}
-use Rattle.lra_show.specs.Texts.{text_line, row_text, generator_text}
+use Rattle.lra_row_text.specs.Rows.{ReportRow}
+use Rattle.lra_row_text.specs.Texts.{text_line, row_text, generator_text}
 use Rattle.lra_report.specs.ReportText.{state_text, flag_text, report_text, path_text}
 use Rattle.lra_report.specs.BackText.{back_text}
 
@@ -24,25 +24,25 @@ abbrev pub defaults : Domain → Options
 defaults d = record default_options { domain = d }
 
 -- constant + coefficients is 0, is at least 0
-abbrev pub is_zero : ℤ → List ℤ → Row
+abbrev pub is_zero : ℤ → List ℤ → ReportRow
 is_zero c cs = record { kind = Eq; constant = c; coefficients = cs }
 
-abbrev pub is_positive : ℤ → List ℤ → Row
+abbrev pub is_positive : ℤ → List ℤ → ReportRow
 is_positive c cs = record { kind = Ge; constant = c; coefficients = cs }
 
-abbrev pub a_point : ℕ → List ℤ → Generator
+abbrev pub a_point : ℕ → List ℤ → ReportGenerator
 a_point d zs = record { kind = Point; divisor = d; numbers = zs }
 
-abbrev pub a_ray : List ℤ → Generator
+abbrev pub a_ray : List ℤ → ReportGenerator
 a_ray zs = record { kind = Ray; divisor = 0; numbers = zs }
 
-abbrev pub a_line : List ℤ → Generator
+abbrev pub a_line : List ℤ → ReportGenerator
 a_line zs = record { kind = Line; divisor = 0; numbers = zs }
 
-abbrev pub rows_alone : List Row → Part
+abbrev pub rows_alone : List ReportRow → Part
 rows_alone rows = record { rows = rows; generators = [] }
 
-abbrev pub both : List Row → List Generator → Part
+abbrev pub both : List ReportRow → List ReportGenerator → Part
 both rows generators = record { rows = rows; generators = generators }
 
 abbrev in_main : ℕ → Place → List (List ℕ) → List Part → PointReport

@@ -4,8 +4,8 @@ use Rattle.std.specs.List.{All, AllByRecursion}
 use Rattle.std.proofs.lemmas.List.Elements.{All-head, All-tail}
 use Rattle.lra_linear_spec.specs.Range.{InRange}
 use Rattle.lra_linear_spec.specs.declared.ConKind.{ConKind}
-use Rattle.lra_show.specs.Shown.{report_row}
-use Rattle.lra_show.specs.Lists.{shown_rows}
+use Rattle.lra_row_text.specs.Shown.{report_row}
+use Rattle.lra_row_text.specs.Lists.{shown_rows}
 use Rattle.lra_report.specs.Rows.{IsRowInRange}
 
 each : (zs : List ℤ) → All InRange zs → AllByRecursion InRange zs

@@ -11,8 +11,8 @@ use Rattle.std.proofs.lemmas.Bool.Decides.{nat_tests}
 use Rattle.lra_linear_spec.specs.Range.{InRange}
 use Rattle.lra_linear_spec.specs.declared.ConKind.{ConKind}
 use Rattle.lra_linear_spec.specs.declared.ConKind.TheVariants.{Ge, Eq}
-use Rattle.lra_show.specs.Rows.{Row}
-use Rattle.lra_show.specs.Texts.{product_text, terms_text, form_text, relation_text, row_text, is_turned, turned}
+use Rattle.lra_row_text.specs.Rows.{ReportRow}
+use Rattle.lra_row_text.specs.Texts.{product_text, terms_text, form_text, relation_text, row_text, is_negated, negated_if}
 use Rattle.lra_report.specs.Spelled.{IsDirected, IsSpelledRow}
 use Rattle.lra_report.proofs.Fronts.{is_visible, IsShownName, AreShownNames, Passes, Ends, front_same, front_first, first_same, rest_same, both_same, visible_passes}
 use Rattle.lra_report.proofs.Numbers.{IsShort, decimal_first, decimal_same, signed_same, short_in_range}
@@ -167,7 +167,7 @@ no_product : (k : ℕ) (n u w : List ℕ) → IsShort k → IsShownName n → Is
 no_product k n [] w hk hn hu e = absurd hu
 no_product k n (a ∷ u) w hk hn hu e = both_ways (is_visible a) (behind_ends (a ∷ u) hu) (product_first k n w u a hk hn (sym e))
 
-form_absent : (cs : List ℤ) (ns : List (List ℕ)) (u : List ℕ) (k : ℕ) (n w : List ℕ) → is_turned cs ≡ false → AllByRecursion InRange cs → AreShownNames ns → IsBehindTerms u →
+form_absent : (cs : List ℤ) (ns : List (List ℕ)) (u : List ℕ) (k : ℕ) (n w : List ℕ) → is_negated cs ≡ false → AllByRecursion InRange cs → AreShownNames ns → IsBehindTerms u →
     IsShort k → IsShownName n → AllByRecursion (λ m. n ≢ m) ns → Ends is_visible w → form_text cs ns ++ u ≡ product_text k n ++ w → ⊥
 form_absent [] ns u k n w up hc hns hu hk hn other ew e = no_product k n u w hk hn hu e
 form_absent (c ∷ cs) [] u k n w up hc hns hu hk hn other ew e = no_product k n u w hk hn hu e
@@ -178,7 +178,7 @@ form_absent (pos (suc j) ∷ cs) (m ∷ ns) u k n w up hc hns hu hk hn other ew 
     other.0 (sym same.1)
 form_absent (negsuc j ∷ cs) (m ∷ ns) u k n w up hc hns hu hk hn other ew e = not_down up
 
-pub form_same : (cs ds : List ℤ) (ns : List (List ℕ)) (u v : List ℕ) → is_turned cs ≡ false → is_turned ds ≡ false → length cs ≡ length ns → length ds ≡ length ns → AllByRecursion InRange cs →
+pub form_same : (cs ds : List ℤ) (ns : List (List ℕ)) (u v : List ℕ) → is_negated cs ≡ false → is_negated ds ≡ false → length cs ≡ length ns → length ds ≡ length ns → AllByRecursion InRange cs →
     AllByRecursion InRange ds →
     AreShownNames ns → IsBehindTerms u → IsBehindTerms v → form_text cs ns ++ u ≡ form_text ds ns ++ v → (cs ≡ ds) × (u ≡ v)
 form_same [] [] ns u v uc ud lc ld hc hd hn hu hv e = (refl, e)
@@ -235,78 +235,81 @@ relation_same Ge Eq false c u v gb gc e = let wrong : (let n : ℕ = 62 in n) �
 
 -- rows ---------------------------------------------------------------------------
 
-turned_twice : (b : Bool) (z : ℤ) → turned b (turned b z) ≡ z
+turned_twice : (b : Bool) (z : ℤ) → negated_if b (negated_if b z) ≡ z
 turned_twice true z = omega (arith, ints)
 turned_twice false z = refl
 
-turned_same : (b : Bool) (y z : ℤ) → turned b y ≡ turned b z → y ≡ z
-turned_same b y z e = sym (turned_twice b y) ∙ ap (turned b) e ∙ turned_twice b z
+turned_same : (b : Bool) (y z : ℤ) → negated_if b y ≡ negated_if b z → y ≡ z
+turned_same b y z e = sym (turned_twice b y) ∙ ap (negated_if b) e ∙ turned_twice b z
 
-all_turned_same : (b : Bool) (cs ds : List ℤ) → map (turned b) cs ≡ map (turned b) ds → cs ≡ ds
+all_turned_same : (b : Bool) (cs ds : List ℤ) → map (negated_if b) cs ≡ map (negated_if b) ds → cs ≡ ds
 all_turned_same b [] [] e = refl
 all_turned_same b [] (d ∷ ds) e = cc
 all_turned_same b (c ∷ cs) [] e = cc
 all_turned_same b (c ∷ cs) (d ∷ ds) e = both_same (turned_same b c d (first_same e)) (all_turned_same b cs ds (rest_same e))
 
-turned_in : (b : Bool) (z : ℤ) → InRange z → InRange (turned b z)
+turned_in : (b : Bool) (z : ℤ) → InRange z → InRange (negated_if b z)
 turned_in true z h = omega (arith, ints, h)
 turned_in false z h = h
 
-all_turned_in : (b : Bool) (cs : List ℤ) → AllByRecursion InRange cs → AllByRecursion InRange (map (turned b) cs)
+all_turned_in : (b : Bool) (cs : List ℤ) → AllByRecursion InRange cs → AllByRecursion InRange (map (negated_if b) cs)
 all_turned_in b [] h = h
 all_turned_in b (c ∷ cs) h = (turned_in b c h.0, all_turned_in b cs h.1)
 
-length_turned : (b : Bool) (cs : List ℤ) → length (map (turned b) cs) ≡ length cs
+length_turned : (b : Bool) (cs : List ℤ) → length (map (negated_if b) cs) ≡ length cs
 length_turned b [] = refl
 length_turned b (c ∷ cs) = ap suc (length_turned b cs)
 
 -- turned by its own first coefficient, that is above 0
-up_kept : (cs : List ℤ) → is_turned cs ≡ false → is_turned (map (turned false) cs) ≡ false
+up_kept : (cs : List ℤ) → is_negated cs ≡ false → is_negated (map (negated_if false) cs) ≡ false
 up_kept [] e = refl
 up_kept (pos zero ∷ cs) e = up_kept cs e
 up_kept (pos (suc n) ∷ cs) e = refl
 up_kept (negsuc n ∷ cs) e = e
 
-up_turned : (cs : List ℤ) → is_turned cs ≡ true → is_turned (map (turned true) cs) ≡ false
+up_turned : (cs : List ℤ) → is_negated cs ≡ true → is_negated (map (negated_if true) cs) ≡ false
 up_turned [] e = refl
 up_turned (pos zero ∷ cs) e = up_turned cs e
 up_turned (pos (suc n) ∷ cs) e = cc
-up_turned (negsuc n ∷ cs) e = ap (λ k. is_turned (pos k ∷ map (turned true) cs)) (zero-add (suc n))
+up_turned (negsuc n ∷ cs) e = ap (λ k. is_negated (pos k ∷ map (negated_if true) cs)) (zero-add (suc n))
 
-up_cases : (b : Bool) (cs : List ℤ) → is_turned cs ≡ b → is_turned (map (turned b) cs) ≡ false
+up_cases : (b : Bool) (cs : List ℤ) → is_negated cs ≡ b → is_negated (map (negated_if b) cs) ≡ false
 up_cases true cs e = up_turned cs e
 up_cases false cs e = up_kept cs e
 
-directed : (k : ConKind) (cs : List ℤ) → IsDirected k cs → Given k (is_turned cs)
+directed : (k : ConKind) (cs : List ℤ) → IsDirected k cs → Given k (is_negated cs)
 directed Eq cs h = h
 directed Ge cs h = h
 
-row_pieces : (ns : List (List ℕ)) (r : Row) (u : List ℕ) → row_text ns r ++ u ≡ form_text (map (turned (is_turned r.coefficients)) r.coefficients) ns ++
-    (relation_text r.kind (is_turned r.coefficients) ++ (signed_decimal (turned (not (is_turned r.coefficients)) r.constant) ++ u))
+row_pieces : (ns : List (List ℕ)) (r : ReportRow) (u : List ℕ) →
+    row_text ns r ++ u ≡ form_text (map (negated_if (is_negated r.coefficients)) r.coefficients) ns ++
+    (relation_text r.kind (is_negated r.coefficients) ++ (signed_decimal (negated_if (not (is_negated r.coefficients)) r.constant) ++ u))
 row_pieces ns r u = simp append_assoc
 
-row_by : (k l : ConKind) (c d : ℤ) (cs ds : List ℤ) → k ≡ l → c ≡ d → cs ≡ ds → (let x : Row = record { kind = k; constant = c; coefficients = cs } in x) ≡
+row_by : (k l : ConKind) (c d : ℤ) (cs ds : List ℤ) → k ≡ l → c ≡ d → cs ≡ ds →
+    (let x : ReportRow = record { kind = k; constant = c; coefficients = cs } in x) ≡
     record { kind = l; constant = d; coefficients = ds }
 row_by k l c d cs ds p q r = ap (λ x. record { kind = x; constant = c; coefficients = cs }) p ∙ ap (λ x. record { kind = l; constant = x; coefficients = cs }) q ∙
     ap (λ x. record { kind = l; constant = d; coefficients = x }) r
 
-pub row_same : (ns : List (List ℕ)) (r s : Row) (u v : List ℕ) → AreShownNames ns → length r.coefficients ≡ length ns → length s.coefficients ≡ length ns → IsSpelledRow r → IsSpelledRow s →
+pub row_same : (ns : List (List ℕ)) (r s : ReportRow) (u v : List ℕ) → AreShownNames ns → length r.coefficients ≡ length ns → length s.coefficients ≡ length ns → IsSpelledRow r → IsSpelledRow s →
     Ends is_ascii_digit u → Ends is_ascii_digit v →
     row_text ns r ++ u ≡ row_text ns s ++ v → (r ≡ s) × (u ≡ v)
 row_same ns r s u v hn lr ls hr hs eu ev e =
-    let b = is_turned r.coefficients in
-    let c = is_turned s.coefficients in
-    let behind_r = signed_decimal (turned (not b) r.constant) ++ u in
-    let behind_s = signed_decimal (turned (not c) s.constant) ++ v in
-    let forms = form_same (map (turned b) r.coefficients) (map (turned c) s.coefficients) ns (relation_text r.kind b ++ behind_r) (relation_text s.kind c ++ behind_s)
+    let b = is_negated r.coefficients in
+    let c = is_negated s.coefficients in
+    let behind_r = signed_decimal (negated_if (not b) r.constant) ++ u in
+    let behind_s = signed_decimal (negated_if (not c) s.constant) ++ v in
+    let forms = form_same (map (negated_if b) r.coefficients) (map (negated_if c) s.coefficients) ns (relation_text r.kind b ++ behind_r) (relation_text s.kind c ++ behind_s)
     (up_cases b r.coefficients refl) (up_cases c s.coefficients refl) (length_turned b r.coefficients ∙ lr) (length_turned c s.coefficients ∙ ls)
     (all_turned_in b r.coefficients hr.in_range.coefficients_in) (all_turned_in c s.coefficients hs.in_range.coefficients_in) hn (relation_behind r.kind b behind_r) (relation_behind s.kind c behind_s)
     (sym (row_pieces ns r u) ∙ e ∙ row_pieces ns s v) in
     let relations = relation_same r.kind s.kind b c behind_r behind_s (directed r.kind r.coefficients hr.directed) (directed s.kind s.coefficients hs.directed) forms.1 in
-    let numbers = signed_same (turned (not b) r.constant) (turned (not c) s.constant) u v (short_in_range (turned (not b) r.constant) (turned_in (not b) r.constant hr.in_range.constant_in))
-    (short_in_range (turned (not c) s.constant) (turned_in (not c) s.constant hs.in_range.constant_in)) eu ev relations.rest in
-    let coefficients : r.coefficients ≡ s.coefficients = all_turned_same b r.coefficients s.coefficients (forms.0 ∙ ap (λ t. map (turned t) s.coefficients) (sym relations.turn)) in
-    let constants : r.constant ≡ s.constant = turned_same (not b) r.constant s.constant (numbers.0 ∙ ap (λ t. turned (not t) s.constant) (sym relations.turn)) in
+    let numbers = signed_same (negated_if (not b) r.constant) (negated_if (not c) s.constant) u v
+    (short_in_range (negated_if (not b) r.constant) (turned_in (not b) r.constant hr.in_range.constant_in))
+    (short_in_range (negated_if (not c) s.constant) (turned_in (not c) s.constant hs.in_range.constant_in)) eu ev relations.rest in
+    let coefficients : r.coefficients ≡ s.coefficients = all_turned_same b r.coefficients s.coefficients (forms.0 ∙ ap (λ t. map (negated_if t) s.coefficients) (sym relations.turn)) in
+    let constants : r.constant ≡ s.constant = turned_same (not b) r.constant s.constant (numbers.0 ∙ ap (λ t. negated_if (not t) s.constant) (sym relations.turn)) in
     (row_by r.kind s.kind r.constant s.constant r.coefficients s.coefficients relations.kind constants coefficients, numbers.1)
 
 -- a row isn't written `true` -----------------------------------------------------
@@ -348,9 +351,9 @@ form_not_true (negsuc k ∷ cs) (n ∷ ns) u w hc hn hu e =
     product_not_true (nat_eq (suc k) 1) (suc k) n (terms_text cs ns ++ u) w (short_in_range (negsuc k) hc.0) hn.0 (terms_ends cs ns u hu) (λ f. no_blank (terms_blank cs ns u w 10 hu f))
     (sym (append_assoc (product_text (suc k) n) (terms_text cs ns) u) ∙ e)
 
-pub row_not_true : (ns : List (List ℕ)) (r : Row) (u w : List ℕ) → AreShownNames ns → IsSpelledRow r → row_text ns r ++ u ≡ codes "true" ++ (10 ∷ w) → ⊥
+pub row_not_true : (ns : List (List ℕ)) (r : ReportRow) (u w : List ℕ) → AreShownNames ns → IsSpelledRow r → row_text ns r ++ u ≡ codes "true" ++ (10 ∷ w) → ⊥
 row_not_true ns r u w hn hr e =
-    let b = is_turned r.coefficients in
-    let behind = signed_decimal (turned (not b) r.constant) ++ u in
-    form_not_true (map (turned b) r.coefficients) ns (relation_text r.kind b ++ behind) w (all_turned_in b r.coefficients hr.in_range.coefficients_in) hn (relation_behind r.kind b behind)
+    let b = is_negated r.coefficients in
+    let behind = signed_decimal (negated_if (not b) r.constant) ++ u in
+    form_not_true (map (negated_if b) r.coefficients) ns (relation_text r.kind b ++ behind) w (all_turned_in b r.coefficients hr.in_range.coefficients_in) hn (relation_behind r.kind b behind)
     (sym (row_pieces ns r u) ∙ e)

@@ -2,17 +2,17 @@
 use Rattle.std.proofs.Common.{◌≡◌, ℕ, ℤ, pos, negsuc, List, [], ◌∷◌, codes, refl}
 use Rattle.std.specs.Fmt.{digits}
 use Rattle.lra_linear_spec.specs.declared.ConKind.TheVariants.{Eq}
-use Rattle.lra_show.specs.Rows.{Row}
-use Rattle.lra_show.specs.Part.{Generator}
+use Rattle.lra_row_text.specs.Rows.{ReportRow}
+use Rattle.lra_row_text.specs.Part.{ReportGenerator}
 use Rattle.lra_linear_spec.specs.declared.GenKind.TheVariants.{Point}
-use Rattle.lra_show.specs.Texts.{row_text, generator_text}
+use Rattle.lra_row_text.specs.Texts.{row_text, generator_text}
 use Rattle.lra_resolution_spec.specs.ShownNames.{shown_names}
 
-abbrev is_zero : ℤ → List ℤ → Row
+abbrev is_zero : ℤ → List ℤ → ReportRow
 is_zero c cs = record { kind = Eq; constant = c; coefficients = cs }
 
-abbrev point_of : ℕ → List ℤ → Generator
-point_of d zs = record { kind = Point; divisor = d; numbers = zs }
+abbrev run_point_view : ℕ → List ℤ → ReportGenerator
+run_point_view d zs = record { kind = Point; divisor = d; numbers = zs }
 
 -- x - 3 = 0 and 3 - x = 0: an equality is directed
 equality_and_opposite : row_text (codes "x" ∷ []) (is_zero (negsuc 2) (pos 1 ∷ [])) ≡ row_text (codes "x" ∷ []) (is_zero (pos 3) (negsuc 0 ∷ []))
@@ -20,7 +20,7 @@ unfolding digits
 equality_and_opposite = refl
 
 -- 1/1 and 2/2: a point is in lowest terms
-point_and_double : generator_text (codes "x" ∷ []) (point_of 1 (pos 1 ∷ [])) ≡ generator_text (codes "x" ∷ []) (point_of 2 (pos 2 ∷ []))
+point_and_double : generator_text (codes "x" ∷ []) (run_point_view 1 (pos 1 ∷ [])) ≡ generator_text (codes "x" ∷ []) (run_point_view 2 (pos 2 ∷ []))
 unfolding digits
 point_and_double = refl
 

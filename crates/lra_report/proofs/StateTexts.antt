@@ -3,13 +3,13 @@ use Rattle.std.proofs.Common.{◌≡◌, ◌≢◌, ℕ, nat_eq, false, List, []
 use Rattle.std.specs.List.{AllByRecursion, flat_map}
 use Rattle.std.proofs.lemmas.List.{append_cancel_left}
 use Rattle.std.proofs.lemmas.Bool.{eqb-false}
-use Rattle.lra_show.specs.Rows.{Row}
-use Rattle.lra_show.specs.Part.{Generator, Part}
+use Rattle.lra_row_text.specs.Rows.{ReportRow}
+use Rattle.lra_row_text.specs.Part.{ReportGenerator, Part}
 use Rattle.lra_report.specs.Report.{Invariant}
-use Rattle.lra_show.specs.Texts.{text_line, row_text, generator_text, rows_text, generators_text, part_text}
+use Rattle.lra_row_text.specs.Texts.{text_line, row_text, generator_text, rows_text, generators_text, part_text}
 use Rattle.lra_report.specs.ReportText.{further_parts_text, state_text}
 use Rattle.lra_report.specs.Spelled.{IsSpelledRow, IsSpelledGenerator, IsReadablePart}
-use Rattle.lra_show.specs.Lines.{row_line, generator_line}
+use Rattle.lra_row_text.specs.Lines.{row_line, generator_line}
 use Rattle.lra_report.proofs.Fronts.{AreShownNames, rest_same, both_same}
 use Rattle.lra_report.proofs.RowTexts.{row_same, row_not_true}
 use Rattle.lra_report.proofs.GeneratorTexts.{generator_same}
@@ -27,15 +27,16 @@ Names = List (List ℕ)
 pub line_pieces : (a t r u : List ℕ) → (((a ++ t) ++ 10 ∷ []) ++ r) ++ u ≡ a ++ (t ++ (10 ∷ (r ++ u)))
 line_pieces a t r u = simp append_assoc
 
-abbrev AllWide : ℕ → List Row → Type 0
-AllWide n rs = AllByRecursion (λ (r : Row). length r.coefficients ≡ n) rs
+abbrev AllWide : ℕ → List ReportRow → Type 0
+AllWide n rs = AllByRecursion (λ (r : ReportRow). length r.coefficients ≡ n) rs
 
-abbrev AllLong : ℕ → List Generator → Type 0
-AllLong n gs = AllByRecursion (λ (g : Generator). length g.numbers ≡ n) gs
+abbrev AllLong : ℕ → List ReportGenerator → Type 0
+AllLong n gs = AllByRecursion (λ (g : ReportGenerator). length g.numbers ≡ n) gs
 
 -- rows ---------------------------------------------------------------------------
 
-rows_same : (ns : Names) (rs ss : List Row) (u v : List ℕ) → AreShownNames ns → AllWide (length ns) rs → AllWide (length ns) ss → AllByRecursion IsSpelledRow rs → AllByRecursion IsSpelledRow ss →
+rows_same : (ns : Names) (rs ss : List ReportRow) (u v : List ℕ) → AreShownNames ns → AllWide (length ns) rs → AllWide (length ns) ss → AllByRecursion IsSpelledRow rs →
+    AllByRecursion IsSpelledRow ss →
     letter u ≢ 114 → letter v ≢ 114 → flat_map (row_line ns) rs ++ u ≡ flat_map (row_line ns) ss ++ v → (rs ≡ ss) × (u ≡ v)
 rows_same ns [] [] u v hn wr ws hr hs lu lv e = (refl, e)
 rows_same ns [] (s ∷ ss) u v hn wr ws hr hs lu lv e = absurd (lu (ap letter e))
@@ -47,10 +48,12 @@ rows_same ns (r ∷ rs) (s ∷ ss) u v hn wr ws hr hs lu lv e =
     let further = rows_same ns rs ss u v hn wr.1 ws.1 hr.1 hs.1 lu lv (rest_same first.1) in
     (both_same first.0 further.0, further.1)
 
-not_true : (ns : Names) (r : Row) (t u v : List ℕ) → AreShownNames ns → IsSpelledRow r → text_line (codes "  row true") ++ u ≡ (row_line ns r ++ t) ++ v → ⊥
+not_true : (ns : Names) (r : ReportRow) (t u v : List ℕ) → AreShownNames ns → IsSpelledRow r → text_line (codes "  row true") ++ u ≡ (row_line ns r ++ t) ++ v →
+    ⊥
 not_true ns r t u v hn hr e = row_not_true ns r (10 ∷ (t ++ v)) u hn hr (sym (append_cancel_left (codes "  row ") (codes "true" ++ (10 ∷ u)) _ (e ∙ line_pieces (codes "  row ") (row_text ns r) t v)))
 
-rows_text_same : (ns : Names) (rs ss : List Row) (u v : List ℕ) → AreShownNames ns → AllWide (length ns) rs → AllWide (length ns) ss → AllByRecursion IsSpelledRow rs → AllByRecursion IsSpelledRow ss →
+rows_text_same : (ns : Names) (rs ss : List ReportRow) (u v : List ℕ) → AreShownNames ns → AllWide (length ns) rs → AllWide (length ns) ss → AllByRecursion IsSpelledRow rs →
+    AllByRecursion IsSpelledRow ss →
     letter u ≢ 114 → letter v ≢ 114 → rows_text ns rs ++ u ≡ rows_text ns ss ++ v → (rs ≡ ss) × (u ≡ v)
 rows_text_same ns [] [] u v hn wr ws hr hs lu lv e = (refl, append_cancel_left (text_line (codes "  row true")) u v e)
 rows_text_same ns [] (s ∷ ss) u v hn wr ws hr hs lu lv e = absurd (not_true ns s (flat_map (row_line ns) ss) u v hn hs.0 e)
@@ -59,7 +62,8 @@ rows_text_same ns (r ∷ rs) (s ∷ ss) u v hn wr ws hr hs lu lv e = rows_same n
 
 -- generators ---------------------------------------------------------------------
 
-generators_same : (ns : Names) (gs hs : List Generator) (u v : List ℕ) → AllLong (length ns) gs → AllLong (length ns) hs → AllByRecursion IsSpelledGenerator gs → AllByRecursion IsSpelledGenerator hs →
+generators_same : (ns : Names) (gs hs : List ReportGenerator) (u v : List ℕ) → AllLong (length ns) gs → AllLong (length ns) hs → AllByRecursion IsSpelledGenerator gs →
+    AllByRecursion IsSpelledGenerator hs →
     letter u ≢ 103 → letter v ≢ 103 → flat_map (generator_line ns) gs ++ u ≡ flat_map (generator_line ns) hs ++ v → (gs ≡ hs) × (u ≡ v)
 generators_same ns [] [] u v wg wh sg sh lu lv e = (refl, e)
 generators_same ns [] (h ∷ hs) u v wg wh sg sh lu lv e = absurd (lu (ap letter e))
@@ -71,7 +75,7 @@ generators_same ns (g ∷ gs) (h ∷ hs) u v wg wh sg sh lu lv e =
     let further = generators_same ns gs hs u v wg.1 wh.1 sg.1 sh.1 lu lv first.1 in
     (both_same first.0 further.0, further.1)
 
-generators_are : (ns : Names) (gs : List Generator) (rows : List ℕ) → generators_text ns gs rows ≡ rows ++ flat_map (generator_line ns) gs
+generators_are : (ns : Names) (gs : List ReportGenerator) (rows : List ℕ) → generators_text ns gs rows ≡ rows ++ flat_map (generator_line ns) gs
 generators_are ns [] rows = sym (append-nil rows)
 generators_are ns (g ∷ gs) rows = refl
 
@@ -82,11 +86,11 @@ record IsPast (u : List ℕ) : Type 0 where
   no_row : letter u ≢ 114
   no_generator : letter u ≢ 103
 
-no_row_there : (ns : Names) (gs : List Generator) (u : List ℕ) → IsPast u → letter (flat_map (generator_line ns) gs ++ u) ≢ 114
+no_row_there : (ns : Names) (gs : List ReportGenerator) (u : List ℕ) → IsPast u → letter (flat_map (generator_line ns) gs ++ u) ≢ 114
 no_row_there ns [] u h = h.no_row
 no_row_there ns (g ∷ gs) u h = λ (e : (let n : ℕ = 103 in n) ≡ 114). omega (arith, e)
 
-part_by : (rs ss : List Row) (gs hs : List Generator) → rs ≡ ss → gs ≡ hs → (let x : Part = record { rows = rs; generators = gs } in x) ≡ record { rows = ss; generators = hs }
+part_by : (rs ss : List ReportRow) (gs hs : List ReportGenerator) → rs ≡ ss → gs ≡ hs → (let x : Part = record { rows = rs; generators = gs } in x) ≡ record { rows = ss; generators = hs }
 part_by rs ss gs hs p q = ap (λ x. record { rows = x; generators = gs }) p ∙ ap (λ x. record { rows = ss; generators = x }) q
 
 part_pieces : (ns : Names) (p : Part) (u : List ℕ) → part_text ns p ++ u ≡ rows_text ns p.rows ++ (flat_map (generator_line ns) p.generators ++ u)
@@ -131,7 +135,7 @@ further_same ns (p ∷ ps) (q ∷ qs) u v hn hp hq lu lv e =
     let further = further_same ns ps qs u v hn hp.1 hq.1 lu lv first.1 in
     (both_same first.0 further.0, further.1)
 
-rows_letter : (ns : Names) (rs : List Row) (gs : List Generator) (t : List ℕ) → letter (generators_text ns gs (rows_text ns rs) ++ t) ≡ 114
+rows_letter : (ns : Names) (rs : List ReportRow) (gs : List ReportGenerator) (t : List ℕ) → letter (generators_text ns gs (rows_text ns rs) ++ t) ≡ 114
 rows_letter ns [] [] t = refl
 rows_letter ns [] (g ∷ gs) t = refl
 rows_letter ns (r ∷ rs) [] t = refl

@@ -10,12 +10,12 @@ use Rattle.lra_options.specs.declared.options.Options.{Options}
 use Rattle.lra_base.specs.declared.refusals.Place.{Place}
 use Rattle.lra_report.specs.declared.verdict_kinds.VerdictKind.{VerdictKind}
 use Rattle.lra_report.specs.declared.verdict_kinds.VerdictKind.TheVariants.{Assertion, Fit, Access}
-use Rattle.lra_show.specs.Part.{Generator, Part}
+use Rattle.lra_row_text.specs.Part.{ReportGenerator, Part}
 use Rattle.lra_report.specs.Report.{Invariant, PointReport, Verdict, Report, IsSound}
-use Rattle.lra_show.specs.Rows.{Row}
+use Rattle.lra_row_text.specs.Rows.{ReportRow}
 use Rattle.lra_report.specs.ReportText.{CallPlace, path_text}
 use Rattle.lra_resolution_spec.specs.ShownNames.{shown_names}
-use Rattle.lra_report.specs.Parts.{Tells}
+use Rattle.lra_report.specs.Parts.{ShowsPart}
 use Rattle.lra_syntax.specs.Trees.{FileTree}
 use Rattle.lra_syntax.specs.Labels.{Labelled, labels_of, label_at, label_place}
 use Rattle.lra_resolution_spec.specs.Resolve.{resolve}
@@ -130,8 +130,8 @@ subjects o g t = subjects_of (labels_of t) Assertion (assertions_from 1 (sites_o
 
 -- a number for each of so many variables
 abbrev pub HasWidth : ℕ → Part → Type 0
-HasWidth n part = AllByRecursion (λ (r : Row). length r.coefficients ≡ n) part.rows ×
-    AllByRecursion (λ (g : Generator). length g.numbers ≡ n) part.generators
+HasWidth n part = AllByRecursion (λ (r : ReportRow). length r.coefficients ≡ n) part.rows ×
+    AllByRecursion (λ (g : ReportGenerator). length g.numbers ≡ n) part.generators
 
 -- the reports are those of these sites, numbered from `number` on
 abbrev pub AreListed : List (List ℕ) → List Labelled → ℕ → List Site → List PointReport → Type 0
@@ -164,7 +164,7 @@ IsFlag count (Some number) = (0 < number) × (number ≤ count)
 -- named
 pub record AreParts (o : Options) (p : PointReport) : Type 0 where
   pub few : length p.state ≤ o.parts
-  pub tell : AllByRecursion (Tells o.domain (length p.names)) p.state
+  pub tell : AllByRecursion (ShowsPart o.domain (length p.names)) p.state
 
 -- what is written of an accepted source of the language L under these options: all its points and what is judged of
 -- them; at each point what every run meets there; no assertion that fails is proved, no run stops by a number where

@@ -6,13 +6,13 @@ use Rattle.std.specs.Prelude.{Bool, true, false}
 use Rattle.std.specs.List.{AllByRecursion}
 use Rattle.lra_options.specs.declared.options.Domain.{Domain}
 use Rattle.lra_options.specs.Domains.{shows_generators}
-use Rattle.lra_show.specs.Part.{Generator, Part}
+use Rattle.lra_row_text.specs.Part.{ReportGenerator, Part}
 use Rattle.lra_linear_spec.specs.declared.GenKind.{GenKind}
 use Rattle.lra_linear_spec.specs.declared.GenKind.TheVariants.{Point, Ray, Line}
 use Rattle.lra_linear_spec.specs.Descriptions.{HoldsWith}
 use Rattle.lra_linear_spec.specs.Kinds.{is_equality}
 use Rattle.lra_linear_spec.specs.Vectors.{product}
-use Rattle.lra_show.specs.Rows.{Row}
+use Rattle.lra_row_text.specs.Rows.{ReportRow}
 
 -- its coordinates are the numerators over the divisor; a store is such a point with the divisor 1
 pub record RationalPoint : Type 0 where
@@ -20,16 +20,16 @@ pub record RationalPoint : Type 0 where
   pub numerators : List ℤ
 
 -- so many coordinates
-pub record IsPoint (n : ℕ) (x : RationalPoint) : Type 0 where
+pub record IsReportPoint (n : ℕ) (x : RationalPoint) : Type 0 where
   pub width : length x.numerators ≡ n
   pub divides : 0 < x.divisor
 
-abbrev pub RowHoldsAt : Row → RationalPoint → Type 0
+abbrev pub RowHoldsAt : ReportRow → RationalPoint → Type 0
 RowHoldsAt r x = HoldsWith (is_equality r.kind) ((r.constant *ℤ pos x.divisor) +ℤ product r.coefficients x.numerators)
 
 -- all rows hold
-abbrev pub IsWithin : List Row → RationalPoint → Type 0
-IsWithin rows x = AllByRecursion (λ r. RowHoldsAt r x) rows
+abbrev pub LiesInPart : List ReportRow → RationalPoint → Type 0
+LiesInPart rows x = AllByRecursion (λ r. RowHoldsAt r x) rows
 
 -- a line is taken with a factor of either sign
 abbrev pub IsFactor : GenKind → ℤ → Type 0
@@ -38,28 +38,29 @@ IsFactor Ray z = pos 0 ≤ℤ z
 IsFactor Line z = ⊤
 
 -- one factor for each generator
-abbrev pub AreFactors : List Generator → List ℤ → Type 0
+abbrev pub AreFactors : List ReportGenerator → List ℤ → Type 0
 AreFactors [] [] = ⊤
 AreFactors [] (z ∷ zs) = ⊥
 AreFactors (g ∷ gs) [] = ⊥
 AreFactors (g ∷ gs) (z ∷ zs) = IsFactor g.kind z × AreFactors gs zs
 
 -- some positive multiple of the point's divisor and numerators is a sum of the generators with whole factors
-pub record IsGenerated (gs : List Generator) (x : RationalPoint) : Type 0 where
+pub record IsGenerated (gs : List ReportGenerator) (x : RationalPoint) : Type 0 where
   pub multiple : ℕ
   pub positive : 0 < multiple
   pub factors : List ℤ
   pub are_factors : AreFactors gs factors
-  pub divisor : pos multiple *ℤ pos x.divisor ≡ product factors (map (λ (g : Generator). pos g.divisor) gs)
+  pub divisor : pos multiple *ℤ pos x.divisor ≡ product factors (map (λ (g : ReportGenerator). pos g.divisor) gs)
   pub numerators : (j : ℕ) → pos multiple *ℤ get_or x.numerators j (pos 0) ≡
-      product factors (map (λ (g : Generator). get_or g.numbers j (pos 0)) gs)
+      product factors (map (λ (g : ReportGenerator). get_or g.numbers j (pos 0)) gs)
 
 -- rows and generators tell the same points of n coordinates
 abbrev pub HasSamePoints : ℕ → Part → Type 0
-HasSamePoints n part = (x : RationalPoint) → IsPoint n x → (IsWithin part.rows x ↔ IsGenerated part.generators x)
+HasSamePoints n part = (x : RationalPoint) → IsReportPoint n x →
+    (LiesInPart part.rows x ↔ IsGenerated part.generators x)
 
-abbrev pub HasPoint : ℕ → Part → Type 0
-HasPoint n part = (x : RationalPoint) × IsPoint n x × IsWithin part.rows x
+abbrev pub PartHasPoint : ℕ → Part → Type 0
+PartHasPoint n part = (x : RationalPoint) × IsReportPoint n x × LiesInPart part.rows x
 
 -- points divide; rays and lines don't
 abbrev pub DividesAs : GenKind → ℕ → Type 0
@@ -70,9 +71,9 @@ DividesAs Line d = d ≡ 0
 -- A part over n variables as the domain has it. Without generators over boxes and octagons the text, which writes those
 -- that are there, agrees with the JSON, which goes by the domain.
 abbrev pub TellsBoth : Bool → ℕ → Part → Type 0
-TellsBoth true n part = AllByRecursion (λ (g : Generator). DividesAs g.kind g.divisor) part.generators ×
-    HasSamePoints n part × HasPoint n part
+TellsBoth true n part = AllByRecursion (λ (g : ReportGenerator). DividesAs g.kind g.divisor) part.generators ×
+    HasSamePoints n part × PartHasPoint n part
 TellsBoth false n part = part.generators ≡ []
 
-abbrev pub Tells : Domain → ℕ → Part → Type 0
-Tells domain n part = TellsBoth (shows_generators domain) n part
+abbrev pub ShowsPart : Domain → ℕ → Part → Type 0
+ShowsPart domain n part = TellsBoth (shows_generators domain) n part

@@ -4,7 +4,7 @@ use Rattle.std.specs.Fmt.{decimal}
 use Rattle.lra_base.specs.declared.refusals.Place.{Place}
 use Rattle.lra_base.specs.declared.refusals.Cause.{Cause}
 use Rattle.lra_base.specs.Causes.{cause_number, cause_name}
-use Rattle.lra_show.specs.Texts.{text_line}
+use Rattle.lra_row_text.specs.Texts.{text_line}
 use Rattle.lra_report.specs.ReportText.{place_text}
 
 -- refused K NAME at LINE:COLUMN

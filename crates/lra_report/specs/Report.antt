@@ -6,8 +6,8 @@ pub use Rattle.lra_base.specs.declared.refusals.Place.{Place}
 use Rattle.lra_options.specs.declared.options.Options.{Options}
 use Rattle.lra_program.specs.Program.{Program}
 use Rattle.lra_program.specs.Run.{Point, At}
-use Rattle.lra_show.specs.Part.{Part}
-use Rattle.lra_show.specs.Rows.{RowHolds}
+use Rattle.lra_row_text.specs.Part.{Part}
+use Rattle.lra_row_text.specs.Rows.{RowHolds}
 use Rattle.lra_report.specs.declared.verdict_kinds.VerdictKind.{VerdictKind}
 use Rattle.lra_report.specs.VerdictKinds.{Breaks}
 
@@ -45,13 +45,13 @@ pub record Report : Type 0 where
 -- what it claims -------------------------------------------------------------
 
 -- all rows of some part hold
-abbrev pub Holds : Invariant → List ℤ → Type 0
-Holds [] store = ⊥
-Holds (part ∷ parts) store = AllByRecursion (λ r. RowHolds r store) part.rows ⊎ Holds parts store
+abbrev pub InvariantHolds : Invariant → List ℤ → Type 0
+InvariantHolds [] store = ⊥
+InvariantHolds (part ∷ parts) store = AllByRecursion (λ r. RowHolds r store) part.rows ⊎ InvariantHolds parts store
 
 -- the state holds whenever a run is at the point; a state without parts then says that no run comes there
 abbrev pub IsInvariant : Program → PointReport → Type 0
-IsInvariant P p = (store : List ℤ) → At P p.point store → Holds p.state store
+IsInvariant P p = (store : List ℤ) → At P p.point store → InvariantHolds p.state store
 
 -- what holds is broken in no run: an assertion that is marked proved doesn't fail, an access that is marked in bounds
 -- isn't evaluated outside its array

@@ -9,8 +9,8 @@ use Rattle.lra_options.specs.declared.options.FlagOption.{FlagOption}
 use Rattle.lra_options.specs.Domains.{domain_name}
 use Rattle.lra_options.specs.OptionRows.{number_row, number_value, number_options, is_number_reported}
 use Rattle.lra_options.specs.OptionRows.{flag_row, flag_value, flag_options, is_reported}
-use Rattle.lra_show.specs.Part.{Part}
-use Rattle.lra_show.specs.Texts.{text_line, part_text}
+use Rattle.lra_row_text.specs.Part.{Part}
+use Rattle.lra_row_text.specs.Texts.{text_line, part_text}
 use Rattle.lra_report.specs.VerdictKinds.{row_of, outcome_text}
 use Rattle.lra_report.specs.Report.{Place, Invariant, PointReport, Verdict, Report}
 

@@ -4,12 +4,12 @@ use Rattle.std.specs.List.{AllByRecursion}
 use Rattle.lra_linear_spec.specs.Range.{InRange}
 use Rattle.lra_linear_spec.specs.declared.GenKind.{GenKind}
 use Rattle.lra_systems.specs.LinearSystems.{LinearSystem, FitKinds}
-use Rattle.lra_show.specs.Rows.{Row}
-use Rattle.lra_show.specs.Lists.{shown_generators}
-use Rattle.lra_show.specs.Part.{Generator, Part}
+use Rattle.lra_row_text.specs.Rows.{ReportRow}
+use Rattle.lra_row_text.specs.Lists.{shown_generators}
+use Rattle.lra_row_text.specs.Part.{ReportGenerator, Part}
 
 -- none where there is no list
-abbrev pub optional_generators : Option (LinearSystem GenKind) → List Generator
+abbrev pub optional_generators : Option (LinearSystem GenKind) → List ReportGenerator
 optional_generators None = []
 optional_generators (Some g) = shown_generators g.rows g.kinds
 
@@ -19,7 +19,7 @@ FitOptionally None = Unit {0}
 FitOptionally (Some g) = FitKinds g.rows g.kinds
 
 -- a row's numbers are in the range of those that are computed with
-pub record IsRowInRange (r : Row) : Type 0 where
+pub record IsRowInRange (r : ReportRow) : Type 0 where
   pub constant_in : InRange r.constant
   pub coefficients_in : AllByRecursion InRange r.coefficients
 

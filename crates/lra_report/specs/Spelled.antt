@@ -13,14 +13,14 @@ use Rattle.lra_syntax.specs.Grammar.{Spells}
 use Rattle.lra_syntax.specs.Faults.{Language}
 use Rattle.lra_resolution_spec.specs.Refuse.{Accepts}
 use Rattle.lra_options.specs.declared.options.Options.{Options}
-use Rattle.lra_show.specs.Part.{Generator, Part}
+use Rattle.lra_row_text.specs.Part.{ReportGenerator, Part}
 use Rattle.lra_report.specs.Report.{PointReport, Report}
 use Rattle.lra_linear_spec.specs.declared.ConKind.{ConKind}
 use Rattle.lra_linear_spec.specs.declared.GenKind.{GenKind}
 use Rattle.lra_linear_spec.specs.declared.GenKind.TheVariants.{Point, Ray, Line}
 use Rattle.lra_linear_spec.specs.declared.ConKind.TheVariants.{Ge, Eq}
-use Rattle.lra_show.specs.Rows.{Row}
-use Rattle.lra_show.specs.Texts.{is_turned}
+use Rattle.lra_row_text.specs.Rows.{ReportRow}
+use Rattle.lra_row_text.specs.Texts.{is_negated}
 use Rattle.lra_report.specs.ReportText.{report_text}
 use Rattle.lra_report.specs.Parts.{DividesAs}
 use Rattle.lra_report.specs.Listing.{Lists, HasWidth, IsReportOf}
@@ -29,10 +29,10 @@ use Rattle.lra_report.specs.Rows.{IsRowInRange}
 
 -- the first coefficient of an equality that isn't 0 is above 0
 abbrev pub IsDirected : ConKind → List ℤ → Type 0
-IsDirected Eq cs = is_turned cs ≡ false
+IsDirected Eq cs = is_negated cs ≡ false
 IsDirected Ge cs = ⊤
 
-pub record IsSpelledRow (r : Row) : Type 0 where
+pub record IsSpelledRow (r : ReportRow) : Type 0 where
   pub directed : IsDirected r.kind r.coefficients
   pub in_range : IsRowInRange r
 
@@ -42,7 +42,7 @@ IsReduced Point d zs = IsPrimitive (pos d ∷ zs)
 IsReduced Ray d zs = ⊤
 IsReduced Line d zs = ⊤
 
-pub record IsSpelledGenerator (g : Generator) : Type 0 where
+pub record IsSpelledGenerator (g : ReportGenerator) : Type 0 where
   pub divides : DividesAs g.kind g.divisor
   pub reduced : IsReduced g.kind g.divisor g.numbers
   pub divisor_in : InRange (pos g.divisor)

@@ -11,13 +11,13 @@ use Rattle.lra_report.specs.declared.report.Report.{Report}
 use Rattle.lra_report.specs.declared.back.BackReport.{BackReport}
 use Rattle.lra_report.specs.declared.path.CallPlace.{CallPlace}
 
-abbrev pub point_of : Point → run.Point
-point_of p = record { path = p.path.items; label = p.label }
+abbrev pub run_point_view : Point → run.Point
+run_point_view p = record { path = p.path.items; label = p.label }
 
 abbrev pub point_report_of : PointReport → report.PointReport
 point_report_of p = record {
   number = p.number;
-  point = point_of p.point;
+  point = run_point_view p.point;
   path = string_bytes p.path;
   place = p.place;
   names = p.names;
@@ -28,7 +28,7 @@ abbrev pub verdict_of : Verdict → report.Verdict
 verdict_of v = record {
   kind = v.kind;
   number = v.number;
-  point = point_of v.point;
+  point = run_point_view v.point;
   which = v.which;
   path = string_bytes v.path;
   place = v.place;

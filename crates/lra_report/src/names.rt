@@ -4,7 +4,7 @@ ghost use Rattle.std.specs.Prelude.{◌≡◌, ◌++◌, ◌∷◌, [], map, OnO
 ghost use Rattle.std.specs.List.{count_by};
 ghost use Rattle.lra_resolution_spec.specs.ShownNames.{shown_name, shown_names};
 
-use lra_show::Names;
+use lra_row_text::Names;
 use std::alloc::{AllocError, Global};
 
 /// Adds the text of a name that so many newer variables of the name hide.

@@ -2,7 +2,7 @@
 
 ghost use Rattle.std.specs.Prelude.{◌≡◌, [], MatchOption, length};
 ghost use Rattle.lra_systems.specs.LinearSystems.{FitKinds};
-ghost use Rattle.lra_show.specs.Lists.{shown_rows, shown_generators};
+ghost use Rattle.lra_row_text.specs.Lists.{shown_rows, shown_generators};
 ghost use Rattle.lra_report.specs.Rows.{optional_generators, FitOptionally, IsPartInRange};
 
 use lra_systems::{ConSys, GenSys};
@@ -25,8 +25,8 @@ impl Drop for Part {
 }
 
 impl Model for Part {
-    ghost use Rattle.lra_show.specs.Part as shown;
-    ghost use Rattle.lra_show.specs.Lists.{shown_rows};
+    ghost use Rattle.lra_row_text.specs.Part as shown;
+    ghost use Rattle.lra_row_text.specs.Lists.{shown_rows};
     ghost use Rattle.lra_report.specs.Rows.{optional_generators, FitOptionally};
 
     ghost Value = { shown.Part };

@@ -1,7 +1,7 @@
 //! The text of a source's refusal.
 ghost use Rattle.std.specs.Prelude.{◌≡◌, ◌++◌, codes, IfOk, OnOk, string_bytes};
 ghost use Rattle.std.specs.Fmt.{decimal};
-ghost use Rattle.lra_show.specs.Texts.{text_line};
+ghost use Rattle.lra_row_text.specs.Texts.{text_line};
 ghost use Rattle.lra_report.specs.ReportText.{place_text};
 ghost use Rattle.lra_report.specs.RefusalText.{refusal_text};
 

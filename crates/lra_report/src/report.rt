@@ -8,7 +8,7 @@ use crate::part::Part;
 use crate::verdict_kinds::VerdictKind;
 use lra_base::Place;
 use lra_options::Options;
-use lra_show::Names;
+use lra_row_text::Names;
 
 /// A point of the program: its statement's label, and the labels of the calls that lead to it, the innermost first.
 pub struct Point {

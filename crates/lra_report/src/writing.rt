@@ -2,7 +2,7 @@
 
 ghost use Rattle.std.specs.Prelude.{◌≡◌, ◌++◌, map, OnOk, IfOk, string_bytes};
 ghost use Rattle.std.specs.List.{flat_map};
-ghost use Rattle.lra_show.specs.Texts.{part_text};
+ghost use Rattle.lra_row_text.specs.Texts.{part_text};
 ghost use Rattle.lra_options.specs.OptionRows.{number_options, flag_options};
 ghost use Rattle.lra_report.specs.ReportText as written;
 ghost use Rattle.lra_report.specs.View.{point_report_of, verdict_of, report_of};
@@ -11,7 +11,7 @@ use crate::part::Part;
 use crate::report::{PointReport, Report, Verdict, count_proved, count_unknown};
 use lra_base::Place;
 use lra_options::{FLAG_OPTIONS, FlagOption, NUMBER_OPTIONS, NumberOption, Options};
-use lra_show::{Names, push_generators, push_rows};
+use lra_row_text::{Names, push_generators, push_rows};
 use std::alloc::{AllocError, Global};
 
 /// Appends the lines of a part.

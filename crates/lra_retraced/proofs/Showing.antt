@@ -14,13 +14,13 @@ use Rattle.lra_operations.specs.Tree.{Node}
 use Rattle.lra_options.specs.declared.options.Domain.TheVariants.{Poly}
 use Rattle.lra_front_end.specs.Stages.{HasInlinedTree}
 use Rattle.lra_report.specs.Listing.{AreListed, HasWidth}
-use Rattle.lra_report.specs.Parts.{HasSamePoints, Tells}
+use Rattle.lra_report.specs.Parts.{HasSamePoints, ShowsPart}
 use Rattle.lra_report.specs.Report.{Invariant, PointReport}
 use Rattle.lra_resolution_sound.proofs.Named.{shown_as_many}
-use Rattle.lra_listing.specs.Given.{AreInvariants, state_of}
+use Rattle.lra_report_build.specs.AnalysisResults.{AreInvariants, state_of}
 use Rattle.lra_poly_domain.specs.Abstraction.{polyhedron_abstraction}
-use Rattle.lra_states.specs.Polyhedra.{shown_polyhedron}
-use Rattle.lra_states.specs.Shown.{AreShown}
+use Rattle.lra_report_states.specs.Polyhedra.{shown_polyhedron}
+use Rattle.lra_report_states.specs.Shown.{AreShown}
 use Rattle.lra_source.proofs.Handing.{contained, image_of}
 use Rattle.lra_source.proofs.Sound.{listed_all}
 use Rattle.lra_back.specs.Traced.{AreWide}
@@ -45,7 +45,7 @@ value_shown values points k x are there =
     (ap (λ (l : List Invariant). slice_get l k) (sym are) ∙ slice_get-map state_of points k ∙ ap (option_map state_of) there)
 
 -- parts over polyhedra
-pub same_parts : (n : ℕ) (state : Invariant) → AllByRecursion (Tells Poly n) state → AllByRecursion (HasSamePoints n) state
+pub same_parts : (n : ℕ) (state : Invariant) → AllByRecursion (ShowsPart Poly n) state → AllByRecursion (HasSamePoints n) state
 same_parts n [] tell = tt
 same_parts n (part ∷ parts) tell = (tell.0.1, same_parts n parts tell.1)
 
@@ -60,7 +60,7 @@ same_points t values points shows =
     let dims = (shows.wide.1 k s v site value).0 in
     subst (λ (st : Invariant). AllByRecursion (HasSamePoints (length x.names)) st) state
     (same_parts (length x.names) (shown_polyhedron v)
-    (subst (λ (n : ℕ). AllByRecursion (Tells Poly n) (shown_polyhedron v)) (dims ∙ sym names) (shows.are_shown v (contained values k v value)).tell)))
+    (subst (λ (n : ℕ). AllByRecursion (ShowsPart Poly n) (shown_polyhedron v)) (dims ∙ sym names) (shows.are_shown v (contained values k v value)).tell)))
 
 pub backs_same_points : BacksHaveSamePoints
 backs_same_points source p r x = same_points x.program.tree x.values r.points x.shows

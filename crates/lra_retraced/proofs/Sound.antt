@@ -8,12 +8,12 @@ use Rattle.lra_program.specs.Run.{Point}
 use Rattle.lra_program.specs.Sites.{sites_of}
 use Rattle.lra_operations.specs.Agree.{point_of}
 use Rattle.lra_report.specs.BackText.{BackReport}
-use Rattle.lra_report.specs.Report.{Holds, Invariant}
+use Rattle.lra_report.specs.Report.{InvariantHolds, Invariant}
 use Rattle.lra_certificate.specs.Claims.{program_of}
 use Rattle.lra_poly_domain.specs.Laws.{polyhedron_laws}
 use Rattle.lra_poly_domain.specs.Abstraction.{polyhedron_abstraction}
 use Rattle.lra_poly_domain.specs.Backward.{polyhedron_backward}
-use Rattle.lra_states.specs.Polyhedra.{shown_polyhedron}
+use Rattle.lra_report_states.specs.Polyhedra.{shown_polyhedron}
 use Rattle.lra_source.proofs.Handing.{contained}
 use Rattle.lra_source.proofs.Sound.{held_there, listed_all}
 use Rattle.lra_back.specs.Traced.{FailsFrom}
@@ -53,8 +53,8 @@ backs_sound source p r x = record {
       let (v, value, held) = (found source p r x).stores s there k store site own on in
       let (w, same, state) = value_shown x.values r.points k y x.shows.states at in
       let one : v ≡ w = same_Some v w (sym value ∙ same) in
-      subst (λ (st : Invariant). Holds st store) state
-      (subst (λ (u : Polyhedron). Holds (shown_polyhedron u) store) one
+      subst (λ (st : Invariant). InvariantHolds st store) state
+      (subst (λ (u : Polyhedron). InvariantHolds (shown_polyhedron u) store) one
       ((x.shows.are_shown v (contained x.values k v value)).holds store held.1)));
   proved = λ proved s site fails. (found source p r x).proved s site (x.found.proved.0 proved) fails;
 }

@@ -21,9 +21,9 @@ use Rattle.lra_options.specs.declared.options.Domain.TheVariants.{Poly}
 use Rattle.lra_report.specs.BackText.{BackReport}
 use Rattle.lra_report.specs.Listing.{AreListed}
 use Rattle.lra_report.specs.Parts.{HasSamePoints}
-use Rattle.lra_report.specs.Report.{PointReport, Holds}
-use Rattle.lra_states.specs.Polyhedra.{shown_polyhedron}
-use Rattle.lra_states.specs.Shown.{AreShown}
+use Rattle.lra_report.specs.Report.{PointReport, InvariantHolds}
+use Rattle.lra_report_states.specs.Polyhedra.{shown_polyhedron}
+use Rattle.lra_report_states.specs.Shown.{AreShown}
 use Rattle.lra_front_end.specs.Stages.{HasConstants}
 use Rattle.lra_flow.specs.Accesses.{JudgesAccesses}
 use Rattle.lra_flow.specs.Analysis.{Written, Solves, Strains}
@@ -80,7 +80,7 @@ pub record IsBackOf (source : List ℕ) (p : ℕ) (r : BackReport) : Type 0 wher
 
 -- at the point, each store with which a run comes there that goes on to fail at the assertion
 abbrev pub HoldsBeforeFailing : Program → Point → PointReport → Type 0
-HoldsBeforeFailing P assertion x = (store : List ℤ) → FailsFrom P assertion x.point store → Holds x.state store
+HoldsBeforeFailing P assertion x = (store : List ℤ) → FailsFrom P assertion x.point store → InvariantHolds x.state store
 
 -- so it is at all points, and no run fails where the assertion is proved
 pub record HoldsWhereRunsFail (P : Program) (p : ℕ) (r : BackReport) : Type 0 where

@@ -4,8 +4,8 @@ use Rattle.std.specs.Prelude.{Result, Ok, Err, OnOk, codes}
 use Rattle.std.specs.Fn.{iterate}
 use Rattle.std.specs.List.{flat_map, range_with_len}
 use Rattle.std.proofs.lemmas.List.{flat_map_more}
-use Rattle.lra_show.specs.Texts.{text_line}
-use Rattle.lra_sample.specs.Draws.{next_state, state_behind}
+use Rattle.lra_row_text.specs.Texts.{text_line}
+use Rattle.lra_sample.specs.Draws.{next_state, state_after}
 use Rattle.lra_sample.specs.Sample.{statements_text, block_from, line_as, block_line, block_lines}
 use Rattle.lra_sample.specs.declared.block.Kind.{Kind}
 use Rattle.lra_sample.specs.declared.block.Kind.TheVariants.{Choice}
@@ -26,17 +26,17 @@ flat_map_range_more f n =
     ∙ sym (flat_map_more f [] (range_with_len 0 n) n)
 
 -- four draws further
-pub state_more : (seed count state next : ℕ) → state ≡ state_behind seed (4 * count) → next ≡ state_behind state 4 → next ≡ state_behind seed (4 * (count + 1))
+pub state_more : (seed count state next : ℕ) → state ≡ state_after seed (4 * count) → next ≡ state_after state 4 → next ≡ state_after seed (4 * (count + 1))
 state_more seed count state next now further =
-    further ∙ ap (λ s. state_behind s 4) now ∙ sym (iterate_more next_state (4 * count) 4 (4 * (count + 1)) seed (omega arith))
+    further ∙ ap (λ s. state_after s 4) now ∙ sym (iterate_more next_state (4 * count) 4 (4 * (count + 1)) seed (omega arith))
 
-pub lines_more : (seed count state : ℕ) (begin before after : List ℕ) (block : Block) → state ≡ state_behind seed (4 * count) → before ≡ begin ++ block_lines seed count →
+pub lines_more : (seed count state : ℕ) (begin before after : List ℕ) (block : Block) → state ≡ state_after seed (4 * count) → before ≡ begin ++ block_lines seed count →
     block ≡ block_from state → after ≡ before ++ block_line block → after ≡ begin ++ block_lines seed (count + 1)
 lines_more seed count state begin before after block now lines made further =
     further ∙ ap (λ t. t ++ block_line block) lines
     ∙ ap (λ b. (begin ++ block_lines seed count) ++ block_line b) (made ∙ ap block_from now)
-    ∙ append_assoc begin (block_lines seed count) (block_line (block_from (state_behind seed (4 * count))))
-    ∙ ap (λ t. begin ++ t) (sym (flat_map_range_more (λ before. block_line (block_from (state_behind seed (4 * before)))) count))
+    ∙ append_assoc begin (block_lines seed count) (block_line (block_from (state_after seed (4 * count))))
+    ∙ ap (λ t. begin ++ t) (sym (flat_map_range_more (λ before. block_line (block_from (state_after seed (4 * before)))) count))
 
 -- a line of the block's kind
 pub line_of_kind : {T E : Type 0} (block : Block) (kind : Kind) (before after : List ℕ) (r : Result T E) → block.kind ≡ kind → OnOk r (after ≡ before ++ line_as kind block) →

@@ -5,8 +5,8 @@ use Rattle.std.specs.Fmt.{decimal}
 use Rattle.std.specs.List.{flat_map, range_with_len}
 use Rattle.std.proofs.lemmas.Fmt.{length-decimal-le}
 use Rattle.std.proofs.lemmas.List.{length-append, length_push}
-use Rattle.lra_show.specs.Texts.{text_line}
-use Rattle.lra_sample.specs.Draws.{draw, state_behind}
+use Rattle.lra_row_text.specs.Texts.{text_line}
+use Rattle.lra_sample.specs.Draws.{draw, state_after}
 use Rattle.lra_sample.specs.Sample.{statements_text, block_from, block_line, block_lines, sample_source}
 use Rattle.lra_sample.specs.declared.block.Kind.{Kind}
 use Rattle.lra_sample.specs.declared.block.Kind.TheVariants.{Sum, Choice, Count, Input}
@@ -39,7 +39,7 @@ short_lines line short a zero = omega arith
 short_lines line short a (suc n) = omega (arith, length-append (line a) (flat_map line (range_with_len (a + 1) n)), short a, short_lines line short (a + 1) n)
 
 short_blocks : (seed size : ℕ) → length (block_lines seed size) ≤ 34 * size
-short_blocks seed size = short_lines (λ before. block_line (block_from (state_behind seed (4 * before)))) (λ before. short_line (state_behind seed (4 * before))) 0 size
+short_blocks seed size = short_lines (λ before. block_line (block_from (state_after seed (4 * before)))) (λ before. short_line (state_after seed (4 * before))) 0 size
 
 short_whole : (lines : List ℕ) (most : ℕ) → length lines ≤ most → length (
     text_line (codes "int main(void){")

@@ -3,7 +3,7 @@ use Rattle.std.proofs.Common.{◌≡◌, List, [], ◌∷◌, length, refl}
 use Rattle.std.specs.Prelude.{ℕ, codes}
 use Rattle.std.specs.Fmt.{digits}
 use Rattle.std.specs.List.{flat_map}
-use Rattle.lra_show.specs.Texts.{text_line}
+use Rattle.lra_row_text.specs.Texts.{text_line}
 use Rattle.lra_sample.specs.Draws.{draw}
 use Rattle.lra_sample.specs.Sample.{block_lines, sample_source}
 

@@ -9,8 +9,8 @@ use Rattle.std.specs.Prelude.{codes}
 use Rattle.lra_syntax.specs.Grammar.{Spells}
 use Rattle.lra_base.specs.Places.{greatest_length}
 use Rattle.lra_resolution_spec.specs.Refuse.{Accepts}
-use Rattle.lra_show.specs.Texts.{text_line}
-use Rattle.lra_sample.specs.Draws.{state_behind, draw}
+use Rattle.lra_row_text.specs.Texts.{text_line}
+use Rattle.lra_sample.specs.Draws.{state_after, draw}
 use Rattle.lra_sample.specs.Sample.{statements_text, kind_of, block_from, block_line, block_lines, sample_source}
 use Rattle.lra_sample.specs.Accepted.{SamplesAreAccepted}
 use Rattle.lra_sample.specs.declared.block.Kind.{Kind}
@@ -62,14 +62,14 @@ abbrev line_behind : ℕ → Line
 line_behind state = line_from (kind_of (draw state 1)) (draw state 2) (draw state 3) (draw state 4)
 
 abbrev sample_lines : ℕ → List ℕ → List Line
-sample_lines seed ks = map (λ (before : ℕ). line_behind (state_behind seed (4 * before))) ks
+sample_lines seed ks = map (λ (before : ℕ). line_behind (state_after seed (4 * before))) ks
 
-texts : (seed : ℕ) (ks : List ℕ) → flat_map (λ (before : ℕ). block_line (block_from (state_behind seed (4 * before))))
+texts : (seed : ℕ) (ks : List ℕ) → flat_map (λ (before : ℕ). block_line (block_from (state_after seed (4 * before))))
     ks ≡ lines_text (sample_lines seed ks)
 texts seed [] = refl
 texts seed (k ∷ ks) =
-    let s = state_behind seed (4 * k) in
-    ap (λ (t : List ℕ). t ++ flat_map (λ (before : ℕ). block_line (block_from (state_behind seed (4 * before)))) ks)
+    let s = state_after seed (4 * k) in
+    ap (λ (t : List ℕ). t ++ flat_map (λ (before : ℕ). block_line (block_from (state_after seed (4 * before)))) ks)
     (line_text (kind_of (draw s 1)) (draw s 2) (draw s 3) (draw s 4))
     ∙ ap (λ (t : List ℕ). written (items_of (line_behind s)) ++ t) (texts seed ks)
 
@@ -84,7 +84,7 @@ source_written seed size =
     ∙ sym (whole_written (lines_of seed size))
 
 as_many : (seed size : ℕ) → length (lines_of seed size) ≡ size
-as_many seed size = length-map-range_with_len (λ (before : ℕ). line_behind (state_behind seed (4 * before))) 0 size
+as_many seed size = length-map-range_with_len (λ (before : ℕ). line_behind (state_after seed (4 * before))) 0 size
 
 short : (n size : ℕ) → size ≤ 400 → n ≤ 78 + 34 * size → n ≤ greatest_length
 unfolding greatest_length

@@ -6,7 +6,7 @@ use Rattle.std.specs.List.{flat_map}
 use Rattle.lra_options.specs.declared.options.Options.{Options}
 use Rattle.lra_report.specs.declared.verdict_kinds.VerdictKind.TheVariants.{Assertion}
 use Rattle.lra_report.specs.Report.{PointReport, Verdict, Report}
-use Rattle.lra_show.specs.Texts.{text_line}
+use Rattle.lra_row_text.specs.Texts.{text_line}
 use Rattle.lra_sample.specs.Summary.{summary_text}
 
 abbrev lines : List (List ℕ) → List ℕ

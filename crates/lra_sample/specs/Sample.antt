@@ -2,8 +2,8 @@
 use Rattle.std.specs.Prelude.{ℕ, ◌*◌, ◌%◌, List, ◌++◌, codes, if◌then◌else◌, nat_eq}
 use Rattle.std.specs.Fmt.{decimal}
 use Rattle.std.specs.List.{flat_map, range_with_len}
-use Rattle.lra_show.specs.Texts.{text_line}
-use Rattle.lra_sample.specs.Draws.{state_behind, draw}
+use Rattle.lra_row_text.specs.Texts.{text_line}
+use Rattle.lra_sample.specs.Draws.{state_after, draw}
 use Rattle.lra_sample.specs.declared.block.Kind.{Kind}
 use Rattle.lra_sample.specs.declared.block.Kind.TheVariants.{Sum, Choice, Count, Input}
 use Rattle.lra_sample.specs.declared.block.Block.{Block}
@@ -43,7 +43,7 @@ block_line block = line_as block.kind block
 
 -- each block takes four draws, behind those of the blocks before it
 abbrev pub block_lines : ℕ → ℕ → List ℕ
-block_lines seed size = flat_map (λ before. block_line (block_from (state_behind seed (4 * before))))
+block_lines seed size = flat_map (λ before. block_line (block_from (state_after seed (4 * before))))
     (range_with_len 0 size)
 
 abbrev pub sample_source : ℕ → ℕ → List ℕ

@@ -2,7 +2,7 @@
 use Rattle.std.specs.Prelude.{ℕ, List, length, ◌++◌, codes}
 use Rattle.std.specs.Fmt.{decimal}
 use Rattle.lra_report.specs.Report.{Report}
-use Rattle.lra_show.specs.Texts.{text_line}
+use Rattle.lra_row_text.specs.Texts.{text_line}
 use Rattle.lra_report.specs.ReportText.{flag_text, counts_line}
 use Rattle.lra_sample.specs.Sample.{sample_source}
 

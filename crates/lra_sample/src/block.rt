@@ -1,6 +1,6 @@
 //! The blocks of a sample source.
 ghost use Rattle.std.specs.Prelude.{◌≡◌, ◌++◌, OnOk, string_bytes};
-ghost use Rattle.lra_sample.specs.Draws.{state_behind};
+ghost use Rattle.lra_sample.specs.Draws.{state_after};
 ghost use Rattle.lra_sample.specs.Sample.{block_from, block_line, kind_of, line_as};
 
 use crate::draws::Generator;
@@ -44,7 +44,7 @@ pub(crate) struct Block {
 impl Block {
     /// The block of the next four draws.
     pub(crate) fn draw(generator: &mut Generator) -> Block
-        ensures state { generator.new.state ≡ state_behind generator.old.state 4 }
+        ensures state { generator.new.state ≡ state_after generator.old.state 4 }
         ensures block { result ≡ block_from generator.old.state }
     {
         let kind = Kind::of(generator.draw());

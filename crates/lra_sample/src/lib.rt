@@ -8,8 +8,8 @@ mod block;
 mod draws;
 mod laws;
 mod source;
-mod telling;
+mod summaries;
 
 pub use laws::samples_are_accepted;
 pub use source::program;
-pub use telling::summary;
+pub use summaries::summary;

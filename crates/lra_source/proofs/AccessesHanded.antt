@@ -21,7 +21,7 @@ use Rattle.lra_flow.specs.Operations.{Operations}
 use Rattle.lra_flow.specs.Accesses.{EachJudged, CondInside, OpInside, AskedInside, JudgesAccesses}
 use Rattle.lra_iter.specs.Numbers.{AreBelow}
 use Rattle.lra_report.specs.Listing.{accesses_at}
-use Rattle.lra_listing.specs.Given.{AreInside, IsAccessing}
+use Rattle.lra_report_build.specs.AnalysisResults.{AreAccessVerdicts, IsAccessing}
 use Rattle.lra_source.proofs.Found.{place_of, site_there, found_of, asked_one, found_on}
 use Rattle.lra_source.proofs.Handing.{contained}
 
@@ -131,7 +131,7 @@ module _ {V H : Type 0} (m : Abstraction V H) (ops : Operations V H) (g : Node) 
   accessed_there a among = let (k, there) = place_of (accessing_ops None g) a among in one_there (accessing_ops None g) once k a there
 
   pub inside_on : (sites : List Site) → length values ≡ length sites → AreBelow (length sites) g → JudgesAccesses m ops g values flagged inside behind
-      → AreInside g sites inside
+      → AreAccessVerdicts g sites inside
   inside_on sites many below j = record {
     verdicts = found_on ops (OpInside m ops) (accessing_ops None g) values flagged inside behind j (IsAccessing g sites)
         (λ a among low. accessing a among (subst (λ (n : ℕ). a.point < n) many low)) (λ q (s, site, so). some_there q (accessing_ops None g) so);

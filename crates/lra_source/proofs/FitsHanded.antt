@@ -10,7 +10,7 @@ use Rattle.lra_operations.specs.Tree.{Node}
 use Rattle.lra_operations.specs.CheckedOperations.{OpAtPoint, computing_ops}
 use Rattle.lra_flow.specs.Operations.{Operations}
 use Rattle.lra_flow.specs.Fits.{OpFits, Judges, JudgesIf}
-use Rattle.lra_listing.specs.Given.{AreVerdictsOn, IsComputing}
+use Rattle.lra_report_build.specs.AnalysisResults.{AreVerdictsOn, IsComputing}
 use Rattle.lra_source.proofs.Found.{found_on, none_before, site_there}
 
 -- a tree computes where it asks, and asks where it computes

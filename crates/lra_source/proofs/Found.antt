@@ -21,7 +21,7 @@ use Rattle.lra_flow.specs.Operations.{Operations}
 use Rattle.lra_flow.specs.Pass.{noted}
 use Rattle.lra_flow.specs.Judging.{Finding, answer_of, first_flagged, Finds}
 use Rattle.lra_iter.specs.Numbers.{ArmsAreBelow, AreBelow}
-use Rattle.lra_listing.specs.Given.{AreVerdictsOn}
+use Rattle.lra_report_build.specs.AnalysisResults.{AreVerdictsOn}
 use Rattle.lra_source.proofs.Handing.{image_of}
 
 -- members --------------------------------------------------------------------------------------------------------------

@@ -26,9 +26,9 @@ use Rattle.lra_flow.specs.Pass.{Result}
 use Rattle.lra_flow.specs.Analysis.{Derivation, Solves}
 use Rattle.lra_iter.specs.Numbers.{values_in, checks_in, asserts_of, IsNumbered}
 use Rattle.lra_iter.proofs.Counting.{Found, iteration_found, value_counted, failing_counted, counted_value, counted_failing}
-use Rattle.lra_listing.specs.Given.{IsAssertion, Told, told, told_from, told_accesses}
-use Rattle.lra_states.specs.Canonical.{AreCanonicallyShown, IsCanonicalState}
-use Rattle.lra_states.specs.Shown.{AreShown}
+use Rattle.lra_report_build.specs.AnalysisResults.{IsAssertion, ReportedVerdict, reported_verdict, reported_from, reported_accesses}
+use Rattle.lra_report_states.specs.Canonical.{AreCanonicallyShown, IsCanonicalState}
+use Rattle.lra_report_states.specs.Shown.{AreShown}
 use Rattle.lra_source.proofs.Numbering.{numbered}
 use Rattle.lra_source.proofs.Flags.{IsBelow, graph_below, iteration_below}
 use Rattle.lra_iter.proofs.Widths.{values_wide}
@@ -55,30 +55,31 @@ contained (y ∷ xs) zero x e = subst (λ (z : _). Contains (y ∷ xs) z) (same_
 contained (y ∷ xs) (suc k) x e = contains_tail y x xs (contained xs k x e)
 
 -- a verdict that is told is one of its kind
-pub one_told : (own : VerdictKind) (vs : List (ℕ × Bool)) (kind : VerdictKind) (n which : ℕ) (b : Bool) → Contains (map (told own) vs) (kind, n, which, b)
+pub one_told : (own : VerdictKind) (vs : List (ℕ × Bool)) (kind : VerdictKind) (n which : ℕ) (b : Bool) →
+    Contains (map (reported_verdict own) vs) (kind, n, which, b)
     → (q : ℕ) × (kind ≡ own) × (n ≡ suc q) × Contains vs (q, b)
 one_told own vs kind n which b h =
-    let (v, among, is) = map_from (told own) vs (kind, n, which, b) h in (
+    let (v, among, is) = map_from (reported_verdict own) vs (kind, n, which, b) h in (
       v.0,
-      sym (ap (λ (z : Told). z.0) is),
-      sym (ap (λ (z : Told). z.1) is),
-      subst (λ (c : Bool). Contains vs (v.0, c)) (ap (λ (z : Told). z.3) is) among,
+      sym (ap (λ (z : ReportedVerdict). z.0) is),
+      sym (ap (λ (z : ReportedVerdict). z.1) is),
+      subst (λ (c : Bool). Contains vs (v.0, c)) (ap (λ (z : ReportedVerdict). z.3) is) among,
     )
 
 -- one of an access is one of those at its point
 told_nth : (number first : ℕ) (js : List (Place × Bool)) (kind : VerdictKind) (n which : ℕ) (b : Bool)
-    → Contains (told_from number first js) (kind, n, which, b)
+    → Contains (reported_from number first js) (kind, n, which, b)
     → (k : ℕ) × (place : Place) × (kind ≡ Access) × (n ≡ number) × (which ≡ first + k) × (slice_get js k ≡ Some (place, b))
 told_nth number first [] kind n which b h = absurd (contains_none (kind, n, which, b) h)
 told_nth number first (j ∷ js) kind n which b h =
-    elim (contains_cases (Access, number, first, j.1) (kind, n, which, b) (told_from number (suc first) js) h) [
+    elim (contains_cases (Access, number, first, j.1) (kind, n, which, b) (reported_from number (suc first) js) h) [
       | inl is ↦ (
         0,
         j.0,
-        sym (ap (λ (z : Told). z.0) is),
-        sym (ap (λ (z : Told). z.1) is),
-        sym (ap (λ (z : Told). z.2) is) ∙ omega arith,
-        ap (λ (z : Told). Some (j.0, z.3)) is,
+        sym (ap (λ (z : ReportedVerdict). z.0) is),
+        sym (ap (λ (z : ReportedVerdict). z.1) is),
+        sym (ap (λ (z : ReportedVerdict). z.2) is) ∙ omega arith,
+        ap (λ (z : ReportedVerdict). Some (j.0, z.3)) is,
       )
       | inr later ↦
           let (k, place, own, same, from, there) = told_nth number (suc first) js kind n which b later in
@@ -86,12 +87,12 @@ told_nth number first (j ∷ js) kind n which b h =
     ]
 
 pub one_access : (vs : List (ℕ × List (Place × Bool))) (kind : VerdictKind) (n which : ℕ) (b : Bool)
-    → Contains (flat_map told_accesses vs) (kind, n, which, b)
+    → Contains (flat_map reported_accesses vs) (kind, n, which, b)
     → (q : ℕ) × (js : List (Place × Bool)) × (place : Place) × (kind ≡ Access) × (n ≡ suc q) × Contains vs (q, js)
     × (slice_get js which ≡ Some (place, b))
 one_access [] kind n which b h = absurd (contains_none (kind, n, which, b) h)
 one_access (v ∷ vs) kind n which b h =
-    elim (Contains-append_cases (told_accesses v) (flat_map told_accesses vs) (kind, n, which, b) h) [
+    elim (Contains-append_cases (reported_accesses v) (flat_map reported_accesses vs) (kind, n, which, b) h) [
       | inl here ↦
           let (k, place, own, same, from, there) = told_nth (suc v.0) 0 v.1 kind n which b here in
           let whole : which ≡ k = omega (arith, from) in

@@ -12,7 +12,7 @@ use Rattle.lra_poly_domain.specs.Laws.{polyhedron_single, polyhedron_base}
 use Rattle.lra_powerset.specs.Content.{SetContent, SetHead}
 use Rattle.lra_powerset.specs.Abstraction.{set_abstraction}
 use Rattle.lra_powerset.specs.Single.{set_single}
-use Rattle.lra_states.specs.Sets.{shown_set}
+use Rattle.lra_report_states.specs.Sets.{shown_set}
 use Rattle.lra_resolution_spec.specs.LiveNames.{globals_named}
 use Rattle.lra_options.specs.declared.options.Domain.{Domain}
 use Rattle.lra_options.specs.declared.options.Domain.TheVariants.{Poly, Box, Oct}
@@ -34,7 +34,7 @@ use Rattle.lra_report.specs.Report.{Invariant, PointReport, Report, Verdict}
 use Rattle.lra_report.specs.declared.verdict_kinds.VerdictKind.{VerdictKind}
 use Rattle.lra_report.specs.declared.verdict_kinds.VerdictKind.TheVariants.{Assertion, Fit, Access}
 use Rattle.lra_report.specs.Listing.{AreListed, Subject, subjects, AreJudged, Lists, listed_point, listed_verdict}
-use Rattle.lra_listing.specs.Given.{Told, told, told_accesses, told_all, told_of, state_of}
+use Rattle.lra_report_build.specs.AnalysisResults.{ReportedVerdict, reported_verdict, reported_accesses, reported_all, reported_of, state_of}
 use Rattle.lra_operations.specs.Tree.{Node}
 use Rattle.lra_operations.specs.CheckedOperations.{OpAtPoint, AgreesOnOps, AgreesOnOverflows, AgreesOnAccesses, accessing_ops, ops_where}
 use Rattle.lra_flow.specs.Operations.{defined, dropping}
@@ -81,12 +81,12 @@ same_points outside ls n (t ∷ T) (p ∷ ps) (q ∷ qs) a b s =
     rest_of (x ∷ xs) = xs
 
 -- of each kind, number and which of its kind both say the same
-abbrev SayOne : List Told → List Told → Type 0
+abbrev SayOne : List ReportedVerdict → List ReportedVerdict → Type 0
 SayOne vs ws = (k : VerdictKind) (n i : ℕ) (a b : Bool) → Contains vs (k, n, i, a) → Contains ws (k, n, i, b) → a ≡ b
 
 -- the verdicts on the same subjects that say the same of each of these
 same_verdicts : (ls : List Labelled) (xs : List Subject) (vs ws : List Verdict) → AreJudged ls xs vs → AreJudged ls xs ws
-    → SayOne (map told_of vs) (map told_of ws) → vs ≡ ws
+    → SayOne (map reported_of vs) (map reported_of ws) → vs ≡ ws
 same_verdicts ls [] [] [] a b same = refl
 same_verdicts ls [] [] (w ∷ ws) a b same = absurd b
 same_verdicts ls [] (v ∷ vs) ws a b same = absurd a
@@ -96,14 +96,14 @@ same_verdicts ls (x ∷ xs) (v ∷ vs) (w ∷ ws) a b same =
     let number : w.number ≡ v.number = ap (λ (u : Verdict). u.number) b.0 ∙ sym (ap (λ (u : Verdict). u.number) a.0) in
     let which : w.which ≡ v.which = ap (λ (u : Verdict). u.which) b.0 ∙ sym (ap (λ (u : Verdict). u.which) a.0) in
     let kind : w.kind ≡ v.kind = ap (λ (u : Verdict). u.kind) b.0 ∙ sym (ap (λ (u : Verdict). u.kind) a.0) in
-    let one : v.holds ≡ w.holds = same v.kind v.number v.which v.holds w.holds (contains_head (told_of v) (map told_of vs))
-    (subst (λ k. Contains (map told_of (w ∷ ws)) (k, v.number, v.which, w.holds)) kind
-    (subst (λ n. Contains (map told_of (w ∷ ws)) (w.kind, n, v.which, w.holds)) number
-    (subst (λ i. Contains (map told_of (w ∷ ws)) (w.kind, w.number, i, w.holds)) which (contains_head (told_of w) (map told_of ws))))) in
+    let one : v.holds ≡ w.holds = same v.kind v.number v.which v.holds w.holds (contains_head (reported_of v) (map reported_of vs))
+    (subst (λ k. Contains (map reported_of (w ∷ ws)) (k, v.number, v.which, w.holds)) kind
+    (subst (λ n. Contains (map reported_of (w ∷ ws)) (w.kind, n, v.which, w.holds)) number
+    (subst (λ i. Contains (map reported_of (w ∷ ws)) (w.kind, w.number, i, w.holds)) which (contains_head (reported_of w) (map reported_of ws))))) in
     let head : v ≡ w = a.0 ∙ ap (listed_verdict ls x) one ∙ sym b.0 in
     let tail : vs ≡ ws = same_verdicts ls xs vs ws a.1 b.1
-    (λ k n i c d p q. same k n i c d (contains_tail (told_of v) (k, n, i, c) (map told_of vs) p)
-    (contains_tail (told_of w) (k, n, i, d) (map told_of ws) q)) in
+    (λ k n i c d p q. same k n i c d (contains_tail (reported_of v) (k, n, i, c) (map reported_of vs) p)
+    (contains_tail (reported_of w) (k, n, i, d) (map reported_of ws) q)) in
     rw (head, tail) refl
 
 -- two lists of answers by points that give no point two
@@ -118,15 +118,15 @@ module _ (vs us fs gs : List (ℕ × Bool)) (ones others : List (ℕ × List (Pl
 
   -- verdicts of one kind and one of these lists
   same_of : (own : VerdictKind) (xs ys : List (ℕ × Bool)) → AgreeBy xs ys → (k : VerdictKind) (n i : ℕ) (a b : Bool)
-      → Contains (map (told own) xs) (k, n, i, a) → Contains (map (told own) ys) (k, n, i, b) → a ≡ b
+      → Contains (map (reported_verdict own) xs) (k, n, i, a) → Contains (map (reported_verdict own) ys) (k, n, i, b) → a ≡ b
   same_of own xs ys agree k n i a b x y =
       let (p, mine, is, has) = one_told own xs k n i a x in
       let (q, also, same, there) = one_told own ys k n i b y in
       agree p a b has (subst (λ (l : ℕ). Contains ys (l, b)) (equal q p n same is) there)
 
   -- one access is told once
-  same_access : (k : VerdictKind) (n i : ℕ) (a b : Bool) → Contains (flat_map told_accesses ones) (k, n, i, a)
-      → Contains (flat_map told_accesses others) (k, n, i, b) → a ≡ b
+  same_access : (k : VerdictKind) (n i : ℕ) (a b : Bool) → Contains (flat_map reported_accesses ones) (k, n, i, a)
+      → Contains (flat_map reported_accesses others) (k, n, i, b) → a ≡ b
   same_access k n i a b x y =
       let (p, js, here, mine, number, has, first) = one_access ones k n i a x in
       let (q, ks, there, also, same, too, second) = one_access others k n i b y in
@@ -134,12 +134,12 @@ module _ (vs us fs gs : List (ℕ × Bool)) (ones others : List (ℕ × List (Pl
       ap (λ (j : Place × Bool). j.1) (same_Some (here, a) (there, b) (sym first ∙ ap (λ (l : List (Place × Bool)). slice_get l i) lists ∙ second))
 
   -- of which kind a verdict is told
-  abbrev Rest : List (ℕ × Bool) → List (ℕ × List (Place × Bool)) → List Told
-  Rest xs js = map (told Fit) xs ++ flat_map told_accesses js
+  abbrev Rest : List (ℕ × Bool) → List (ℕ × List (Place × Bool)) → List ReportedVerdict
+  Rest xs js = map (reported_verdict Fit) xs ++ flat_map reported_accesses js
 
   kinds_of : (xs : List (ℕ × Bool)) (js : List (ℕ × List (Place × Bool))) (k : VerdictKind) (n i : ℕ) (b : Bool)
       → Contains (Rest xs js) (k, n, i, b) → (k ≡ Fit) ⊎ (k ≡ Access)
-  kinds_of xs js k n i b x = elim (Contains-append_cases (map (told Fit) xs) (flat_map told_accesses js) (k, n, i, b) x)
+  kinds_of xs js k n i b x = elim (Contains-append_cases (map (reported_verdict Fit) xs) (flat_map reported_accesses js) (k, n, i, b) x)
       [ inl y ↦ inl (one_told Fit xs k n i b y).1 | inr y ↦ inr (one_access js k n i b y).3 ]
 
   never_rest : (k : VerdictKind) → k ≡ Assertion → (k ≡ Fit) ⊎ (k ≡ Access) → ⊥
@@ -150,24 +150,24 @@ module _ (vs us fs gs : List (ℕ × Bool)) (ones others : List (ℕ × List (Pl
   never_both k e f = cc
 
   rest_same : SayOne (Rest fs ones) (Rest gs others)
-  rest_same k n i a b x y = elim (Contains-append_cases (map (told Fit) fs) (flat_map told_accesses ones) (k, n, i, a) x) [
-    | inl p ↦ elim (Contains-append_cases (map (told Fit) gs) (flat_map told_accesses others) (k, n, i, b) y) [
+  rest_same k n i a b x y = elim (Contains-append_cases (map (reported_verdict Fit) fs) (flat_map reported_accesses ones) (k, n, i, a) x) [
+    | inl p ↦ elim (Contains-append_cases (map (reported_verdict Fit) gs) (flat_map reported_accesses others) (k, n, i, b) y) [
       | inl q ↦ same_of Fit fs gs two k n i a b p q
       | inr q ↦ absurd (never_both k (one_told Fit fs k n i a p).1 (one_access others k n i b q).3)
     ]
-    | inr p ↦ elim (Contains-append_cases (map (told Fit) gs) (flat_map told_accesses others) (k, n, i, b) y) [
+    | inr p ↦ elim (Contains-append_cases (map (reported_verdict Fit) gs) (flat_map reported_accesses others) (k, n, i, b) y) [
       | inl q ↦ absurd (never_both k (one_told Fit gs k n i b q).1 (one_access ones k n i a p).3)
       | inr q ↦ same_access k n i a b p q
     ]
   ]
 
-  all_same : SayOne (told_all vs fs ones) (told_all us gs others)
-  all_same k n i a b x y = elim (Contains-append_cases (map (told Assertion) vs) (Rest fs ones) (k, n, i, a) x) [
-    | inl p ↦ elim (Contains-append_cases (map (told Assertion) us) (Rest gs others) (k, n, i, b) y) [
+  all_same : SayOne (reported_all vs fs ones) (reported_all us gs others)
+  all_same k n i a b x y = elim (Contains-append_cases (map (reported_verdict Assertion) vs) (Rest fs ones) (k, n, i, a) x) [
+    | inl p ↦ elim (Contains-append_cases (map (reported_verdict Assertion) us) (Rest gs others) (k, n, i, b) y) [
       | inl q ↦ same_of Assertion vs us one k n i a b p q
       | inr q ↦ absurd (never_rest k (one_told Assertion vs k n i a p).1 (kinds_of gs others k n i b q))
     ]
-    | inr p ↦ elim (Contains-append_cases (map (told Assertion) us) (Rest gs others) (k, n, i, b) y) [
+    | inr p ↦ elim (Contains-append_cases (map (reported_verdict Assertion) us) (Rest gs others) (k, n, i, b) y) [
       | inl q ↦ absurd (never_rest k (one_told Assertion us k n i b q).1 (kinds_of fs ones k n i a p))
       | inr q ↦ rest_same k n i a b p q
     ]
@@ -219,7 +219,7 @@ module _ {V H : Type 0} (m : Abstraction V H) {shown : V → Invariant} {o : Opt
 -- fits and of each access
 pub record SayTheSame (r s : Report) : Type 0 where
   pub states : map state_of r.points ≡ map state_of s.points
-  pub verdicts : SayOne (map told_of r.verdicts) (map told_of s.verdicts)
+  pub verdicts : SayOne (map reported_of r.verdicts) (map reported_of s.verdicts)
 
 pub one_analysis : {V H : Type 0} (m : Abstraction V H) → SingleLaws m → (shown : V → Invariant) (o : Options) (constants : List ℤ) (P : Program) (r s : Report) → IsAnalysed m shown o constants P r
     → IsAnalysed m shown o constants P s
@@ -243,7 +243,7 @@ one_analysis {V} m laws shown o constants P r s a b e f =
       states = a.states ∙ ap (map shown) one.0 ∙ sym b.states;
       verdicts = λ k n i c d x y.
           all_same a.verdicts b.verdicts a.fitting b.fitting a.inside b.inside one.1 fits accesses k n i c d
-          (subst (λ (l : List Told). Contains l (k, n, i, c)) a.proved x) (subst (λ (l : List Told). Contains l (k, n, i, d)) b.proved y);
+          (subst (λ (l : List ReportedVerdict). Contains l (k, n, i, c)) a.proved x) (subst (λ (l : List ReportedVerdict). Contains l (k, n, i, d)) b.proved y);
     }
 
 -- what follows of two things that are said of each domain with one value of each definition follows of those that are said

@@ -14,7 +14,7 @@ use Rattle.lra_report.specs.Spelled.{IsSpelledPart, IsReadablePart, IsReadablePo
 use Rattle.lra_resolution_sound.proofs.Named.{shown_as_many}
 use Rattle.lra_options.specs.declared.options.Domain.{Domain}
 use Rattle.lra_options.specs.declared.options.Options.{Options}
-use Rattle.lra_states.specs.Canonical.{IsCanonicalState}
+use Rattle.lra_report_states.specs.Canonical.{IsCanonicalState}
 use Rattle.lra_source.specs.Answers.{AreCanonical}
 
 state_readable : (n : ℕ) (ps : Invariant) → AllByRecursion IsSpelledPart ps → AllByRecursion (HasWidth n) ps → AllByRecursion (IsReadablePart n) ps

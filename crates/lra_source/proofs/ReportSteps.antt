@@ -32,10 +32,11 @@ use Rattle.lra_outcomes.specs.Fits.{TreeFits}
 use Rattle.lra_iter.specs.Numbers.{IsNumbered}
 use Rattle.lra_iter.specs.Numbers as numbers
 use Rattle.lra_iter.specs.Solved.{IsSolved}
-use Rattle.lra_listing.specs.Given.{AreInvariants, AreVerdicts, AreFitting, AreInside, Told, state_of, told_of, told_all}
+use Rattle.lra_report_build.specs.AnalysisResults.{AreInvariants, AreVerdicts, AreFitting, AreAccessVerdicts, ReportedVerdict, state_of, reported_of}
+use Rattle.lra_report_build.specs.AnalysisResults.{reported_all}
 use Rattle.lra_report.specs.Spelled.{IsSpelledPart}
-use Rattle.lra_states.specs.Canonical.{AreCanonicallyShown}
-use Rattle.lra_states.specs.Shown.{AreShown}
+use Rattle.lra_report_states.specs.Canonical.{AreCanonicallyShown}
+use Rattle.lra_report_states.specs.Shown.{AreShown}
 use Rattle.lra_front_end.specs.Stages.{HasInlinedTree}
 use Rattle.lra_source.specs.Stages.{IsToldOf, TellsSolution}
 use Rattle.lra_source.proofs.Fitting.{tree_fits, few_globals}
@@ -191,9 +192,9 @@ module _ {V H : Type 0} (m : Abstraction V H) (t : FileTree) (g : Node) (sites :
   behind_handed false fitting behind none q is = flag_handed q (sym none.1 ∙ is)
 
   pub inside_handed : (inside : List (ℕ × List (Place × Bool))) (behind last : Option ℕ) → JudgesAccesses m (dropping m) g values behind inside last
-      → (h : Node) → IsInlinedTree (resolve t) h → AreInside h sites inside
+      → (h : Node) → IsInlinedTree (resolve t) h → AreAccessVerdicts h sites inside
   inside_handed inside behind last j h also =
-      subst (λ (k : Node). AreInside k sites inside) (one_tree (resolve t) g h has.is_graph also)
+      subst (λ (k : Node). AreAccessVerdicts k sites inside) (one_tree (resolve t) g h has.is_graph also)
       (inside_on m (dropping m) g values behind inside last (accesses_well t g sites has 0).once sites (values_as_many ∙ sym (ap length has.points))
       (subst (λ (T : List Site). numbers.AreBelow (length T) g) (sym has.points) (graph_below (resolve t) g has.is_graph)) j)
 
@@ -213,7 +214,7 @@ pub is_told : {V H : Type 0} (m : Abstraction V H) (shown : V → Invariant) (o 
     JudgesIf m (dropping m) o.fits g values flagged fitting
     behind → JudgesAccesses m (dropping m) g values behind inside last → states ≡ map shown values → AreShown m o.domain shown values
     → AllByRecursion (AllByRecursion IsSpelledPart) states → Laws m → AreCanonicallyShown o.domain m.dims shown values → r.options ≡ o → Lists t r → map state_of r.points ≡ states
-    → map told_of r.verdicts ≡ told_all verdicts fitting inside → r.flagged ≡ option_map suc last → IsToldOf m shown o constants t r
+    → map reported_of r.verdicts ≡ reported_all verdicts fitting inside → r.flagged ≡ option_map suc last → IsToldOf m shown o constants t r
 is_told m shown o constants t g sites values verdicts flagged fitting behind inside last states r has solved judging accessing are are_shown spelled laws
     lists_shown options lists same judged flag = record {
       names = has.names;
@@ -285,16 +286,17 @@ is_told m shown o constants t g sites values verdicts flagged fitting behind ins
         omega (arith, there, few, same)
 
 -- verdicts that are told as they were handed on
-pub told_so : (told : List Told) (vs us fs gs : List (ℕ × Bool)) (ones others : List (ℕ × List (Place × Bool))) → told ≡ told_all vs fs ones
-    → vs ≡ us → fs ≡ gs → ones ≡ others → told ≡ told_all us gs others
+pub told_so : (told : List ReportedVerdict) (vs us fs gs : List (ℕ × Bool)) (ones others : List (ℕ × List (Place × Bool))) → told ≡ reported_all vs fs ones
+    → vs ≡ us → fs ≡ gs → ones ≡ others → told ≡ reported_all us gs others
 told_so told vs us fs gs ones others is one two three =
-    is ∙ ap (λ (l : List (ℕ × Bool)). told_all l fs ones) one ∙ ap₂ (λ (l : List (ℕ × Bool)) (k : List (ℕ × List (Place × Bool))). told_all us l k) two three
+    is ∙ ap (λ (l : List (ℕ × Bool)). reported_all l fs ones) one
+    ∙ ap₂ (λ (l : List (ℕ × Bool)) (k : List (ℕ × List (Place × Bool))). reported_all us l k) two three
 
 -- it shows these values and tells these verdicts
 pub tells_solution : {V H : Type 0} (m : Abstraction V H) (shown : V → Invariant) (asked : Bool) (g : Node) (values : List V) (verdicts : List (ℕ × Bool))
     (flagged : Option ℕ) (fitting : List (ℕ × Bool)) (behind : Option ℕ) (inside : List (ℕ × List (Place × Bool))) (states : List Invariant) (r : Report)
     → JudgesIf m (dropping m) asked g values flagged fitting behind → states ≡ map shown values → map state_of r.points ≡ states
-    → map told_of r.verdicts ≡ told_all verdicts fitting inside → TellsSolution shown asked values verdicts r
+    → map reported_of r.verdicts ≡ reported_all verdicts fitting inside → TellsSolution shown asked values verdicts r
 tells_solution m shown asked g values verdicts flagged fitting behind inside states r judged are same told =
     record { states = same ∙ are; fitting = fitting; inside = inside; told = told; silent = λ off. none asked off judged }
   where

@@ -19,8 +19,8 @@ use Rattle.lra_operations.specs.CheckedOperations.{computing_ops, accessing_ops}
 use Rattle.lra_syntax.specs.Labels.{Labelled, labels_of}
 use Rattle.lra_options.specs.declared.options.Domain.{Domain}
 use Rattle.lra_options.specs.declared.options.Options.{Options}
-use Rattle.lra_report.specs.Report.{Invariant, Holds, PointReport, Verdict, Report, IsInvariant, IsRight, IsSound}
-use Rattle.lra_report.specs.Parts.{Tells}
+use Rattle.lra_report.specs.Report.{Invariant, InvariantHolds, PointReport, Verdict, Report, IsInvariant, IsRight, IsSound}
+use Rattle.lra_report.specs.Parts.{ShowsPart}
 use Rattle.lra_resolution_spec.specs.Refuse.{Accepts}
 use Rattle.lra_report.specs.declared.verdict_kinds.VerdictKind.{VerdictKind}
 use Rattle.lra_report.specs.declared.verdict_kinds.VerdictKind.TheVariants.{Assertion, Fit}
@@ -36,7 +36,7 @@ use Rattle.lra_flow.specs.Accesses.{OpInside}
 use Rattle.lra_domain.specs.Abstraction.{Abstraction}
 use Rattle.lra_domain.specs.Laws.{Laws}
 use Rattle.lra_flow.proofs.Caps.{solved_capped}
-use Rattle.lra_listing.specs.Given.{Told, told, told_accesses, told_all, told_of}
+use Rattle.lra_report_build.specs.AnalysisResults.{ReportedVerdict, reported_verdict, reported_accesses, reported_all, reported_of}
 use Rattle.lra_source.specs.Analysed.{IsAnalysed}
 use Rattle.lra_source.proofs.Numbering.{numbered}
 use Rattle.lra_iter.proofs.Counting.{iteration_fails_once}
@@ -93,7 +93,7 @@ module _ {V H : Type 0} (m : Abstraction V H) (laws : Laws m) (shown : V → Inv
       (subst (λ y. At (resolve t) y store) is at) in
       let (w, found', state) = value_of k p listed in
       let same : v ≡ w = same_Some v w (sym found ∙ found') in
-      subst (λ (y : Invariant). Holds y store) (sym (state ∙ ap shown (sym same))) ((x.are_shown v (contained x.values k v found)).holds store has)
+      subst (λ (y : Invariant). InvariantHolds y store) (sym (state ∙ ap shown (sym same))) ((x.are_shown v (contained x.values k v found)).holds store has)
 
   -- a verdict on an assertion
   asserted : (q : ℕ) (s : Site) (so : Bool) → slice_get (sites_of (resolve t)) q ≡ Some s → Contains x.verdicts (q, so) → IsTrue so → Fails (resolve t)
@@ -123,18 +123,18 @@ module _ {V H : Type 0} (m : Abstraction V H) (laws : Laws m) (shown : V → Inv
       x.accesses x.inside x.behind x.last x.accessed q s js n place site found inner strays
 
   -- each verdict is told of one that was found, of its kind, its number and which of its kind it is
-  told_there : (k : ℕ) (v : Verdict) → slice_get r.verdicts k ≡ Some v → Contains (told_all x.verdicts x.fitting x.inside) (told_of v)
-  told_there k v listed = subst (λ (ts : List Told). Contains ts (told_of v)) x.proved
-      (contained (map told_of r.verdicts) k (told_of v) (slice_get-map told_of r.verdicts k ∙ ap (option_map told_of) listed))
+  told_there : (k : ℕ) (v : Verdict) → slice_get r.verdicts k ≡ Some v → Contains (reported_all x.verdicts x.fitting x.inside) (reported_of v)
+  told_there k v listed = subst (λ (ts : List ReportedVerdict). Contains ts (reported_of v)) x.proved
+      (contained (map reported_of r.verdicts) k (reported_of v) (slice_get-map reported_of r.verdicts k ∙ ap (option_map reported_of) listed))
 
   less : (p q : ℕ) → suc q ≡ suc p → p ≡ q
   less p q e = omega (arith, e)
 
   right_beside : (kind : VerdictKind) (q : ℕ) (s : Site) (n : ℕ) (so : Bool) → slice_get (sites_of (resolve t)) q ≡ Some s
-      → Contains (map (told Fit) x.fitting ++ flat_map told_accesses x.inside) (kind, suc q, n, so) → IsTrue so
+      → Contains (map (reported_verdict Fit) x.fitting ++ flat_map reported_accesses x.inside) (kind, suc q, n, so) → IsTrue so
       → Breaks kind (resolve t) (point_of s) n → ⊥
   right_beside kind q s n so site told_so holds breaks =
-      elim (Contains-append_cases (map (told Fit) x.fitting) (flat_map told_accesses x.inside) (kind, suc q, n, so) told_so) [
+      elim (Contains-append_cases (map (reported_verdict Fit) x.fitting) (flat_map reported_accesses x.inside) (kind, suc q, n, so) told_so) [
         | inl a ↦
             let (p, own, here, found) = one_told Fit x.fitting kind (suc q) n so a in
             fitting q s so site (subst (λ (i : ℕ). Contains x.fitting (i, so)) (less p q here) found) holds
@@ -147,10 +147,10 @@ module _ {V H : Type 0} (m : Abstraction V H) (laws : Laws m) (shown : V → Inv
       ]
 
   right_of : (kind : VerdictKind) (q : ℕ) (s : Site) (n : ℕ) (so : Bool) → slice_get (sites_of (resolve t)) q ≡ Some s
-      → Contains (told_all x.verdicts x.fitting x.inside) (kind, suc q, n, so) → IsTrue so
+      → Contains (reported_all x.verdicts x.fitting x.inside) (kind, suc q, n, so) → IsTrue so
       → Breaks kind (resolve t) (point_of s) n → ⊥
   right_of kind q s n so site told_so holds breaks =
-      elim (Contains-append_cases (map (told Assertion) x.verdicts) (map (told Fit) x.fitting ++ flat_map told_accesses x.inside)
+      elim (Contains-append_cases (map (reported_verdict Assertion) x.verdicts) (map (reported_verdict Fit) x.fitting ++ flat_map reported_accesses x.inside)
       (kind, suc q, n, so) told_so) [
         | inl a ↦
             let (p, own, here, found) = one_told Assertion x.verdicts kind (suc q) n so a in
@@ -192,7 +192,7 @@ module _ {V H : Type 0} (m : Abstraction V H) (laws : Laws m) (shown : V → Inv
   right k s v there listed on holds breaks =
       let (q, number, site) = subject_site k s there in
       right_of v.kind q s.site v.which v.holds site
-      (subst (λ (n : ℕ). Contains (told_all x.verdicts x.fitting x.inside) (v.kind, n, v.which, v.holds)) (on.number ∙ number)
+      (subst (λ (n : ℕ). Contains (reported_all x.verdicts x.fitting x.inside) (v.kind, n, v.which, v.holds)) (on.number ∙ number)
       (told_there k v listed)) holds
       (subst (λ z. Breaks v.kind (resolve t) z v.which) on.point breaks)
 
@@ -256,8 +256,8 @@ module _ {V H : Type 0} (m : Abstraction V H) (laws : Laws m) (shown : V → Inv
       let named : m.dims v ≡ length p.names = dims ∙ sym (ap length names ∙ shown_as_many t k s there) in
       record {
         few = subst (λ (y : Invariant). length y ≤ o.parts) (sym state) few;
-        tell = subst (λ (y : Invariant). AllByRecursion (Tells o.domain (length p.names)) y) (sym state)
-            (subst (λ (d : Domain). AllByRecursion (Tells d (length p.names)) (shown v)) (sym same) (subst (λ (n : ℕ). AllByRecursion (Tells settings.domain n) (shown v)) named one.tell));
+        tell = subst (λ (y : Invariant). AllByRecursion (ShowsPart o.domain (length p.names)) y) (sym state)
+            (subst (λ (d : Domain). AllByRecursion (ShowsPart d (length p.names)) (shown v)) (sym same) (subst (λ (n : ℕ). AllByRecursion (ShowsPart settings.domain n) (shown v)) named one.tell));
       }
 
   pub is_report : (o : Options) (source : List ℕ) → o.domain ≡ settings.domain → 1 ≤ settings.parts → settings.parts ≤ o.parts → r.options ≡ o → Accepts Spells source t → IsReportOf Spells o source r

@@ -16,8 +16,8 @@ use Rattle.lra_flow.specs.Analysis.{Written, Derivation, Strains, Solves}
 use Rattle.lra_flow.specs.Operations.{defined, dropping, straining}
 use Rattle.lra_flow.specs.Fits.{JudgesIf}
 use Rattle.lra_flow.specs.Accesses.{JudgesAccesses}
-use Rattle.lra_listing.specs.Given.{told_all, told_of}
-use Rattle.lra_states.specs.Shown.{AreShown}
+use Rattle.lra_report_build.specs.AnalysisResults.{reported_all, reported_of}
+use Rattle.lra_report_states.specs.Shown.{AreShown}
 
 -- `shown` is what the domain shows of a value; the program has these constants
 pub record IsAnalysed {V H : Type 0} (m : Abstraction V H) (shown : V → Invariant) (settings : Options)
@@ -61,5 +61,5 @@ pub record IsAnalysed {V H : Type 0} (m : Abstraction V H) (shown : V → Invari
   pub accessed_written : last ≡ None → JudgesAccesses m (defined m) tree values None inside None
   pub accessed_strained : (q : ℕ) → behind ≡ None → last ≡ Some q →
       JudgesAccesses m (straining m) tree values None inside (Some q)
-  pub proved : map told_of r.verdicts ≡ told_all verdicts fitting inside
+  pub proved : map reported_of r.verdicts ≡ reported_all verdicts fitting inside
   pub flag : r.flagged ≡ option_map suc last

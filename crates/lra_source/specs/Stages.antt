@@ -10,7 +10,7 @@ use Rattle.lra_operations.specs.Agree.{Agrees}
 use Rattle.lra_options.specs.declared.options.Options.{Options}
 use Rattle.lra_report.specs.Report.{Invariant, PointReport, Report}
 use Rattle.lra_report.specs.Listing.{Lists}
-use Rattle.lra_listing.specs.Given.{told_all, told_of}
+use Rattle.lra_report_build.specs.AnalysisResults.{reported_all, reported_of}
 use Rattle.lra_resolution_spec.specs.Refuse.{limit_fault}
 use Rattle.lra_syntax.specs.Reach.{NotRecursive}
 use Rattle.lra_report.specs.Spelled.{IsReadable}
@@ -39,5 +39,5 @@ pub record TellsSolution {V : Type 0} (shown : V → Invariant) (fits : Bool) (v
   pub states : map (λ (p : PointReport). p.state) r.points ≡ map shown values
   pub fitting : List (ℕ × Bool)
   pub inside : List (ℕ × List (Place × Bool))
-  pub told : map told_of r.verdicts ≡ told_all verdicts fitting inside
+  pub told : map reported_of r.verdicts ≡ reported_all verdicts fitting inside
   pub silent : fits ≡ false → fitting ≡ []

@@ -14,7 +14,7 @@ ghost use Rattle.lra_flow.specs.Fits.{JudgesIf};
 ghost use Rattle.lra_flow.specs.Accesses.{JudgesAccesses};
 ghost use Rattle.lra_fits.specs.Judged.{AreBelow};
 ghost use Rattle.lra_iter.specs.Solved.{IsSolved};
-ghost use Rattle.lra_listing.specs.Views.{told_view};
+ghost use Rattle.lra_report_build.specs.Views.{reported_view};
 ghost use Rattle.lra_report.specs.View.{report_of};
 ghost use Rattle.lra_front_end.specs.Stages.{HasInlinedTree};
 ghost use Rattle.lra_source.specs.Stages.{IsToldOf, TellsSolution};
@@ -24,11 +24,11 @@ use lra_fits::{Fitting, judge};
 use lra_front_end::AcceptedSource;
 use lra_inside::{Inside, judge_accesses};
 use lra_iter::{Plan, Solution, analyse};
-use lra_listing::{Found, Outline, list};
 use lra_operations::Node;
 use lra_options::Options;
 use lra_report::Report;
-use lra_states::{Show, states_of};
+use lra_report_build::{Findings, Outline, list};
+use lra_report_states::{Show, states_of};
 use std::alloc::{AllocError, Global};
 
 /// Which operations of a tree fit, where it is asked for; else nothing is told, and nothing done.
@@ -80,7 +80,7 @@ fn judge_solution<D: AbstractDomain>(
         j.fitting.verdicts.items j.fitting.flagged) }
     ensures accesses { IfOk result (λ j. JudgesAccesses D.abstraction (dropping D.abstraction)
         (node_view tree.now) solution.now.values.items j.fitting.flagged
-        (map told_view j.inside.verdicts.items) j.inside.flagged) }
+        (map reported_view j.inside.verdicts.items) j.inside.flagged) }
 {
     let fitting = judge_if(alloc, asked, tree, &solution.values, solution.flagged)?;
     let inside = judge_accesses(alloc, tree, &solution.values, fitting.flagged)?;
@@ -137,7 +137,7 @@ pub fn report_solution<D: Show>(
         labels: &front.resolution.labels,
         sites,
     };
-    let found = Found {
+    let found = Findings {
         assertions: &solution.verdicts,
         fitting: &judged.fitting.verdicts,
         inside: &judged.inside.verdicts,

@@ -11,14 +11,14 @@ use Rattle.lra_syntax.specs.Trees.{FileTree}
 use Rattle.lra_resolution_spec.specs.Resolve.{resolve}
 use Rattle.lra_program.specs.Program.{Program}
 use Rattle.lra_program.specs.Sites.{Site, sites_of}
-use Rattle.lra_show.specs.Part.{Part}
+use Rattle.lra_row_text.specs.Part.{Part}
 use Rattle.lra_report.specs.Report.{Invariant}
 use Rattle.lra_operations.specs.Agree.{IsInlinedTree}
 use Rattle.lra_operations.specs.Tree.{Node}
 use Rattle.lra_operations.specs.declared.tree.Site as code_site
 use Rattle.lra_operations.specs.TreeViews.{site_view}
 use Rattle.lra_report.specs.Listing.{HasWidth}
-use Rattle.lra_listing.specs.Given.{IsAssertion, AreInvariants, AreVerdicts}
+use Rattle.lra_report_build.specs.AnalysisResults.{IsAssertion, AreInvariants, AreVerdicts}
 
 -- a place of a list with one element more is a place of the list, or the last
 at_more : {A : Type 0} (xs : List A) (x : A) (q : ℕ) (y : A) → slice_get (xs ++ x ∷ []) q ≡ Some y → (slice_get xs q ≡ Some y) ⊎ ((q ≡ length xs) × (x ≡ y))

@@ -14,7 +14,7 @@ use Rattle.lra_doings.proofs.Filtered.{asking_filtered}
 use Rattle.lra_array.specs.declared.listing.Access.{Access}
 use Rattle.lra_array.specs.Listed.{access_view}
 use Rattle.lra_report.specs.Listing.{accesses_at}
-use Rattle.lra_listing.specs.Given.{AreInside}
+use Rattle.lra_report_build.specs.AnalysisResults.{AreAccessVerdicts}
 use Rattle.lra_flow.proofs.OneTree.{one_tree}
 use Rattle.lra_linear_spec.proofs.Membership.{contains_none}
 use Rattle.lra_syntax.specs.Trees.{FileTree}
@@ -67,7 +67,7 @@ never_any [] e h = let wrong : false ≡ true = h in cc
 never_any (x ∷ xs) e h = cc
 
 -- and nothing is told of accesses there
-pub none_inside : (g : Node) (sites : List Site) → ((q : ℕ) → accesses_at g q ≡ []) → AreInside g sites []
+pub none_inside : (g : Node) (sites : List Site) → ((q : ℕ) → accesses_at g q ≡ []) → AreAccessVerdicts g sites []
 none_inside g sites none = record {
   verdicts = record {
     of_these = λ q js h. absurd (contains_none (q, js) h);

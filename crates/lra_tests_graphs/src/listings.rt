@@ -10,17 +10,17 @@ ghost use Rattle.lra_operations.specs.Agree.{IsInlinedTree};
 ghost use Rattle.lra_operations.specs.Tree as graph;
 ghost use Rattle.lra_operations.specs.TreeViews.{node_view, site_view};
 ghost use Rattle.lra_report.specs.Listing.{HasWidth, accesses_at};
-ghost use Rattle.lra_listing.specs.Given.{AreInvariants, AreVerdicts};
+ghost use Rattle.lra_report_build.specs.AnalysisResults.{AreInvariants, AreVerdicts};
 
 use crate::sources::{program_of, tree_of};
 use lra_array::accesses;
 use lra_base::SourceError;
 use lra_doings::list_doings;
 use lra_inline::build;
-use lra_listing::{Found, Outline, list};
 use lra_operations::{Node, Site};
 use lra_options::{DEFAULT_OPTIONS, Domain, Options};
 use lra_report::{Part, Report, text};
+use lra_report_build::{Findings, Outline, list};
 use lra_resolution_spec::Labels;
 use lra_row::Row;
 use lra_syntax::TranslationUnit;
@@ -123,7 +123,7 @@ fn report_of(
         labels,
         sites,
     };
-    let found = Found {
+    let found = Findings {
         assertions: &verdicts,
         fitting: &[],
         inside: &[],

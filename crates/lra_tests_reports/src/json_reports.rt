@@ -1,11 +1,11 @@
 //! Reports as JSON.
 
 use lra_base::Place;
-use lra_json::{json_text, to_value};
 use lra_options::{DEFAULT_OPTIONS, Domain, Options};
 use lra_report::{Part, Point, PointReport, Report, Verdict, VerdictKind};
+use lra_report_json::{json_text, to_value};
 use lra_row::Row;
-use lra_show::Names;
+use lra_row_text::Names;
 use lra_systems::{ConKind, ConSys, GenKind, GenSys};
 use std::alloc::{AllocError, Global};
 

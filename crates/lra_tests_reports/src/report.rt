@@ -6,7 +6,7 @@ use lra_report::{
     CallPlace, Part, Point, PointReport, Report, Verdict, VerdictKind, names_at, path_text, text,
 };
 use lra_row::Row;
-use lra_show::Names;
+use lra_row_text::Names;
 use lra_systems::{ConKind, ConSys, GenKind, GenSys};
 use std::alloc::{AllocError, Global};
 

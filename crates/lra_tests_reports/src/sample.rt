@@ -3,8 +3,8 @@
 use lra_base::Place;
 use lra_options::DEFAULT_OPTIONS;
 use lra_report::{Point, PointReport, Report, Verdict, VerdictKind};
+use lra_row_text::Names;
 use lra_sample::{program, summary};
-use lra_show::Names;
 use std::alloc::{AllocError, Global};
 
 /// Seeds and sizes with the lines between the declarations and the assertion.

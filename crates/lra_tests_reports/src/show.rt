@@ -6,7 +6,7 @@ ghost use Rattle.lra_systems.specs.LinearSystems.{FitsKind};
 
 use lra_report::names_at;
 use lra_row::Row;
-use lra_show::{Names, generator_text, row_text, value_text};
+use lra_row_text::{Names, generator_text, row_text, value_text};
 use lra_systems::{ConKind, ConSys, GenKind};
 use std::alloc::{AllocError, Global};
 

@@ -11,9 +11,9 @@ use Rattle.lra_report.proofs.Every.{every_append}
 use Rattle.lra_report.specs.Report.{PointReport, Verdict}
 use Rattle.lra_report.specs.declared.verdict_kinds.VerdictKind.{VerdictKind}
 use Rattle.lra_report.specs.declared.verdict_kinds.VerdictKind.TheVariants.{Assertion, Fit}
-use Rattle.lra_listing.specs.Views.{told_view}
-use Rattle.lra_listing.specs.Given.{access_verdicts, accesses_told, site_at, verdict_at}
-use Rattle.lra_states.proofs.PolyhedronShown.{each_of}
+use Rattle.lra_report_build.specs.Views.{reported_view}
+use Rattle.lra_report_build.specs.AnalysisResults.{access_verdicts, access_verdicts_at, site_at, verdict_at}
+use Rattle.lra_report_states.proofs.PolyhedronShown.{each_of}
 use Rattle.lra_threaded.specs.Stages.{CanFollow}
 
 -- all that is so of the view of each is so of it
@@ -53,10 +53,11 @@ module _ (before n : ℕ) (few : before + n < 2 ^ 32) where
     accesses_follow q s m (j ∷ js) low = ((omega (arith, low, few), (_, refl)), accesses_follow q s (suc m) js low)
 
     pub told_follow : (vs : List (ℕ × List (Place × Bool))) → AllByRecursion (λ (v : ℕ × List (Place × Bool)). v.0 < n) vs
-        → AllByRecursion VerdictFollows (flat_map (accesses_told ls sites) vs)
+        → AllByRecursion VerdictFollows (flat_map (access_verdicts_at ls sites) vs)
     told_follow [] h = tt
     told_follow (v ∷ vs) h =
-        every_append VerdictFollows (accesses_told ls sites v) (flat_map (accesses_told ls sites) vs) (accesses_follow v.0 (site_at sites v.0) 0 v.1 h.0)
+        every_append VerdictFollows (access_verdicts_at ls sites v) (flat_map (access_verdicts_at ls sites) vs)
+        (accesses_follow v.0 (site_at sites v.0) 0 v.1 h.0)
         (told_follow vs h.1)
 
 -- what is so of each holds of its view
@@ -69,10 +70,10 @@ pub judged_follow : (before n : ℕ) (few : before + n < 2 ^ 32) (ls : List Labe
     (inside : List (ℕ × Vec (Place × Bool) Global)) → All (λ (v : ℕ × Bool). v.0 < n) asserted → All (λ (v : ℕ × Bool). v.0 < n) fitting
     → All (λ (v : ℕ × Vec (Place × Bool) Global). v.0 < n) inside
     → AllByRecursion (VerdictFollows before n few) (map (verdict_at ls sites Assertion) asserted ++ (map (verdict_at ls sites Fit) fitting ++
-    flat_map (accesses_told ls sites) (map told_view inside)))
+    flat_map (access_verdicts_at ls sites) (map reported_view inside)))
 judged_follow before n few ls sites asserted fitting inside a f i =
     every_append (VerdictFollows before n few) (map (verdict_at ls sites Assertion) asserted) _
     (verdicts_follow before n few ls sites Assertion asserted (each_of (λ (v : ℕ × Bool). v.0 < n) asserted a))
     (every_append (VerdictFollows before n few) (map (verdict_at ls sites Fit) fitting) _
     (verdicts_follow before n few ls sites Fit fitting (each_of (λ (v : ℕ × Bool). v.0 < n) fitting f))
-    (told_follow before n few ls sites (map told_view inside) (viewed_all (λ (v : ℕ × List (Place × Bool)). v.0 < n) told_view inside i)))
+    (told_follow before n few ls sites (map reported_view inside) (viewed_all (λ (v : ℕ × List (Place × Bool)). v.0 < n) reported_view inside i)))

@@ -18,10 +18,10 @@ use Rattle.lra_syntax.specs.Trees.{FileTree}
 use Rattle.lra_resolution_spec.specs.LiveNames.{globals_named}
 use Rattle.lra_operations.specs.declared.tree.InlinedProgram.{InlinedProgram}
 use Rattle.lra_iter.specs.Lives.{AreWide}
-use Rattle.lra_listing.specs.Given.{AreInvariants, accesses_told, state_of, verdict_at}
-use Rattle.lra_listing.specs.Views.{told_view}
-use Rattle.lra_listing.specs.declared.listing.Found.{Found}
-use Rattle.lra_states.specs.Shown.{AreShown, shown_state}
+use Rattle.lra_report_build.specs.AnalysisResults.{AreInvariants, access_verdicts_at, state_of, verdict_at}
+use Rattle.lra_report_build.specs.Views.{reported_view}
+use Rattle.lra_report_build.specs.declared.listing.Findings.{Findings}
+use Rattle.lra_report_states.specs.Shown.{AreShown, shown_state}
 use Rattle.lra_source.proofs.Handing.{image_of}
 use Rattle.lra_threads.specs.Found.{sites_in, values_of}
 use Rattle.lra_threads.specs.declared.found.ThreadFound.{ThreadFound}
@@ -131,14 +131,14 @@ module _ (t : FileTree) (graphs : List InlinedProgram) (are : AreGraphsOf t grap
     pub room : (before n : ℕ) → before ≡ sum_by points_in (take k graphs) → n ≡ points_in graph → before + n < 2 ^ 32
     room before n is many = let few = few_points t graphs are k graph there in omega (arith, is, many, few)
 
-    pub verdicts_alone : (ls : List Labelled) (sites : List Site) (found : Found) → ls ≡ labels_of t → sites ≡ sites_in graph
+    pub verdicts_alone : (ls : List Labelled) (sites : List Site) (found : Findings) → ls ≡ labels_of t → sites ≡ sites_in graph
         → map (verdict_at ls sites Assertion) found.assertions.now ++ (map (verdict_at ls sites Fit) found.fitting.now ++
-        flat_map (accesses_told ls sites) (map told_view found.inside.now)) ≡ judged_alone t k found
+        flat_map (access_verdicts_at ls sites) (map reported_view found.inside.now)) ≡ judged_alone t k found
     verdicts_alone ls sites found labelled same =
         ap (λ (l : List Labelled). map (verdict_at l sites Assertion) found.assertions.now ++ (map (verdict_at l sites Fit) found.fitting.now ++
-        flat_map (accesses_told l sites) (map told_view found.inside.now))) labelled
+        flat_map (access_verdicts_at l sites) (map reported_view found.inside.now))) labelled
         ∙ ap (λ (ss : List Site). map (verdict_at (labels_of t) ss Assertion) found.assertions.now ++ (map (verdict_at (labels_of t) ss Fit) found.fitting.now ++
-        flat_map (accesses_told (labels_of t) ss) (map told_view found.inside.now))) (same ∙ are.sites k graph there)
+        flat_map (access_verdicts_at (labels_of t) ss) (map reported_view found.inside.now))) (same ∙ are.sites k graph there)
 
 -- behind the points of the threads before
 pub turned : {A : Type 0} (t : FileTree) (graphs : List InlinedProgram) (are : AreGraphsOf t graphs) (k before thread : ℕ) (change : ℕ → ℕ → A → A) (xs ys old new : List A)

@@ -22,12 +22,12 @@ use Rattle.lra_program.specs.Sites.{Site, sites_of}
 use Rattle.lra_operations.specs.Agree.{IsInlinedTree, point_of}
 use Rattle.lra_operations.specs.Tree.{Node}
 use Rattle.lra_report.specs.Listing.{AreListed, listed_verdict}
-use Rattle.lra_report.specs.Report.{Holds, Invariant, PointReport, Verdict}
+use Rattle.lra_report.specs.Report.{InvariantHolds, Invariant, PointReport, Verdict}
 use Rattle.lra_report.specs.declared.verdict_kinds.VerdictKind.{VerdictKind}
 use Rattle.lra_report.specs.declared.verdict_kinds.VerdictKind.TheVariants.{Assertion, Access}
 use Rattle.lra_resolution_sound.proofs.Named.{globals_as_many}
-use Rattle.lra_listing.specs.Given.{access_verdicts, accesses_told, site_at, state_of, verdict_at}
-use Rattle.lra_states.specs.Shown.{shown_state}
+use Rattle.lra_report_build.specs.AnalysisResults.{access_verdicts, access_verdicts_at, site_at, state_of, verdict_at}
+use Rattle.lra_report_states.specs.Shown.{shown_state}
 use Rattle.lra_source.proofs.Handing.{contained, image_of}
 use Rattle.lra_interleavings.specs.Interleavings.{AtThread, FailsThread, ThreadWritesValue, OutOfBoundsThread}
 use Rattle.lra_rounds.specs.Rounds.{Settled}
@@ -98,17 +98,18 @@ module _ (t : FileTree) (end : Settled ThreadFound) (holds : HoldsBeside (shared
 
   -- the state that is shown of a thread alone
   alone_holds : (k q : ℕ) (s : Site) (found : ThreadFound) (v : BoxContent) (ps : List PointReport) (p : PointReport) (store : List ℤ)
-      → AreListedAlone t k found ps → slice_get (values_of found) q ≡ Some v → slice_get ps q ≡ Some p → box_abstraction.gamma v store → Holds p.state store
+      → AreListedAlone t k found ps → slice_get (values_of found) q ≡ Some v → slice_get ps q ≡ Some p → box_abstraction.gamma v store →
+      InvariantHolds p.state store
   alone_holds k q s found v ps p store alone value there has =
       let state : Some p.state ≡ Some (shown_state box_abstraction v) =
       sym (slice_get-map state_of ps q ∙ ap (option_map state_of) there) ∙ ap (λ (l : List Invariant). slice_get l q) alone.states
       ∙ slice_get-map (shown_state box_abstraction) (values_of found) q ∙ ap (option_map (shown_state box_abstraction)) value in
-      subst (λ (x : Invariant). Holds x store) (sym (same_Some p.state (shown_state box_abstraction v) state))
+      subst (λ (x : Invariant). InvariantHolds x store) (sym (same_Some p.state (shown_state box_abstraction v) state))
       ((alone.are_shown v (contained (values_of found) q v value)).holds store has)
 
   pub points_hold : (points : List PointReport) → length end.found ≡ length (thread_places t) → ShowsPoints t end.found points → (k q : ℕ) (s : Site) (x : PointReport)
       (store : List ℤ) → IsPointOf t k q s
-      → slice_get points (points_before t k + q) ≡ Some x → AtThread (shared_program t) (thread_functions t) k (point_of s) store → Holds x.state store
+      → slice_get points (points_before t k + q) ≡ Some x → AtThread (shared_program t) (thread_functions t) k (point_of s) store → InvariantHolds x.state store
   points_hold points many shows k q s x store is there at =
       let (found, is_found, v, value, has, dims) =
       holds.stores k q (function_or (slice_get (resolved_functions t) (thread_place t k))) s store (function_at k is.is_thread) is.is_point at in
@@ -124,7 +125,7 @@ module _ (t : FileTree) (end : Settled ThreadFound) (holds : HoldsBeside (shared
       ∙ ap (λ (n : ℕ). slice_get (one_by_one (points_told t) 0 shows.alone) n) (sym place)
       ∙ ap (λ (l : List PointReport). slice_get l (points_before t k + q)) (sym shows.all) ∙ there in
       let (p, here, same) = image_of (point_in_thread (points_before t k) (suc k)) ps q x told in
-      subst (λ (y : PointReport). Holds y.state store) same (alone_holds k q s found v ps p store alone value here has)
+      subst (λ (y : PointReport). InvariantHolds y.state store) same (alone_holds k q s found v ps p store alone value here has)
     where
       sizes : (i : ℕ) (y : List PointReport) → slice_get shows.alone i ≡ Some y → length (points_told t i y) ≡ length (thread_sites t i)
       sizes i y here =
@@ -257,7 +258,7 @@ module _ (delay narrow : ℕ) (source : List ℕ) (r : ThreadsReport) (x : IsThr
   accessed_right k q s v is accessed =
       let (j, found, there, told) = first_from (verdicts_told t accesses_alone) x.end.found v accessed in
       let (u, one, same) = map_from (verdict_in_thread (points_before t j) (suc j)) (accesses_alone t j found) v told in
-      let (w, among, part) = flat_from (accesses_told (labels_of t) (thread_sites t j)) (told_in found) u one in
+      let (w, among, part) = flat_from (access_verdicts_at (labels_of t) (thread_sites t j)) (told_in found) u one in
       let (n, i, here, so) = access_from (labels_of t) (suc w.0) (site_at (thread_sites t j) w.0) 0 w.1 u part in
       told_right j u v Access w.0 n i.1 k q s same (sym (ap (λ (y : Verdict). y.kind) so)) (sym (ap (λ (y : Verdict). y.number) so))
       (sym (ap (λ (y : Verdict). y.which) so) ∙ from_nought n) (sym (ap (λ (y : Verdict). y.holds) so))

@@ -15,8 +15,8 @@ use Rattle.lra_options.specs.declared.options.Domain.TheVariants.{Box}
 use Rattle.lra_report.specs.Listing.{AreListed}
 use Rattle.lra_report.specs.Report.{PointReport, Verdict}
 use Rattle.lra_report.specs.declared.verdict_kinds.VerdictKind.TheVariants.{Assertion}
-use Rattle.lra_listing.specs.Given.{accesses_told, state_of, verdict_at}
-use Rattle.lra_states.specs.Shown.{AreShown, shown_state}
+use Rattle.lra_report_build.specs.AnalysisResults.{access_verdicts_at, state_of, verdict_at}
+use Rattle.lra_report_states.specs.Shown.{AreShown, shown_state}
 use Rattle.lra_rounds.specs.Intervals.{Row, Table}
 use Rattle.lra_rounds.specs.Telling.{interval_at}
 use Rattle.lra_rounds.specs.Rounds.{Settled}
@@ -58,7 +58,7 @@ abbrev pub assertions_alone : FileTree → ℕ → ThreadFound → List Verdict
 assertions_alone t k found = map (verdict_at (labels_of t) (thread_sites t k) Assertion) (verdicts_of found)
 
 abbrev pub accesses_alone : FileTree → ℕ → ThreadFound → List Verdict
-accesses_alone t k found = flat_map (accesses_told (labels_of t) (thread_sites t k)) (told_in found)
+accesses_alone t k found = flat_map (access_verdicts_at (labels_of t) (thread_sites t k)) (told_in found)
 
 -- the k-th thread gives the global of this name values of this interval; none where no gift to it was found
 abbrev pub write_told : ℕ → List ℕ → Option Interval → List Writes

@@ -17,9 +17,9 @@ use Rattle.lra_report.specs.declared.verdict_kinds.VerdictKind.TheVariants.{Asse
 use Rattle.lra_front_end.specs.Stages.{HasConstants}
 use Rattle.lra_threads_front.specs.Stages.{IsThreadGraph}
 use Rattle.lra_threads_front.specs.declared.front.ThreadsFront.{ThreadsFront}
-use Rattle.lra_listing.specs.Given.{accesses_told, verdict_at}
-use Rattle.lra_listing.specs.Views.{told_view}
-use Rattle.lra_listing.specs.declared.listing.Found.{Found}
+use Rattle.lra_report_build.specs.AnalysisResults.{access_verdicts_at, verdict_at}
+use Rattle.lra_report_build.specs.Views.{reported_view}
+use Rattle.lra_report_build.specs.declared.listing.Findings.{Findings}
 use Rattle.lra_flow.specs.Opened.{opened}
 use Rattle.lra_iter.specs.Lives.{AreWide}
 use Rattle.lra_threads.specs.Found.{sites_in, values_of, verdicts_of}
@@ -68,17 +68,17 @@ pub record AreOfGraphs (graphs : List InlinedProgram) (found : List ThreadFound)
       slice_get found k ≡ Some one → IsOfGraph graph one
 
 -- verdicts on a thread, as it is listed alone, stand at its points
-pub record IsJudgedIn (graph : InlinedProgram) (found : Found) : Type 0 where
+pub record IsJudgedIn (graph : InlinedProgram) (found : Findings) : Type 0 where
   pub assertions : All (λ v. v.0 < points_in graph) found.assertions.now
   pub fitting : All (λ v. v.0 < points_in graph) found.fitting.now
   pub inside : All (λ v. v.0 < points_in graph) found.inside.now
 
 -- and these they are
-abbrev pub judged_alone : FileTree → ℕ → Found → List Verdict
+abbrev pub judged_alone : FileTree → ℕ → Findings → List Verdict
 judged_alone t k found =
     map (verdict_at (labels_of t) (thread_sites t k) Assertion) found.assertions.now ++
     (map (verdict_at (labels_of t) (thread_sites t k) Fit) found.fitting.now ++
-    flat_map (accesses_told (labels_of t) (thread_sites t k)) (map told_view found.inside.now))
+    flat_map (access_verdicts_at (labels_of t) (thread_sites t k)) (map reported_view found.inside.now))
 
 -- numbers ----------------------------------------------------------------------------------------------------------
 

@@ -16,7 +16,7 @@ use Rattle.lra_operations.specs.Tree.{Node}
 use Rattle.lra_options.specs.declared.options.Domain.TheVariants.{Box}
 use Rattle.lra_options.specs.declared.options.Options.{Options}
 use Rattle.lra_options.specs.OptionRows.{default_options}
-use Rattle.lra_report.specs.Report.{PointReport, Verdict, Holds}
+use Rattle.lra_report.specs.Report.{PointReport, Verdict, InvariantHolds}
 use Rattle.lra_report.specs.declared.verdict_kinds.VerdictKind.{VerdictKind}
 use Rattle.lra_report.specs.declared.verdict_kinds.VerdictKind.TheVariants.{Assertion, Fit, Access}
 use Rattle.lra_front_end.specs.Stages.{HasConstants}
@@ -100,7 +100,7 @@ pub record IsTold (t : FileTree) (r : ThreadsReport) (k x : ℕ) (z : ℤ) : Typ
 pub record HoldsInInterleavings (t : FileTree) (r : ThreadsReport) : Type 0 where
   pub states : (k q : ℕ) (s : Site) (x : PointReport) (store : List ℤ) → IsPointOf t k q s →
       slice_get r.points (points_before t k + q) ≡ Some x →
-      AtThread (shared_program t) (thread_functions t) k (point_of s) store → Holds x.state store
+      AtThread (shared_program t) (thread_functions t) k (point_of s) store → InvariantHolds x.state store
   pub verdicts : (k q : ℕ) (s : Site) (v : Verdict) → IsPointOf t k q s → Contains r.verdicts v →
       v.number ≡ number_in t k q → IsTrue v.holds →
       BreaksThread v.kind (shared_program t) (thread_functions t) k (point_of s) v.which → ⊥

@@ -10,8 +10,8 @@ ghost use Rattle.lra_resolution_spec.specs.Refuse.{greatest_points};
 ghost use Rattle.lra_report.specs.Report as report;
 ghost use Rattle.lra_report.specs.View.{point_report_of, verdict_of};
 ghost use Rattle.lra_report.specs.declared.verdict_kinds.VerdictKind.TheVariants.{Assertion, Fit};
-ghost use Rattle.lra_listing.specs.Given.{accesses_told, verdict_at};
-ghost use Rattle.lra_listing.specs.Views.{told_view};
+ghost use Rattle.lra_report_build.specs.AnalysisResults.{access_verdicts_at, verdict_at};
+ghost use Rattle.lra_report_build.specs.Views.{reported_view};
 ghost use Rattle.lra_rounds.specs.Found.{settled_view};
 ghost use Rattle.lra_rounds.specs.Telling.{interval_at};
 ghost use Rattle.lra_threaded.specs.Listed.{accesses_alone, all_verdicts, all_writes, assertions_alone};
@@ -25,13 +25,13 @@ ghost use Rattle.lra_threaded.specs.Stages.{IsJudgedIn, IsOfGraph, judged_alone,
 
 use crate::text::{ThreadsReport, Writes};
 use lra_box::Interval;
-use lra_listing::{Found, list_points, list_verdicts, names_of_globals, number_of};
 use lra_operations::InlinedProgram;
 use lra_report::{PointReport, Verdict};
+use lra_report_build::{Findings, list_points, list_verdicts, names_of_globals, number_of};
+use lra_report_states::states_of;
 use lra_resolution_spec::Labels;
 use lra_rounds::{Intervals, SettledRound};
-use lra_show::Names;
-use lra_states::states_of;
+use lra_row_text::Names;
 use lra_syntax::TranslationUnit;
 use lra_threads::ThreadFound;
 use std::alloc::{AllocError, Global};
@@ -224,7 +224,7 @@ fn push_judged(
     alloc: Global,
     outline: &Outline<'_>,
     k: usize,
-    judged: &Found<'_>,
+    judged: &Findings<'_>,
     listed: &mut Vec<Verdict>,
 ) -> Result<(), AllocError>
     requires graphs { AreGraphsOf (tree_view outline.now.tree.now) outline.now.graphs.now }
@@ -256,7 +256,7 @@ fn push_assertions(
         found.now) }
 {
     'threads: for (k, one) in found.iter().enumerate() {
-        let judged = Found {
+        let judged = Findings {
             assertions: &one.noted.solution.verdicts,
             fitting: &[],
             inside: &[],
@@ -282,7 +282,7 @@ fn push_accesses(
         found.now) }
 {
     'threads: for (k, one) in found.iter().enumerate() {
-        let judged = Found {
+        let judged = Findings {
             assertions: &[],
             fitting: &[],
             inside: &one.inside.verdicts,

@@ -13,11 +13,11 @@ use Rattle.lra_flow.specs.Analysis.{Solves}
 use Rattle.lra_flow.specs.Operations.{dropping}
 use Rattle.lra_flow.specs.Fits.{Judges, JudgesIf}
 use Rattle.lra_operations.specs.Tree.{Node}
-use Rattle.lra_listing.specs.Given.{told_all, told_of}
+use Rattle.lra_report_build.specs.AnalysisResults.{reported_all, reported_of}
 use Rattle.lra_source.proofs.OneReport.{unflagged_behind, unflagged_first}
 use Rattle.lra_resolution_spec.specs.Resolve.{resolve}
-use Rattle.lra_report.specs.Report.{Invariant, Holds, PointReport, Report, IsInvariant}
-use Rattle.lra_report.specs.Parts.{Tells}
+use Rattle.lra_report.specs.Report.{Invariant, InvariantHolds, PointReport, Report, IsInvariant}
+use Rattle.lra_report.specs.Parts.{ShowsPart}
 use Rattle.lra_report.specs.Listing.{AreParts}
 use Rattle.lra_retraced.proofs.Showing.{same_parts}
 use Rattle.lra_retraced.proofs.Strained.{unflagged}
@@ -41,7 +41,7 @@ use Rattle.lra_answers.specs.declared.status.Status.TheVariants.{Refused}
 -- invariants ----------------------------------------------------------------------
 
 never_reached : (P : Program) (p : PointReport) → IsInvariant P p → IsNeverReached P p
-never_reached P p holds none store at = let h : Holds [] store = subst (λ (state : Invariant). Holds state store) none (holds store at) in h
+never_reached P p holds none store at = let h : InvariantHolds [] store = subst (λ (state : Invariant). InvariantHolds state store) none (holds store at) in h
 
 all_unreached : (P : Program) (ps : List PointReport) → AllByRecursion (IsInvariant P) ps → AllByRecursion (IsNeverReached P) ps
 all_unreached P [] h = tt
@@ -149,13 +149,13 @@ tells_fitting m shown o constants P r asked x = record {
 }
 
 abbrev Silent : Report → Type 0
-Silent r = (verdicts : List (ℕ × Bool)) × (inside : List (ℕ × List (Place × Bool))) × (map told_of r.verdicts ≡ told_all verdicts [] inside)
+Silent r = (verdicts : List (ℕ × Bool)) × (inside : List (ℕ × List (Place × Bool))) × (map reported_of r.verdicts ≡ reported_all verdicts [] inside)
 
 silent_so : {V H : Type 0} (m : Abstraction V H) (shown : V → Invariant) (o : Options) (constants : List ℤ) (P : Program) (r : Report) → o.fits ≡ false
     → IsAnalysed m shown o constants P r → Silent r
 silent_so m shown o constants P r never x =
     let none = judges_none m o.fits x.tree x.values x.flagged x.fitting x.behind never x.judged in
-    (x.verdicts, x.inside, x.proved ∙ ap (λ (f : List (ℕ × Bool)). told_all x.verdicts f x.inside) none)
+    (x.verdicts, x.inside, x.proved ∙ ap (λ (f : List (ℕ × Bool)). reported_all x.verdicts f x.inside) none)
 
 pub tells_fits : (o : Options) (bytes : List ℕ) (r : Report) → IsAnswered o bytes r → TellsFits o bytes r
 tells_fits o bytes r a = record {
@@ -176,7 +176,7 @@ tells_fits o bytes r a = record {
 same_at : (o : Options) (ps : List PointReport) → o.domain ≡ Poly → AllByRecursion (AreParts o) ps → AllByRecursion ShowsSamePoints ps
 same_at o [] is h = tt
 same_at o (p ∷ ps) is h = (
-  same_parts (length p.names) p.state (subst (λ (d : Domain). AllByRecursion (Tells d (length p.names)) p.state) is h.0.tell),
+  same_parts (length p.names) p.state (subst (λ (d : Domain). AllByRecursion (ShowsPart d (length p.names)) p.state) is h.0.tell),
   same_at o ps is h.1,
 )
 

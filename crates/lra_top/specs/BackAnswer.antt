@@ -2,7 +2,7 @@
 -- from which that may fail, or its refusal. Assertions are asked for by the number of their point, from 1.
 use Rattle.std.specs.Prelude.{◌≡◌, ◌⊎◌, ℕ, suc, List, ◌++◌, codes, Bool, true, false}
 use Rattle.std.specs.Fmt.{decimal}
-use Rattle.lra_show.specs.Texts.{text_line}
+use Rattle.lra_row_text.specs.Texts.{text_line}
 use Rattle.lra_report.specs.BackText.{BackReport, back_text}
 use Rattle.lra_report.specs.RefusalText.{refusal_text}
 use Rattle.lra_retraced.specs.declared.refusals.BackRefusal.{BackRefusal}

@@ -1,7 +1,7 @@
 -- What an input deserves that is to be a certificate.
 use Rattle.std.specs.Prelude.{◌≡◌, ◌≤◌, ◌⊎◌, ℕ, List, ◌∷◌, ◌++◌, length, codes}
 use Rattle.std.specs.Fmt.{decimal}
-use Rattle.lra_show.specs.Texts.{text_line}
+use Rattle.lra_row_text.specs.Texts.{text_line}
 use Rattle.lra_report.specs.RefusalText.{refusal_text}
 use Rattle.lra_certificate.specs.Judged.{fault_name}
 use Rattle.lra_certificate.specs.Claims.{VerifyAnswer, verified, source_refused, paths_refused, line_refused, Deserves}

@@ -1,7 +1,7 @@
 -- What a source deserves that is to be certified: its certificate, or its refusal.
 use Rattle.std.specs.Prelude.{◌≡◌, ◌⊎◌, ℕ, suc, List, ◌++◌, codes}
 use Rattle.std.specs.Fmt.{decimal}
-use Rattle.lra_show.specs.Texts.{text_line}
+use Rattle.lra_row_text.specs.Texts.{text_line}
 use Rattle.lra_report.specs.Report.{Report}
 use Rattle.lra_report.specs.RefusalText.{refusal_text}
 use Rattle.lra_front_end.specs.Claims.{HasRefusal}

@@ -30,7 +30,7 @@ use Rattle.lra_report.specs.Parts.{HasSamePoints}
 use Rattle.lra_report.specs.ReportText.{unknown_count}
 use Rattle.lra_report.specs.BackText.{BackReport, back_text}
 use Rattle.lra_report.specs.Listing.{Lists}
-use Rattle.lra_listing.specs.Given.{told_all, told_of}
+use Rattle.lra_report_build.specs.AnalysisResults.{reported_all, reported_of}
 use Rattle.lra_sample.specs.Sample.{sample_source}
 use Rattle.lra_sample.specs.Summary.{summary_text}
 use Rattle.lra_source.specs.Answers.{Over, IsAnswered}
@@ -40,7 +40,7 @@ use Rattle.lra_certified.specs.Settings.{certify_options}
 use Rattle.lra_certified.specs.Assertions.{unknown_assertions}
 use Rattle.lra_certified.specs.Certified.{IsCertificateOf, IsCertificateWith}
 use Rattle.lra_retraced.specs.Retraced.{HoldsWhereRunsFail, IsBackOf, IsDefinedBack, IsProvedAtFirst, StrainsAt}
-use Rattle.lra_states.specs.Shown.{AreShown}
+use Rattle.lra_report_states.specs.Shown.{AreShown}
 use Rattle.lra_threaded.specs.ThreadsText.{ThreadsReport, threads_text}
 use Rattle.lra_threaded.specs.Threaded.{AreDefinedThreads, HoldsInInterleavings, IsThreadsOf, StrainsAtNumber}
 use Rattle.lra_threaded.specs.Threaded.{shared_program, threads_plan}
@@ -98,7 +98,7 @@ pub record TellsWritten {V H : Type 0} (m : Abstraction V H) (shown : V → Inva
   pub judged : JudgesIf m (defined m) o.fits tree values None fitting None
   pub inside : List (ℕ × List (Place × Bool))
   pub accessed : JudgesAccesses m (defined m) tree values None inside None
-  pub proved : map told_of r.verdicts ≡ told_all verdicts fitting inside
+  pub proved : map reported_of r.verdicts ≡ reported_all verdicts fitting inside
 
 -- where nothing is flagged, every value is the written iteration's, by the source's own constants
 pub record IsWrittenUnlessFlagged (o : Options) (bytes : List ℕ) (r : Report) : Type 0 where
@@ -124,7 +124,7 @@ pub record TellsAccessing {V H : Type 0} (m : Abstraction V H) (shown : V → In
   pub inside : List (ℕ × List (Place × Bool))
   pub last : Option ℕ
   pub accessed : JudgesAccesses m (dropping m) tree values behind inside last
-  pub told : map told_of r.verdicts ≡ told_all verdicts fitting inside
+  pub told : map reported_of r.verdicts ≡ reported_all verdicts fitting inside
   pub flag : r.flagged ≡ option_map suc last
 
 -- and no run evaluates an access outside its array that is told to be in bounds
@@ -149,7 +149,7 @@ pub record TellsFits (o : Options) (bytes : List ℕ) (r : Report) : Type 0 wher
   pub right : AllByRecursion (IsRight (resolve tree)) r.verdicts
   pub tells : IsTrue o.fits → Over o (λ V H m shown. TellsFitting m shown o (resolve tree) r)
   pub silent : o.fits ≡ false → (verdicts : List (ℕ × Bool)) × (inside : List (ℕ × List (Place × Bool))) ×
-      (map told_of r.verdicts ≡ told_all verdicts [] inside)
+      (map reported_of r.verdicts ≡ reported_all verdicts [] inside)
 
 abbrev pub ShowsSamePoints : PointReport → Type 0
 ShowsSamePoints p = AllByRecursion (HasSamePoints (length p.names)) p.state

@@ -3,7 +3,7 @@ use Rattle.std.specs.Prelude.{◌≡◌, ◌≢◌, ◌≤◌, ◌<◌, ◌⊎�
 use Rattle.std.specs.Io.KnownBytes.{Appends, Consumes, IsAtEnd}
 use Rattle.lra_io.specs.Causes.{AppendsPart, Rose}
 use Rattle.lra_io.specs.ReadErrors.{LosesPrefix}
-use Rattle.lra_show.specs.Texts.{text_line}
+use Rattle.lra_row_text.specs.Texts.{text_line}
 use Rattle.lra_words.specs.Chosen.{Asks, AsksFor, AsksNone}
 use Rattle.lra_words.specs.declared.chosen.Command.{Command}
 use Rattle.lra_top.specs.Commands.{DeservesInput}

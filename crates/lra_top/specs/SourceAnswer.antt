@@ -3,7 +3,7 @@ use Rattle.std.specs.Prelude.{◌≡◌, ℕ, zero, suc, List}
 use Rattle.lra_options.specs.declared.options.Options.{Options}
 use Rattle.lra_report.specs.Report.{Report}
 use Rattle.lra_report.specs.ReportText.{report_text, unknown_count}
-use Rattle.lra_json.specs.ReportJson.{report_json}
+use Rattle.lra_report_json.specs.ReportJson.{report_json}
 use Rattle.lra_source.specs.Answers.{IsAnswered}
 use Rattle.lra_words.specs.declared.chosen.Format.{Format}
 use Rattle.lra_words.specs.declared.chosen.Format.TheVariants.{Lines, Json}

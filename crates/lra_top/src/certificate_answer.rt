@@ -1,7 +1,7 @@
 // What an input deserves that is to be a certificate.
 ghost use Rattle.std.specs.Prelude.{◌≡◌, ◌++◌, codes, IfOk, OnOk, string_bytes};
 ghost use Rattle.std.specs.Fmt.{decimal};
-ghost use Rattle.lra_show.specs.Texts.{text_line};
+ghost use Rattle.lra_row_text.specs.Texts.{text_line};
 ghost use Rattle.lra_verify.specs.RefusalViews.{refusal_view};
 ghost use Rattle.lra_top.specs.CertificateAnswer.{DeservesCertificate, answer_text, verified_text};
 

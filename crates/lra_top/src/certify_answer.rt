@@ -1,7 +1,7 @@
 // What a source deserves that is to be certified.
 ghost use Rattle.std.specs.Prelude.{◌≡◌, ◌<◌, ◌+◌, ◌++◌, ◌^◌, suc, codes, length, IfOk, OnOk, string_bytes};
 ghost use Rattle.std.specs.Fmt.{decimal};
-ghost use Rattle.lra_show.specs.Texts.{text_line};
+ghost use Rattle.lra_row_text.specs.Texts.{text_line};
 ghost use Rattle.lra_certified.specs.Certified.{IsCounted};
 ghost use Rattle.lra_top.specs.CertifyAnswer.{DeservesCertified, refused_text};
 

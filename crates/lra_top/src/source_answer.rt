@@ -6,9 +6,9 @@ ghost use Rattle.lra_top.specs.SourceAnswer.{DeservesSource, report_status, writ
 
 use lra_answers::{Answer, Status, answer_refusal};
 use lra_base::SourceError;
-use lra_json::json_text;
 use lra_options::Options;
 use lra_report::{Report, text};
+use lra_report_json::json_text;
 use lra_source::analyse_source;
 use lra_words::Format;
 use std::alloc::{AllocError, Global};

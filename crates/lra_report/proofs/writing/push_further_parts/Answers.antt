@@ -1,6 +1,6 @@
 -- Goals of `push_further_parts`: appends the lines of the parts behind the first.
 use Rattle.std.proofs.Common.{arith}
-use Rattle.lra_show.proofs.Lists.{drop_front}
+use Rattle.lra_row_text.proofs.Lists.{drop_front}
 use Rattle.lra_report.proofs.Lists.{part_step, parts_end}
 use Rattle.lra_report.proofs.writing.push_further_parts.Goals as goal
 

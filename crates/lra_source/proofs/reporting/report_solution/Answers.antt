@@ -5,7 +5,7 @@ use Rattle.lra_syntax.specs.Views.{tree_view}
 use Rattle.lra_operations.specs.TreeViews.{node_view, site_view}
 use Rattle.lra_flow.specs.Plan.{plan_of}
 use Rattle.lra_report.specs.View.{report_of}
-use Rattle.lra_listing.specs.Views.{told_view}
+use Rattle.lra_report_build.specs.Views.{reported_view}
 use Rattle.lra_source.proofs.ReportSteps.{few_points, tells_solution}
 use Rattle.lra_source.proofs.ReportSteps.{canonical_there, shown_there, states_handed, verdicts_handed, few_dims}
 use Rattle.lra_source.proofs.ReportSteps.{accessed_handed, asked_handed, fitting_handed, inside_handed, last_handed, is_told, told_so}
@@ -82,7 +82,7 @@ list-requires-clause-inside g c = λ h also.
     (plan_of c.args.options c.args.front.now.constants.items) c.args.solution.now.values.items c.args.solution.now.verdicts.items
     c.args.solution.now.flagged
     c.requires.solved
-    (map told_view c.in_ok-judged.judged.inside.verdicts.items) c.in_ok-judged.judged.fitting.flagged c.in_ok-judged.judged.inside.flagged
+    (map reported_view c.in_ok-judged.judged.inside.verdicts.items) c.in_ok-judged.judged.fitting.flagged c.in_ok-judged.judged.inside.flagged
     c.in_ok-judged.ensures.accesses h also)
 
 pub list-requires-clause-flag : goal.list-requires-clause-flag
@@ -91,7 +91,7 @@ list-requires-clause-flag g c = λ q is.
     (map site_view c.args.front.now.graph.sites.items) c.requires.graph
     (plan_of c.args.options c.args.front.now.constants.items) c.args.solution.now.values.items c.args.solution.now.verdicts.items c.args.solution.now.flagged
     c.requires.solved
-    c.args.options.fits c.in_ok-judged.judged.fitting.verdicts.items (map told_view c.in_ok-judged.judged.inside.verdicts.items)
+    c.args.options.fits c.in_ok-judged.judged.fitting.verdicts.items (map reported_view c.in_ok-judged.judged.inside.verdicts.items)
     c.in_ok-judged.judged.fitting.flagged c.in_ok-judged.judged.inside.flagged c.in_ok-judged.ensures.fits c.in_ok-judged.ensures.accesses q is in
     let points = ap length c.requires.graph.points in
     let same = length-map c.args.front.now.graph.sites.items site_view in
@@ -107,7 +107,7 @@ returns-clause-told g c =
     in
     is_told g.D.Domain.abstraction g.D.Show.shown o c.args.front.now.constants.items (tree_view c.args.front.now.tree) (node_view c.args.front.now.graph.tree) (map site_view c.args.front.now.graph.sites.items)
     values c.args.solution.now.verdicts.items c.args.solution.now.flagged judged.fitting.verdicts.items judged.fitting.flagged
-    (map told_view judged.inside.verdicts.items) judged.inside.flagged
+    (map reported_view judged.inside.verdicts.items) judged.inside.flagged
     (map (λ x. x.items) c.in_ok-states.states.items) (report_of c.in_ok-report.report) c.requires.graph
     c.requires.solved
     c.in_ok-judged.ensures.fits c.in_ok-judged.ensures.accesses shown
@@ -116,14 +116,14 @@ returns-clause-told g c =
     (canonical_there g.D.Domain.abstraction.dims g.D.Show.shown o.domain g.D.Show.named values _ c.requires.named c.deref.ensures.value
     c.in_ok-states.ensures.canonical)
     c.in_ok-report.ensures.options c.in_ok-report.ensures.lists c.in_ok-report.ensures.states
-    (told_so _ _ _ _ _ _ _ c.in_ok-report.ensures.verdicts c.deref-2.ensures.value c.deref-3.ensures.value (ap (map told_view) c.deref-4.ensures.value))
+    (told_so _ _ _ _ _ _ _ c.in_ok-report.ensures.verdicts c.deref-2.ensures.value c.deref-3.ensures.value (ap (map reported_view) c.deref-4.ensures.value))
     c.in_ok-report.ensures.flag
 
 pub returns-clause-own : goal.returns-clause-own
 returns-clause-own g c =
     tells_solution g.D.Domain.abstraction g.D.Show.shown c.args.options.fits (node_view c.args.front.now.graph.tree) c.args.solution.now.values.items
     c.args.solution.now.verdicts.items c.args.solution.now.flagged c.in_ok-judged.judged.fitting.verdicts.items c.in_ok-judged.judged.fitting.flagged
-    (map told_view c.in_ok-judged.judged.inside.verdicts.items)
+    (map reported_view c.in_ok-judged.judged.inside.verdicts.items)
     (map (λ x. x.items) c.in_ok-states.states.items) (report_of c.in_ok-report.report) c.in_ok-judged.ensures.fits
     (c.in_ok-states.ensures.shown ∙ ap (map _) c.deref.ensures.value) c.in_ok-report.ensures.states
-    (told_so _ _ _ _ _ _ _ c.in_ok-report.ensures.verdicts c.deref-2.ensures.value c.deref-3.ensures.value (ap (map told_view) c.deref-4.ensures.value))
+    (told_so _ _ _ _ _ _ _ c.in_ok-report.ensures.verdicts c.deref-2.ensures.value c.deref-3.ensures.value (ap (map reported_view) c.deref-4.ensures.value))

@@ -1,8 +1,8 @@
 -- So far the first points have their states.
 use Rattle.std.proofs.Common.{map, take, Vec, Global}
 use Rattle.lra_operations.specs.TreeViews.{site_view}
-use Rattle.lra_show.specs.Part.{Part}
-use Rattle.lra_listing.specs.Given.{AreInvariants}
+use Rattle.lra_row_text.specs.Part.{Part}
+use Rattle.lra_report_build.specs.AnalysisResults.{AreInvariants}
 use Rattle.lra_tests_graphs.proofs.listings.states_at.Given as goal
 
 abbrev pub invariant-sites : goal.invariant-sites

@@ -6,7 +6,7 @@ use Rattle.lra_syntax.specs.Views.{tree_view}
 use Rattle.lra_report.specs.Report as report
 use Rattle.lra_report.specs.View.{verdict_of}
 use Rattle.lra_report.specs.declared.verdict_kinds.VerdictKind.TheVariants.{Assertion}
-use Rattle.lra_listing.specs.Given.{verdict_at}
+use Rattle.lra_report_build.specs.AnalysisResults.{verdict_at}
 use Rattle.lra_threaded.specs.Listed.{assertions_alone, points_before, thread_sites, verdict_in_thread, verdicts_told}
 use Rattle.lra_threaded.proofs.InTurn.{turn_more}
 use Rattle.lra_threaded.proofs.listing.push_assertions.Goals as goal

@@ -1,5 +1,0 @@
-use Rattle.std.proofs.Common.{length}
-use Rattle.lra_listing.proofs.listing.+push_calls.Given as goal
-
-abbrev pub decreases-push_calls : goal.decreases-push_calls
-decreases-push_calls l = length l.path.now

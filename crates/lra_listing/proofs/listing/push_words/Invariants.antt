@@ -1,6 +1,0 @@
--- So far the first names are there.
-use Rattle.std.proofs.Common.{◌≡◌, ◌++◌, take}
-use Rattle.lra_listing.proofs.listing.push_words.Given as goal
-
-abbrev pub invariant-words : goal.invariant-words
-invariant-words l = l.names ≡ l.fn.names ++ take l.word-index l.words

@@ -1,0 +1,2 @@
+pub mod AnalysisResults
+pub mod Views

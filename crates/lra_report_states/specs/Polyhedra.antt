@@ -1,0 +1,36 @@
+-- How a polyhedron is shown: by its constraints and by its generators, which tell the same points.
+use Rattle.std.specs.Prelude.{◌≡◌, ℤ, pos, List, [], ◌∷◌, length, map}
+use Rattle.std.specs.List.{AllByRecursion}
+use Rattle.lra_linear_spec.specs.declared.ConKind.{ConKind}
+use Rattle.lra_linear_spec.specs.Descriptions.{LinearRow, Con}
+use Rattle.lra_linear_spec.specs.Polyhedra.{Polyhedron}
+use Rattle.lra_linear_spec.specs.declared.GenKind.{GenKind}
+use Rattle.lra_systems.specs.LinearSystems.{LinearSystem, constraints, generators}
+use Rattle.lra_options.specs.declared.options.Domain.TheVariants.{Poly}
+use Rattle.lra_row_text.specs.ShownDescriptions.{shown_constraint, shown_generator}
+use Rattle.lra_row_text.specs.Part.{Part}
+use Rattle.lra_report.specs.Report.{Invariant, InvariantHolds}
+use Rattle.lra_report.specs.Parts.{ShowsPart}
+use Rattle.lra_report.specs.Listing.{HasWidth}
+
+-- no part where there is no generator
+abbrev pub part_if_any : List LinearRow → Part → Invariant
+part_if_any [] part = []
+part_if_any (g ∷ gs) part = part ∷ []
+
+abbrev pub shown_polyhedron : Polyhedron → Invariant
+shown_polyhedron p = part_if_any p.generators
+    (record { rows = map shown_constraint p.rows; generators = map shown_generator p.generators })
+
+-- the state tells the polyhedron
+pub record ShowsPolyhedron (p : Polyhedron) (state : Invariant) : Type 0 where
+  pub wide : AllByRecursion (HasWidth p.dims) state
+  pub tell : AllByRecursion (ShowsPart Poly p.dims) state
+  -- each store in it holds there
+  pub holds : (s : List ℤ) → length s ≡ p.dims → Con p.rows (pos 1 ∷ s) → InvariantHolds state s
+  -- and no other list of that many numbers does
+  pub only : (s : List ℤ) → length s ≡ p.dims → InvariantHolds state s → Con p.rows (pos 1 ∷ s)
+
+-- what two lists show
+abbrev pub polyhedron_of : LinearSystem ConKind → LinearSystem GenKind → Polyhedron
+polyhedron_of rows gens = record { dims = rows.dims; rows = constraints rows; generators = generators gens }

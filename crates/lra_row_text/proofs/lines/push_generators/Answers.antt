@@ -1,0 +1,32 @@
+-- Goals of `push_generators`: appends the lines of the generators.
+use Rattle.std.proofs.Common.{arith, get_or}
+use Rattle.lra_linear_spec.specs.declared.GenKind.TheVariants as gen
+use Rattle.lra_row_text.proofs.Lists.{drop_front, drop_at, row_step, rows_end, first_fits, further_fit}
+use Rattle.lra_row_text.specs.Shown.{report_generator}
+use Rattle.lra_row_text.specs.Lines.{generator_line}
+use Rattle.lra_row_text.proofs.lines.push_generators.Goals as goal
+
+pub push_generator-requires : goal.push_generator-requires
+push_generator-requires c =
+    let j = c.loop-index.index in
+    let rows = c.args.rows.now in
+    let kinds = c.args.kinds.now in
+    first_fits rows kinds j c.index-rows-index.result (get_or kinds j gen.Point) c.loop-index.invariant.fit
+    (drop_front rows j c.index-rows-index.result c.index-rows-index.is (omega arith)) (drop_at kinds j gen.Point (omega arith))
+
+pub loop-index-preserved : goal.loop-index-preserved
+loop-index-preserved c =
+    let j = c.loop-index.index in
+    let rows = c.args.rows.now in
+    let kinds = c.args.kinds.now in
+    let r = c.index-rows-index.result in
+    let k = get_or kinds j gen.Point in
+    let row = drop_front rows j r c.index-rows-index.is (omega arith) in
+    let kind = drop_at kinds j gen.Point (omega arith) in
+    record {
+      fit = further_fit rows kinds j r k c.loop-index.invariant.fit row kind;
+      written = row_step report_generator (generator_line c.args.names.now) _ _ _ rows kinds j r k c.loop-index.invariant.written row kind c.in_ok-push_generator.ensures;
+    }
+
+pub returns : goal.returns
+returns c = rows_end report_generator (generator_line c.args.names.now) _ _ c.args.rows.now c.args.kinds.now c.loop-index.index c.loop-index.invariant.written (omega arith)

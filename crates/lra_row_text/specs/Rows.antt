@@ -1,0 +1,15 @@
+-- Rows over variables, and which stores they hold of.
+use Rattle.std.specs.Prelude.{ℤ, List, ◌+ℤ◌}
+use Rattle.lra_linear_spec.specs.declared.ConKind.{ConKind}
+use Rattle.lra_linear_spec.specs.Descriptions.{HoldsWith}
+use Rattle.lra_linear_spec.specs.Kinds.{is_equality}
+use Rattle.lra_linear_spec.specs.Vectors.{product}
+
+-- constant + coefficients * variables is at least 0, or is 0; a coefficient for each variable, in order
+pub record ReportRow : Type 0 where
+  pub kind : ConKind
+  pub constant : ℤ
+  pub coefficients : List ℤ
+
+abbrev pub RowHolds : ReportRow → List ℤ → Type 0
+RowHolds r store = HoldsWith (is_equality r.kind) (r.constant +ℤ product r.coefficients store)

@@ -1,0 +1,23 @@
+-- The constraints and the generators of a description, as they are shown.
+use Rattle.std.specs.Prelude.{zero, suc, ℤ, pos, negsuc, Bool, true, false}
+use Rattle.lra_linear_spec.specs.Descriptions.{LinearRow}
+use Rattle.lra_linear_spec.specs.Kinds.{constraint_kind}
+use Rattle.lra_linear_spec.specs.Vectors.{entry}
+use Rattle.lra_linear_spec.specs.declared.GenKind.{GenKind}
+use Rattle.lra_linear_spec.specs.declared.GenKind.TheVariants as gen
+use Rattle.lra_row_text.specs.Rows.{ReportRow}
+use Rattle.lra_row_text.specs.Part.{ReportGenerator}
+use Rattle.lra_row_text.specs.Shown.{report_row, report_generator}
+
+-- a line, or what its column 0 tells: a point's is above 0
+abbrev pub generator_kind : Bool → ℤ → GenKind
+generator_kind true z = gen.Line
+generator_kind false (pos zero) = gen.Ray
+generator_kind false (pos (suc n)) = gen.Point
+generator_kind false (negsuc n) = gen.Ray
+
+abbrev pub shown_constraint : LinearRow → ReportRow
+shown_constraint g = report_row g.row (constraint_kind g.equal)
+
+abbrev pub shown_generator : LinearRow → ReportGenerator
+shown_generator g = report_generator g.row (generator_kind g.equal (entry g.row 0))

@@ -1,9 +1,0 @@
-use Rattle.std.proofs.Common.{◌≡◌, ◌+◌, ◌++◌, drop, map, string_bytes}
-use Rattle.lra_show.specs.Texts.{form_text, turned}
-use Rattle.lra_show.specs.Shown.{rest_text}
-use Rattle.lra_show.proofs.row.push_form.Given as goal
-
-abbrev pub invariant-loop-index : goal.invariant-loop-index
-invariant-loop-index l =
-    string_bytes l.text ++ rest_text l.is_first (map (turned l.is_turned) (drop (l.index + 1) l.row)) (map string_bytes (drop l.index l.names))
-    ≡ string_bytes l.initial.text ++ form_text (map (turned l.is_turned) (drop 1 l.row)) (map string_bytes l.names)
