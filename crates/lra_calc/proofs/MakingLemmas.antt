@@ -72,7 +72,7 @@ all_tail P x xs a = λ k d h. a (suc k) d (omega arith)
 
 -- ---- a generator's row
 -- a row of n + 1 columns, with column 0 as its kind asks
-pub row_fits : (n : ℕ) (kind : GenKind) (numbers row : List ℤ) → form.as_given kind numbers ≡ record { row = row; equal = is_line kind } → length numbers ≡ script.numbers_needed n kind →
+pub row_fits : (n : ℕ) (kind : GenKind) (numbers row : List ℤ) → form.row_of_written kind numbers ≡ record { row = row; equal = is_line kind } → length numbers ≡ script.numbers_needed n kind →
     IsDivided kind numbers
     → (length row ≡ suc n) × FitsKind kind row
 row_fits n gen.Point [] row e w d = cc
@@ -112,7 +112,7 @@ wide_here n rows i x widths h e = wide_by n x (get_or rows i x) e (all_wide n ro
 
 pub generator_fits : (n : ℕ) (gs : List Generator) (i : ℕ) (x : Generator) (row : List ℤ) → script.wrong_generator n (map generator_view gs) ≡ None → All (λ g. IsDivided g.kind g.numbers) gs →
     i < length gs →
-    x ≡ get_or gs i x → form.given_of (generator_view x) ≡ record { row = row; equal = is_line x.kind } → (length row ≡ suc n) × FitsKind x.kind row
+    x ≡ get_or gs i x → form.row_of_generator (generator_view x) ≡ record { row = row; equal = is_line x.kind } → (length row ≡ suc n) × FitsKind x.kind row
 generator_fits n gs i x row widths divided h e is =
     row_fits n x.kind x.numbers row is (subst (IsWide n) (sym e) (all_generators_wide n gs widths i x h)) (subst (λ (g : Generator). IsDivided g.kind g.numbers) (sym e) (divided i x h))
 

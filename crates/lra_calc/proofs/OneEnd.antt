@@ -8,15 +8,15 @@ use Rattle.lra_linear_spec.specs.SetOperations as sets
 use Rattle.lra_linear_spec.specs.Polyhedra.{Polyhedron}
 use Rattle.lra_linear_spec.proofs.Polyhedra.{polyhedron_unique}
 use Rattle.lra_script.specs.ScriptText.{is_skipped, words}
-use Rattle.lra_script.specs.LineForms.{given_of, Line, Dims, Make, Ask, Recipe, Con, Gen, Combine, Widen, Limited, Map, Forget, Question, Show, Holds, Include, Maximise, line_of}
+use Rattle.lra_script.specs.LineForms.{row_of_generator, Line, Dims, Make, Ask, Recipe, Con, Gen, Combine, Widen, Limited, Map, Forget, Question, Show, Holds, Include, Maximise, line_of}
 use Rattle.lra_duality.specs.Inclusions.{IsInclusion}
 use Rattle.lra_duality.specs.Maxima.{IsMaximum}
-use Rattle.lra_calc.specs.MadeSets.{IsMadeOf, IsMadeOfRows, IsMadeOfGenerators, combined, CombiningStrains, IsCombined, mapped, MappingStrains, IsMapped, IsForgotten}
+use Rattle.lra_calc.specs.MadeSets.{IsMadeOf, IsMadeOfRows, IsMadeOfGenerators, combined_sets, CombiningStrains, IsCombined, mapped_set, MappingStrains, IsMapped, IsForgotten}
 use Rattle.lra_calc.specs.MadeSets.{IsWidened, IsLimited, IsAllFlagged}
 use Rattle.lra_calc.specs.ShownSets.{include_text, is_wide_inclusion, maximise_text, is_wide_maximum}
-use Rattle.lra_calc.specs.Script.{Fault, Session, flagged_by, Unless, WithSet, wrong_row, wrong_generator, wrong_coordinate, wrong_width, Made, IsMade, WidenedBy, Widens, MadeBy, Answer, Answers}
+use Rattle.lra_calc.specs.Script.{Fault, Session, flagged_by, Unless, WithSet, wrong_row, wrong_generator, wrong_coordinate, wrong_width, Made, MakesSet, WidenedBy, Widens, MadeBy, Answer, Answers}
 use Rattle.lra_calc.specs.Script.{shown, held, AnswerTo}
-use Rattle.lra_calc.specs.Script.{made_as, printed_by, behind}
+use Rattle.lra_calc.specs.Script.{made_as, printed_by, session_after}
 use Rattle.lra_calc.specs.Script.{AfterLine, AfterForm, End, GoesOn, Performs, CarriesOut, stopped, last_session, IsUnflagged, AgreesWith}
 use Rattle.lra_linear_spec.specs.Widening as widening
 use Rattle.lra_linear_spec.specs.OperationStrain.{StandardStrains, LimitedStrains}
@@ -43,7 +43,7 @@ same_session : (s t : Session) → (let r : Result Session Fault = Ok s in r) �
 same_session s t e = cc
 
 -- a line that is carried out had a result, and what that brings stands behind it
-brought : {A : Type 0} (step : A → Session) (given : Result A Fault) (t : Session) → Ok t ≡ behind step given → (a : A) × (given ≡ Ok a) × (t ≡ step a)
+brought : {A : Type 0} (step : A → Session) (given : Result A Fault) (t : Session) → Ok t ≡ session_after step given → (a : A) × (given ≡ Ok a) × (t ≡ step a)
 brought step (Ok a) t e = (a, refl, same_session t (step a) e)
 brought step (Err f) t e = absurd (cc)
 
@@ -113,15 +113,15 @@ widened_once n p q P Strains m l clear_m clear_l h k =
 
 made_once : (s : Session) (recipe : Recipe) (m l : Made) → m.flagged ≡ false → l.flagged ≡ false → MadeBy s recipe (Ok m) → MadeBy s recipe (Ok l) → m ≡ l
 made_once s (Con rows) m l clear_m clear_l h k =
-    both_unless (IsMade (IsMadeOfRows s.dims rows)) (wrong_row s.dims rows) m l (m ≡ l)
+    both_unless (MakesSet (IsMadeOfRows s.dims rows)) (wrong_row s.dims rows) m l (m ≡ l)
     (λ x y. set_once s.dims (points_of rows) (FromRowsStrains s.dims rows) m.flagged l.flagged m.polyhedron l.polyhedron clear_m clear_l x y) h k
 made_once s (Gen gs) m l clear_m clear_l h k =
-    both_unless (IsMade (IsMadeOfGenerators s.dims (map given_of gs))) (wrong_generator s.dims gs) m l (m ≡ l)
-    (λ x y. set_once s.dims (generated_by (map given_of gs)) (FromGeneratorsStrains s.dims (map given_of gs)) m.flagged l.flagged m.polyhedron l.polyhedron clear_m clear_l x y) h k
+    both_unless (MakesSet (IsMadeOfGenerators s.dims (map row_of_generator gs))) (wrong_generator s.dims gs) m l (m ≡ l)
+    (λ x y. set_once s.dims (generated_by (map row_of_generator gs)) (FromGeneratorsStrains s.dims (map row_of_generator gs)) m.flagged l.flagged m.polyhedron l.polyhedron clear_m clear_l x y) h k
 made_once s (Combine how first second) m l clear_m clear_l h k =
-    both_sets (λ p. WithSet second (s.made second) (λ q. IsMade (IsCombined how s.dims p q))) first (s.made first) m l (m ≡ l)
-    (λ p x y. both_sets (λ q. IsMade (IsCombined how s.dims p q)) second (s.made second) m l (m ≡ l)
-    (λ q x1 y1. set_once s.dims (combined how s.dims p q) (CombiningStrains how p q) m.flagged l.flagged m.polyhedron l.polyhedron clear_m clear_l x1 y1) x y) h k
+    both_sets (λ p. WithSet second (s.made second) (λ q. MakesSet (IsCombined how s.dims p q))) first (s.made first) m l (m ≡ l)
+    (λ p x y. both_sets (λ q. MakesSet (IsCombined how s.dims p q)) second (s.made second) m l (m ≡ l)
+    (λ q x1 y1. set_once s.dims (combined_sets how s.dims p q) (CombiningStrains how p q) m.flagged l.flagged m.polyhedron l.polyhedron clear_m clear_l x1 y1) x y) h k
 made_once s (Widen first second) m l clear_m clear_l h k =
     both_sets (λ p. WithSet second (s.made second) (λ q. Widens s.dims p q (IsWidened s.dims p q))) first (s.made first) m l (m ≡ l)
     (λ p x y. both_sets (λ q. Widens s.dims p q (IsWidened s.dims p q)) second (s.made second) m l (m ≡ l)
@@ -132,13 +132,13 @@ made_once s (Limited first second given) m l clear_m clear_l h k =
     (λ q x1 y1. both_unless (Widens s.dims p q (IsLimited s.dims given p q)) (wrong_row s.dims given) m l (m ≡ l)
     (λ x2 y2. widened_once s.dims p q (widening.LimitedWidening p q given) (LimitedStrains p q given) m l clear_m clear_l x2 y2) x1 y1) x y) h k
 made_once s (Map how from n form) m l clear_m clear_l h k =
-    both_unless (WithSet from (s.made from) (λ p. Unless (wrong_width (length form) (suc s.dims)) (IsMade (IsMapped how s.dims n form p)))) (wrong_coordinate s.dims n) m l (m ≡ l)
-    (λ x y. both_sets (λ p. Unless (wrong_width (length form) (suc s.dims)) (IsMade (IsMapped how s.dims n form p))) from (s.made from) m l (m ≡ l)
-    (λ p x1 y1. both_unless (IsMade (IsMapped how s.dims n form p)) (wrong_width (length form) (suc s.dims)) m l (m ≡ l)
-    (λ x2 y2. set_once s.dims (mapped how s.dims n form p) (MappingStrains how n form p) m.flagged l.flagged m.polyhedron l.polyhedron clear_m clear_l x2 y2) x1 y1) x y) h k
+    both_unless (WithSet from (s.made from) (λ p. Unless (wrong_width (length form) (suc s.dims)) (MakesSet (IsMapped how s.dims n form p)))) (wrong_coordinate s.dims n) m l (m ≡ l)
+    (λ x y. both_sets (λ p. Unless (wrong_width (length form) (suc s.dims)) (MakesSet (IsMapped how s.dims n form p))) from (s.made from) m l (m ≡ l)
+    (λ p x1 y1. both_unless (MakesSet (IsMapped how s.dims n form p)) (wrong_width (length form) (suc s.dims)) m l (m ≡ l)
+    (λ x2 y2. set_once s.dims (mapped_set how s.dims n form p) (MappingStrains how n form p) m.flagged l.flagged m.polyhedron l.polyhedron clear_m clear_l x2 y2) x1 y1) x y) h k
 made_once s (Forget from n) m l clear_m clear_l h k =
-    both_unless (WithSet from (s.made from) (λ p. IsMade (IsForgotten s.dims n p))) (wrong_coordinate s.dims n) m l (m ≡ l)
-    (λ x y. both_sets (λ p. IsMade (IsForgotten s.dims n p)) from (s.made from) m l (m ≡ l)
+    both_unless (WithSet from (s.made from) (λ p. MakesSet (IsForgotten s.dims n p))) (wrong_coordinate s.dims n) m l (m ≡ l)
+    (λ x y. both_sets (λ p. MakesSet (IsForgotten s.dims n p)) from (s.made from) m l (m ≡ l)
     (λ p x1 y1. set_once s.dims (sets.Forget s.dims n (points_of p.rows)) (ForgetStrains n p) m.flagged l.flagged m.polyhedron l.polyhedron clear_m clear_l x1 y1) x y) h k
 
 same_answer : (a b : Answer) → (let r : Result Answer Fault = Ok a in r) ≡ Ok b → a ≡ b

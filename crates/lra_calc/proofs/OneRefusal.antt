@@ -11,11 +11,11 @@ use Rattle.lra_duality.specs.Maxima.{IsMaximum}
 use Rattle.lra_duality.specs.declared.inclusion.Inclusion.{Inclusion}
 use Rattle.lra_duality.specs.declared.inclusion.Inclusion.TheVariants as inclusion
 use Rattle.lra_script.specs.ScriptText.{is_skipped, words, lines}
-use Rattle.lra_script.specs.LineForms.{Generator, Line, Dims, Make, Ask, Recipe, Con, Gen, Combine, Widen, Limited, Map, Forget, Question, Show, Holds, Include, Maximise, line_of, given_of}
-use Rattle.lra_calc.specs.Script.{Fault, UnknownName, Session, Unless, WithSet, wrong_width, wrong_row, numbers_needed, wrong_generator, wrong_coordinate, Made, IsMade, WidenedBy, Widens, MadeBy}
+use Rattle.lra_script.specs.LineForms.{Generator, Line, Dims, Make, Ask, Recipe, Con, Gen, Combine, Widen, Limited, Map, Forget, Question, Show, Holds, Include, Maximise, line_of, row_of_generator}
+use Rattle.lra_calc.specs.Script.{Fault, UnknownName, Session, Unless, WithSet, wrong_width, wrong_row, numbers_needed, wrong_generator, wrong_coordinate, Made, MakesSet, WidenedBy, Widens, MadeBy}
 use Rattle.lra_calc.specs.Script.{Answer, Answers, AnswerTo}
-use Rattle.lra_calc.specs.Script.{made_as, printed_by, behind, Brings, AfterLine, AfterForm, End, GoesOn, Performs, SkipsOr, CarriesOut, Refusal, AtLine, ended, TooLongOr, AnswersTo}
-use Rattle.lra_calc.specs.Script.{BadLine, WrongDimension, IsToldByWords, IsToldByLines, is_widening, widens, NeverWidens, AgreesWith}
+use Rattle.lra_calc.specs.Script.{made_as, printed_by, session_after, Brings, AfterLine, AfterForm, End, GoesOn, Performs, SkipsOr, CarriesOut, Refusal, AtLine, ended, TooLongOr, AnswersTo}
+use Rattle.lra_calc.specs.Script.{BadLine, WrongDimension, IsDeterminedByWords, IsDeterminedByLines, is_widening, widens, NeverWidens, AgreesWith}
 use Rattle.lra_calc.specs.Script.{shown, held}
 use Rattle.lra_calc.specs.MadeSets.{IsMadeOfRows, IsMadeOfGenerators, IsCombined, IsMapped, IsForgotten}
 use Rattle.lra_calc.specs.ShownSets.{include_text, is_wide_inclusion, maximise_text, is_wide_maximum}
@@ -58,7 +58,7 @@ set_agrees P Q name None (Some t) r q e both h k = absurd (cc)
 set_agrees P Q name (Some p) None r q e both h k = absurd (cc)
 set_agrees P Q name (Some p) (Some t) r q e both h k = both p t refl refl h k
 
-made_agree : (P Q : Bool → Polyhedron → Type 0) (r q : Result Made Fault) → IsMade P r → IsMade Q q → AgreesWith r q
+made_agree : (P Q : Bool → Polyhedron → Type 0) (r q : Result Made Fault) → MakesSet P r → MakesSet Q q → AgreesWith r q
 made_agree P Q (Ok m) (Ok l) h k = tt
 made_agree P Q (Ok m) (Err g) h k = absurd k
 made_agree P Q (Err f) q h k = absurd h
@@ -107,12 +107,13 @@ question_agrees s t (Maximise name form) r q a h k =
 -- ---- faults that words tell
 abbrev IsToldResult : {A : Type 0} → Result A Fault → Type 0
 IsToldResult (Ok a) = Unit {0}
-IsToldResult (Err fault) = IsToldByWords fault
+IsToldResult (Err fault) = IsDeterminedByWords fault
 
-told_by : {A : Type 0} (f : Fault) (r : Result A Fault) → r ≡ Err f → IsToldResult r → IsToldByWords f
+told_by : {A : Type 0} (f : Fault) (r : Result A Fault) → r ≡ Err f → IsToldResult r → IsDeterminedByWords f
 told_by {A = A} f r e h = subst (λ (x : Result A Fault). IsToldResult x) e h
 
-told_given : {A : Type 0} (step : A → Session) (given : Result A Fault) (r : Result Session Fault) → r ≡ behind step given → IsToldResult r → IsToldResult given
+told_given : {A : Type 0} (step : A → Session) (given : Result A Fault) (r : Result Session Fault) → r ≡ session_after step given → IsToldResult r →
+    IsToldResult given
 told_given step (Ok a) r e h = tt
 told_given step (Err f) r e h = told_by f r e h
 
@@ -139,7 +140,7 @@ both_made number name m l s t a = record { dims = a.dims; names = λ n. both_nam
 both_printed : (number : ℕ) (x y : Answer) (s t : Session) → Alike s t → Alike (printed_by number x s) (printed_by number y t)
 both_printed number x y s t a = record { dims = a.dims; names = a.names }
 
-behind_alike : {A : Type 0} (f g : A → Session) (r q : Result A Fault) → AgreesWith r q → ((a b : A) → Alike (f a) (g b)) → AlikeResults (behind f r) (behind g q)
+behind_alike : {A : Type 0} (f g : A → Session) (r q : Result A Fault) → AgreesWith r q → ((a b : A) → Alike (f a) (g b)) → AlikeResults (session_after f r) (session_after g q)
 behind_alike f g (Ok a) (Ok b) e both = both a b
 behind_alike f g (Ok a) (Err y) e both = absurd e
 behind_alike f g (Err x) (Ok b) e both = absurd e
@@ -147,11 +148,12 @@ behind_alike f g (Err x) (Err y) e both = e
 
 brings_alike : {A : Type 0} (P Q : Result A Fault → Type 0) (f g : A → Session) (r q : Result Session Fault) (h : Brings P f r) (k : Brings Q g q) → AgreesWith h.outcome k.outcome →
     ((a b : A) → Alike (f a) (g b)) → AlikeResults r q
-brings_alike P Q f g r q h k agree both = alike_by r q (behind f h.outcome) (behind g k.outcome) h.is k.is (behind_alike f g h.outcome k.outcome agree both)
+brings_alike P Q f g r q h k agree both =
+    alike_by r q (session_after f h.outcome) (session_after g k.outcome) h.is k.is (behind_alike f g h.outcome k.outcome agree both)
 
 -- where widenings agree
 pub line_alike_by : (number : ℕ) (s t : Session) (line : Line) (r q : Result Session Fault) → Alike s t →
-    ((step other : Made → Session) (x y : Result Made Fault) → r ≡ behind step x → q ≡ behind other y → WideningsAgree s t x y) → AfterLine number s line r → AfterLine number t line q →
+    ((step other : Made → Session) (x y : Result Made Fault) → r ≡ session_after step x → q ≡ session_after other y → WideningsAgree s t x y) → AfterLine number s line r → AfterLine number t line q →
     AlikeResults r q
 line_alike_by number s t (Dims n) r q a w h k = alike_by r q _ _ h k refl
 line_alike_by number s t (Make name recipe) r q a w h k =
@@ -182,7 +184,7 @@ form_alike number (Some s) (Some t) (Some line) r q a told_r told_q h k = line_a
 
 -- ---- ends
 abbrev IsToldEnd : End → Type 0
-IsToldEnd e = IsToldByLines (ended e)
+IsToldEnd e = IsDeterminedByLines (ended e)
 
 told_here : (number : ℕ) (s : Option Session) (r : Result Session Fault) (P : Option Session → Type 0) (e : End) → IsToldEnd e → GoesOn number s r P e → IsToldResult r
 told_here number s (Ok t) P e told h = tt
@@ -213,24 +215,24 @@ carried_alike (line ∷ rest) number s t e f a told_e told_f h k =
     h k
 
 -- ---- scripts
-told_as : (a b : Result (List ℕ) Refusal) → a ≡ b → IsToldByLines a → IsToldByLines b
-told_as a b e h = subst IsToldByLines e h
+told_as : (a b : Result (List ℕ) Refusal) → a ≡ b → IsDeterminedByLines a → IsDeterminedByLines b
+told_as a b e h = subst IsDeterminedByLines e h
 
-by_length : (b : Bool) (script : List ℕ) (x y : Result (List ℕ) Refusal) → TooLongOr b script x → TooLongOr b script y → IsToldByLines x → IsToldByLines y → AgreesWith x y
+by_length : (b : Bool) (script : List ℕ) (x y : Result (List ℕ) Refusal) → TooLongOr b script x → TooLongOr b script y → IsDeterminedByLines x → IsDeterminedByLines y → AgreesWith x y
 by_length true script x y h k told_x told_y = agrees_by x y _ _ h k refl
 by_length false script x y h k told_x told_y =
     agrees_by x y _ _ h.is k.is
     (carried_alike (lines script) 1 None None h.end k.end tt (told_as x _ h.is told_x) (told_as y _ k.is told_y) h.carries_out k.carries_out)
 
 -- two answers to one script are both outputs, or are one refusal
-pub one_refusal : (script : List ℕ) (x y : Result (List ℕ) Refusal) → AnswersTo script x → AnswersTo script y → IsToldByLines x → IsToldByLines y → AgreesWith x y
+pub one_refusal : (script : List ℕ) (x y : Result (List ℕ) Refusal) → AnswersTo script x → AnswersTo script y → IsDeterminedByLines x → IsDeterminedByLines y → AgreesWith x y
 one_refusal script x y h k told_x told_y = by_length (nat_lt greatest_length (length script)) script x y h k told_x told_y
 
 -- ---- scripts that widen nothing
 told_as_made : {A : Type 0} (x r : Result A Fault) → r ≡ x → IsToldResult x → IsToldResult r
 told_as_made {A = A} x r e h = subst (λ (y : Result A Fault). IsToldResult y) (sym e) h
 
-unless_told : {A : Type 0} (P : Result A Fault → Type 0) (o : Option Fault) (r : Result A Fault) → IfSome o IsToldByWords → (P r → IsToldResult r) → Unless o P r → IsToldResult r
+unless_told : {A : Type 0} (P : Result A Fault → Type 0) (o : Option Fault) (r : Result A Fault) → IfSome o IsDeterminedByWords → (P r → IsToldResult r) → Unless o P r → IsToldResult r
 unless_told P (Some f) r t later h = told_as_made (Err f) r h t
 unless_told P None r t later h = later h
 
@@ -239,50 +241,53 @@ set_told : {A : Type 0} (P : Polyhedron → Result A Fault → Type 0) (name : L
 set_told P name None r later h = told_as_made (Err (UnknownName name)) r h tt
 set_told P name (Some p) r later h = later p h
 
-made_told : (P : Bool → Polyhedron → Type 0) (r : Result Made Fault) → IsMade P r → IsToldResult r
+made_told : (P : Bool → Polyhedron → Type 0) (r : Result Made Fault) → MakesSet P r → IsToldResult r
 made_told P (Ok m) h = tt
 made_told P (Err f) h = absurd h
 
-width_told : (b : Bool) (count needed : ℕ) (o : Option Fault) → IfSome o IsToldByWords → IfSome (cond b o (Some (WrongDimension count needed))) IsToldByWords
+width_told : (b : Bool) (count needed : ℕ) (o : Option Fault) → IfSome o IsDeterminedByWords →
+    IfSome (cond b o (Some (WrongDimension count needed))) IsDeterminedByWords
 width_told true count needed o h = h
 width_told false count needed o h = tt
 
-rows_told : (n : ℕ) (rows : List LinearRow) → IfSome (wrong_row n rows) IsToldByWords
+rows_told : (n : ℕ) (rows : List LinearRow) → IfSome (wrong_row n rows) IsDeterminedByWords
 rows_told n [] = tt
 rows_told n (g ∷ gs) = width_told (nat_eq (length g.row) (suc n)) (length g.row) (suc n) (wrong_row n gs) (rows_told n gs)
 
-generators_told : (n : ℕ) (gs : List Generator) → IfSome (wrong_generator n gs) IsToldByWords
+generators_told : (n : ℕ) (gs : List Generator) → IfSome (wrong_generator n gs) IsDeterminedByWords
 generators_told n [] = tt
 generators_told n (g ∷ gs) =
     let needed = numbers_needed n g.kind in width_told (nat_eq (length g.numbers) needed) (length g.numbers) needed (wrong_generator n gs) (generators_told n gs)
 
-numbers_told : (count needed : ℕ) → IfSome (wrong_width count needed) IsToldByWords
+numbers_told : (count needed : ℕ) → IfSome (wrong_width count needed) IsDeterminedByWords
 numbers_told count needed = width_told (nat_eq count needed) count needed None tt
 
-either_told : (b : Bool) → IfSome (cond b None (Some BadLine)) IsToldByWords
+either_told : (b : Bool) → IfSome (cond b None (Some BadLine)) IsDeterminedByWords
 either_told true = tt
 either_told false = tt
 
-coordinate_told : (n k : ℕ) → IfSome (wrong_coordinate n k) IsToldByWords
+coordinate_told : (n k : ℕ) → IfSome (wrong_coordinate n k) IsDeterminedByWords
 coordinate_told n k = either_told (nat_le 1 k && nat_le k n)
 
 recipe_told : (s : Session) (recipe : Recipe) (r : Result Made Fault) → is_widening recipe ≡ false → MadeBy s recipe r → IsToldResult r
-recipe_told s (Con rows) r e h = unless_told (IsMade (IsMadeOfRows s.dims rows)) (wrong_row s.dims rows) r (rows_told s.dims rows) (made_told (IsMadeOfRows s.dims rows) r) h
+recipe_told s (Con rows) r e h = unless_told (MakesSet (IsMadeOfRows s.dims rows)) (wrong_row s.dims rows) r (rows_told s.dims rows) (made_told (IsMadeOfRows s.dims rows) r) h
 recipe_told s (Gen gs) r e h =
-    let P = IsMadeOfGenerators s.dims (map given_of gs) in unless_told (IsMade P) (wrong_generator s.dims gs) r (generators_told s.dims gs) (made_told P r) h
+    let P = IsMadeOfGenerators s.dims (map row_of_generator gs) in
+    unless_told (MakesSet P) (wrong_generator s.dims gs) r (generators_told s.dims gs) (made_told P r) h
 recipe_told s (Combine how first second) r e h =
-    set_told (λ p. WithSet second (s.made second) (λ q. IsMade (IsCombined how s.dims p q))) first (s.made first) r
-    (λ p x. set_told (λ q. IsMade (IsCombined how s.dims p q)) second (s.made second) r (λ q. made_told (IsCombined how s.dims p q) r) x) h
+    set_told (λ p. WithSet second (s.made second) (λ q. MakesSet (IsCombined how s.dims p q))) first (s.made first) r
+    (λ p x. set_told (λ q. MakesSet (IsCombined how s.dims p q)) second (s.made second) r (λ q. made_told (IsCombined how s.dims p q) r) x) h
 recipe_told s (Widen first second) r e h = absurd (cc)
 recipe_told s (Limited first second given) r e h = absurd (cc)
 recipe_told s (Map how from n form) r e h =
-    unless_told (WithSet from (s.made from) (λ p. Unless (wrong_width (length form) (suc s.dims)) (IsMade (IsMapped how s.dims n form p)))) (wrong_coordinate s.dims n) r (coordinate_told s.dims n)
-    (λ x. set_told (λ p. Unless (wrong_width (length form) (suc s.dims)) (IsMade (IsMapped how s.dims n form p))) from (s.made from) r
-    (λ p y. unless_told (IsMade (IsMapped how s.dims n form p)) (wrong_width (length form) (suc s.dims)) r (numbers_told (length form) (suc s.dims)) (made_told (IsMapped how s.dims n form p) r) y) x)
+    unless_told (WithSet from (s.made from) (λ p. Unless (wrong_width (length form) (suc s.dims)) (MakesSet (IsMapped how s.dims n form p)))) (wrong_coordinate s.dims n) r (coordinate_told s.dims n)
+    (λ x. set_told (λ p. Unless (wrong_width (length form) (suc s.dims)) (MakesSet (IsMapped how s.dims n form p))) from (s.made from) r
+    (λ p y. unless_told (MakesSet (IsMapped how s.dims n form p)) (wrong_width (length form) (suc s.dims)) r (numbers_told (length form) (suc s.dims)) (made_told (IsMapped how s.dims n form p) r) y)
+    x)
     h
 recipe_told s (Forget from n) r e h =
-    unless_told (WithSet from (s.made from) (λ p. IsMade (IsForgotten s.dims n p))) (wrong_coordinate s.dims n) r (coordinate_told s.dims n)
-    (λ x. set_told (λ p. IsMade (IsForgotten s.dims n p)) from (s.made from) r (λ p. made_told (IsForgotten s.dims n p) r) x) h
+    unless_told (WithSet from (s.made from) (λ p. MakesSet (IsForgotten s.dims n p))) (wrong_coordinate s.dims n) r (coordinate_told s.dims n)
+    (λ x. set_told (λ p. MakesSet (IsForgotten s.dims n p)) from (s.made from) r (λ p. made_told (IsForgotten s.dims n p) r) x) h
 
 answers_told : {A : Type 0} (P : A → Type 0) (text : A → List ℕ) (is_wide : A → Bool) (r : Result Answer Fault) → Answers P text is_wide r → IsToldResult r
 answers_told P text is_wide r h = told_as_made _ r h.is tt
@@ -303,7 +308,7 @@ question_told s (Maximise name form) r h =
     (λ p y. unless_told (Answers (IsMaximum form p.generators) (maximise_text name p) is_wide_maximum) (wrong_width (length form) (suc s.dims)) r (numbers_told (length form) (suc s.dims))
     (answers_told (IsMaximum form p.generators) (maximise_text name p) is_wide_maximum r) y) h
 
-behind_told : {A : Type 0} (step : A → Session) (given : Result A Fault) → IsToldResult given → IsToldResult (behind step given)
+behind_told : {A : Type 0} (step : A → Session) (given : Result A Fault) → IsToldResult given → IsToldResult (session_after step given)
 behind_told step (Ok a) h = tt
 behind_told step (Err f) h = h
 
@@ -334,10 +339,10 @@ end_told (line ∷ rest) number s e never h =
     (λ x. end_here number s x.result _ e (form_told number s (line_of (words line)) x.result (never 0 line (omega arith)) x.after) (λ t y. end_told rest (number + 1) t e later y) x.goes_on)
     h
 
-told_by_length : (b : Bool) (script : List ℕ) (x : Result (List ℕ) Refusal) → NeverWidens script → TooLongOr b script x → IsToldByLines x
-told_by_length true script x never h = subst IsToldByLines (sym h) tt
-told_by_length false script x never h = subst IsToldByLines (sym h.is) (end_told (lines script) 1 None h.end never h.carries_out)
+told_by_length : (b : Bool) (script : List ℕ) (x : Result (List ℕ) Refusal) → NeverWidens script → TooLongOr b script x → IsDeterminedByLines x
+told_by_length true script x never h = subst IsDeterminedByLines (sym h) tt
+told_by_length false script x never h = subst IsDeterminedByLines (sym h.is) (end_told (lines script) 1 None h.end never h.carries_out)
 
 -- the lines alone tell each answer to a script that widens nothing
-pub never_widens : (script : List ℕ) (x : Result (List ℕ) Refusal) → NeverWidens script → AnswersTo script x → IsToldByLines x
+pub never_widens : (script : List ℕ) (x : Result (List ℕ) Refusal) → NeverWidens script → AnswersTo script x → IsDeterminedByLines x
 never_widens script x never h = told_by_length (nat_lt greatest_length (length script)) script x never h

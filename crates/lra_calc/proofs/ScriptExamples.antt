@@ -14,7 +14,7 @@ use Rattle.lra_row_text.specs.Texts.{text_line}
 use Rattle.lra_script.specs.ScriptText.{lines}
 use Rattle.lra_calc.specs.MadeSets.{IsMadeOfRows}
 use Rattle.lra_calc.specs.ShownSets.{polyhedron_text}
-use Rattle.lra_calc.specs.Script.{Fault, BadLine, UnknownName, WrongDimension, NotIncluded, started, End, Refused, AtLine, TooLong, CarriesOut, output, AnswersTo, refused_text}
+use Rattle.lra_calc.specs.Script.{Fault, BadLine, UnknownName, WrongDimension, NotIncluded, started, End, Refused, AtLine, TooLong, CarriesOut, output, AnswersTo, script_refusal_text}
 
 abbrev text : List (List ℕ) → List ℕ
 text = flat_map text_line
@@ -243,10 +243,10 @@ unfolding greatest_length
 empty_script = record { end = Ok None; carries_out = refl; is = refl }
 
 -- catches the two numbers exchanged, and a name that is not told
-refused_texts : (refused_text (AtLine (record { number = 4; fault = WrongDimension 3 2 })) ≡ text (codes "refused line 4 WrongDimension 3 2" ∷ []))
-    × (refused_text (AtLine (record { number = 4; fault = UnknownName (codes "Z") })) ≡ text (codes "refused line 4 UnknownName Z" ∷ []))
-    × (refused_text (AtLine (record { number = 12; fault = BadLine })) ≡ text (codes "refused line 12 BadLine" ∷ []))
-    × (refused_text (AtLine (record { number = 4; fault = NotIncluded (codes "line x1=1") })) ≡ text (codes "refused line 4 NotIncluded line x1=1" ∷ []))
-    × (refused_text (TooLong (record { line = 1; column = 65537 })) ≡ text (codes "refused 1 TooLong at 1:65537" ∷ []))
+refused_texts : (script_refusal_text (AtLine (record { number = 4; fault = WrongDimension 3 2 })) ≡ text (codes "refused line 4 WrongDimension 3 2" ∷ []))
+    × (script_refusal_text (AtLine (record { number = 4; fault = UnknownName (codes "Z") })) ≡ text (codes "refused line 4 UnknownName Z" ∷ []))
+    × (script_refusal_text (AtLine (record { number = 12; fault = BadLine })) ≡ text (codes "refused line 12 BadLine" ∷ []))
+    × (script_refusal_text (AtLine (record { number = 4; fault = NotIncluded (codes "line x1=1") })) ≡ text (codes "refused line 4 NotIncluded line x1=1" ∷ []))
+    × (script_refusal_text (TooLong (record { line = 1; column = 65537 })) ≡ text (codes "refused 1 TooLong at 1:65537" ∷ []))
 unfolding digits
 refused_texts = (refl, refl, refl, refl, refl)

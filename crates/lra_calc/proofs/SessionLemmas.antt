@@ -65,19 +65,19 @@ decided_wide : (g : LinearRow) (q : Result ℤ Excess) (later : Option Bool) →
 decided_wide g (Ok p) later err = absurd (cc)
 decided_wide g (Err f) later err = refl
 
-behind : (x : List ℤ) (earlier rest : List LinearRow) → All (HoldsInRange x) earlier → script.membership (earlier ++ rest) x ≡ script.membership rest x
-behind x [] rest a = refl
-behind x (g ∷ gs) rest a =
+session_after : (x : List ℤ) (earlier rest : List LinearRow) → All (HoldsInRange x) earlier → script.membership (earlier ++ rest) x ≡ script.membership rest x
+session_after x [] rest a = refl
+session_after x (g ∷ gs) rest a =
     let here = a 0 g (omega arith) in
-    decided_yes g x (checked_product g.row x) (script.membership (gs ++ rest) x) refl here.0 here.1 ∙ behind x gs rest (all_tail (HoldsInRange x) g gs a)
+    decided_yes g x (checked_product g.row x) (script.membership (gs ++ rest) x) refl here.0 here.1 ∙ session_after x gs rest (all_tail (HoldsInRange x) g gs a)
 
 pub answer_is : (rows : List LinearRow) (x : List ℤ) (a : H.MembershipAnswer) → DecidesMembership rows x a → script.membership rows x ≡ answered a
-answer_is rows x Yes a = ap (λ (gs : List LinearRow). script.membership gs x) (sym (append-nil rows)) ∙ behind x rows [] a
+answer_is rows x Yes a = ap (λ (gs : List LinearRow). script.membership gs x) (sym (append-nil rows)) ∙ session_after x rows [] a
 answer_is rows x (No place) a =
-    ap (λ (gs : List LinearRow). script.membership gs x) a.is ∙ behind x a.earlier (a.member ∷ a.later) a.before
+    ap (λ (gs : List LinearRow). script.membership gs x) a.is ∙ session_after x a.earlier (a.member ∷ a.later) a.before
     ∙ decided_no a.member x (checked_product a.member.row x) (script.membership a.later x) refl a.here.0 a.here.1
 answer_is rows x (Wide place) a =
-    ap (λ (gs : List LinearRow). script.membership gs x) a.is ∙ behind x a.earlier (a.member ∷ a.later) a.before
+    ap (λ (gs : List LinearRow). script.membership gs x) a.is ∙ session_after x a.earlier (a.member ∷ a.later) a.before
     ∙ decided_wide a.member (checked_product a.member.row x) (script.membership a.later x) a.here
 
 pub point_is : (x : List ℤ) (n : ℕ) → length x ≡ suc n → get_or x 0 (pos 0) ∷ take (length x - 1) (drop 1 x) ≡ x
@@ -148,12 +148,12 @@ all_tell (g ∷ gs) x = first_tells g gs x (checked_product g.row x) (script.mem
 wide_answer : (rows : List LinearRow) (x : List ℤ) (b : Bool) → Some b ≡ script.membership rows x → script.PassesFirst rows x → ⊥
 wide_answer rows x b e w = let n : script.membership rows x ≡ None = answer_is rows x (Wide w.0) w.1 in cc
 
-with_wide : (rows : List LinearRow) (x : List ℤ) (m : Option Bool) → m ≡ script.membership rows x → Tells rows x m → script.TellsPoints rows x m
+with_wide : (rows : List LinearRow) (x : List ℤ) (m : Option Bool) → m ≡ script.membership rows x → Tells rows x m → script.IsMembershipAnswer rows x m
 with_wide rows x (Some true) e told = (told, wide_answer rows x true e)
 with_wide rows x (Some false) e told = (told, wide_answer rows x false e)
 with_wide rows x None e told = told
 
-pub membership_tells : (rows : List LinearRow) (x : List ℤ) → script.TellsPoints rows x (script.membership rows x)
+pub membership_tells : (rows : List LinearRow) (x : List ℤ) → script.IsMembershipAnswer rows x (script.membership rows x)
 membership_tells rows x = with_wide rows x (script.membership rows x) refl (all_tell rows x)
 
 -- ---- names

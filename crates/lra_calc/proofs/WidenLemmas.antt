@@ -15,7 +15,7 @@ use Rattle.lra_poly_widening.specs.declared.error.WidenError.TheVariants as wide
 use Rattle.lra_script.specs.LineForms as form
 use Rattle.lra_calc.specs.MadeSets.{IsMadeOf, IsAllFlagged, IsWidened, IsLimited}
 use Rattle.lra_calc.specs.Script as script
-use Rattle.lra_calc.specs.Views.{is_flagged, made_of, Gives, TellsOutside, IsPlacedRefusal}
+use Rattle.lra_calc.specs.Views.{is_flagged, made_of, Gives, NamesOutside, IsPlacedRefusal}
 use Rattle.lra_calc.specs.declared.making.Made as making
 use Rattle.lra_calc.specs.declared.refusal.LineError.{LineError}
 use Rattle.lra_calc.specs.declared.refusal.LineError.TheVariants.{Refused, Memory}
@@ -44,7 +44,7 @@ made_widens p q r x P Strains o flagged same tells fine b (inr g) = record {
 }
 
 -- and one that was refused
-pub outside_widens : (p q : Polyhedron) (Told : Bool → Polyhedron → Type 0) (w : WidenError) (e : LineError) → IsRefusal p q w → TellsOutside p w e
+pub outside_widens : (p q : Polyhedron) (Told : Bool → Polyhedron → Type 0) (w : WidenError) (e : LineError) → IsRefusal p q w → NamesOutside p w e
     → Gives made_of (let r : Result making.Made LineError = Err e in r) (script.Widens p.dims p q Told)
 outside_widens p q Told (widen_error.NotIncluded place) (Refused f) h t = record { answer = inclusion.No place; is_right = h; gives = ap Err t }
 outside_widens p q Told widen_error.Memory (Refused f) h t = absurd t

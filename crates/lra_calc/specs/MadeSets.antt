@@ -39,10 +39,10 @@ IsMadeOfGenerators n generators = IsMadeOf n (generated_by generators) (FromGene
 
 -- meet, hull, elapse: the points of both; the least closed polyhedron with all points of both; all that is reached
 -- from the first along the second
-abbrev pub combined : Combination → ℕ → Polyhedron → Polyhedron → PointSet
-combined Meet n p q = sets.Meet (points_of p.rows) (points_of q.rows)
-combined Hull n p q = sets.Hull n (sets.Union (points_of p.rows) (points_of q.rows))
-combined Elapse n p q = sets.TimeElapse n (points_of p.rows) (points_of q.rows)
+abbrev pub combined_sets : Combination → ℕ → Polyhedron → Polyhedron → PointSet
+combined_sets Meet n p q = sets.Meet (points_of p.rows) (points_of q.rows)
+combined_sets Hull n p q = sets.Hull n (sets.Union (points_of p.rows) (points_of q.rows))
+combined_sets Elapse n p q = sets.TimeElapse n (points_of p.rows) (points_of q.rows)
 
 abbrev pub CombiningStrains : Combination → Polyhedron → Polyhedron → Loss → Type 0
 CombiningStrains Meet p q = MeetStrains p q
@@ -50,7 +50,7 @@ CombiningStrains Hull p q = HullStrains p q
 CombiningStrains Elapse p q = TimeElapseStrains p q
 
 abbrev pub IsCombined : Combination → ℕ → Polyhedron → Polyhedron → Bool → Polyhedron → Type 0
-IsCombined how n p q = IsMadeOf n (combined how n p q) (CombiningStrains how p q)
+IsCombined how n p q = IsMadeOf n (combined_sets how n p q) (CombiningStrains how p q)
 
 -- widen: of P inside Q the points at which each row of Q holds that is tight on P; Q where P is empty
 abbrev pub IsWidened : ℕ → Polyhedron → Polyhedron → Bool → Polyhedron → Type 0
@@ -66,16 +66,16 @@ IsAllFlagged n false p = ⊥
 IsAllFlagged n true p = IsPolyhedronOf n (points_of []) p
 
 -- image, preimage: the points with the form's value as coordinate k; the points that it brings into the set
-abbrev pub mapped : Mapping → ℕ → ℕ → List ℤ → Polyhedron → PointSet
-mapped Image n k form p = sets.Image n k form (points_of p.rows)
-mapped Preimage n k form p = sets.Preimage k form (points_of p.rows)
+abbrev pub mapped_set : Mapping → ℕ → ℕ → List ℤ → Polyhedron → PointSet
+mapped_set Image n k form p = sets.Image n k form (points_of p.rows)
+mapped_set Preimage n k form p = sets.Preimage k form (points_of p.rows)
 
 abbrev pub MappingStrains : Mapping → ℕ → List ℤ → Polyhedron → Loss → Type 0
 MappingStrains Image k form p = ImageStrains k form p
 MappingStrains Preimage k form p = PreimageStrains k form p
 
 abbrev pub IsMapped : Mapping → ℕ → ℕ → List ℤ → Polyhedron → Bool → Polyhedron → Type 0
-IsMapped how n k form p = IsMadeOf n (mapped how n k form p) (MappingStrains how k form p)
+IsMapped how n k form p = IsMadeOf n (mapped_set how n k form p) (MappingStrains how k form p)
 
 -- forget: the points that some value of coordinate k brings into the set
 abbrev pub IsForgotten : ℕ → ℕ → Polyhedron → Bool → Polyhedron → Type 0

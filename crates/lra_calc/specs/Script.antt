@@ -24,7 +24,8 @@ use Rattle.lra_base.specs.declared.refusals.Place.{Place}
 use Rattle.lra_base.specs.Places.{place_after, greatest_length}
 use Rattle.lra_row_text.specs.Texts.{text_line}
 use Rattle.lra_script.specs.ScriptText.{lines, is_skipped, words}
-use Rattle.lra_script.specs.LineForms.{Generator, given_of, line_of, Line, Dims, Make, Ask, Recipe, Con, Gen, Combine}
+use Rattle.lra_script.specs.LineForms.{Generator, row_of_generator, line_of, Line, Dims, Make, Ask, Recipe, Con, Gen}
+use Rattle.lra_script.specs.LineForms.{Combine}
 use Rattle.lra_script.specs.LineForms.{Widen, Limited, Map, Forget, Question, Show, Holds, Include, Maximise}
 use Rattle.lra_calc.specs.ShownSets.{show_text, holds_text, include_text, is_wide_inclusion, maximise_text}
 use Rattle.lra_calc.specs.ShownSets.{is_wide_maximum, generator_at}
@@ -106,16 +107,16 @@ pub record Made : Type 0 where
   pub polyhedron : Polyhedron
 
 -- made as told
-abbrev pub IsMade : (Bool → Polyhedron → Type 0) → Result Made Fault → Type 0
-IsMade Told (Ok made) = Told made.flagged made.polyhedron
-IsMade Told (Err fault) = ⊥
+abbrev pub MakesSet : (Bool → Polyhedron → Type 0) → Result Made Fault → Type 0
+MakesSet Told (Ok made) = Told made.flagged made.polyhedron
+MakesSet Told (Err fault) = ⊥
 
 -- of P widened by Q: what is told, where P is in Q; else refused with the first generator of P outside Q; all points,
 -- flagged, where a product passes before that is known
 abbrev pub WidenedBy : ℕ → Polyhedron → (Bool → Polyhedron → Type 0) → Inclusion → Result Made Fault → Type 0
-WidenedBy n p Told inclusion.Yes result = IsMade Told result
+WidenedBy n p Told inclusion.Yes result = MakesSet Told result
 WidenedBy n p Told (inclusion.No place) result = result ≡ Err (NotIncluded (generator_at p place))
-WidenedBy n p Told (inclusion.Wide place row) result = IsMade (IsAllFlagged n) result
+WidenedBy n p Told (inclusion.Wide place row) result = MakesSet (IsAllFlagged n) result
 
 pub record Widens (n : ℕ) (p q : Polyhedron) (Told : Bool → Polyhedron → Type 0)
     (result : Result Made Fault) : Type 0 where
@@ -125,11 +126,11 @@ pub record Widens (n : ℕ) (p q : Polyhedron) (Told : Bool → Polyhedron → T
 
 -- what a recipe makes, or why it is refused
 abbrev pub MadeBy : Session → Recipe → Result Made Fault → Type 0
-MadeBy s (Con rows) = Unless (wrong_row s.dims rows) (IsMade (IsMadeOfRows s.dims rows))
+MadeBy s (Con rows) = Unless (wrong_row s.dims rows) (MakesSet (IsMadeOfRows s.dims rows))
 MadeBy s (Gen generators) =
-    Unless (wrong_generator s.dims generators) (IsMade (IsMadeOfGenerators s.dims (map given_of generators)))
+    Unless (wrong_generator s.dims generators) (MakesSet (IsMadeOfGenerators s.dims (map row_of_generator generators)))
 MadeBy s (Combine how first second) =
-    WithSet first (s.made first) (λ p. WithSet second (s.made second) (λ q. IsMade (IsCombined how s.dims p q)))
+    WithSet first (s.made first) (λ p. WithSet second (s.made second) (λ q. MakesSet (IsCombined how s.dims p q)))
 MadeBy s (Widen first second) =
     WithSet first (s.made first) (λ p. WithSet second (s.made second) (λ q.
     Widens s.dims p q (IsWidened s.dims p q)))
@@ -138,9 +139,9 @@ MadeBy s (Limited first second given) =
     Unless (wrong_row s.dims given) (Widens s.dims p q (IsLimited s.dims given p q))))
 MadeBy s (Map how from k form) =
     Unless (wrong_coordinate s.dims k) (WithSet from (s.made from) (λ p.
-    Unless (wrong_width (length form) (suc s.dims)) (IsMade (IsMapped how s.dims k form p))))
+    Unless (wrong_width (length form) (suc s.dims)) (MakesSet (IsMapped how s.dims k form p))))
 MadeBy s (Forget from k) =
-    Unless (wrong_coordinate s.dims k) (WithSet from (s.made from) (λ p. IsMade (IsForgotten s.dims k p)))
+    Unless (wrong_coordinate s.dims k) (WithSet from (s.made from) (λ p. MakesSet (IsForgotten s.dims k p)))
 
 -- questions --------------------------------------------------------------------------------------------------------
 
@@ -179,10 +180,10 @@ PassesFirst rows x = (place : ℕ) × FirstAt (HoldsInRange x) (IsWide x) rows p
 
 -- what the answer says of the set of points with these constraints; it is wide exactly where their products with the
 -- point pass
-abbrev pub TellsPoints : List LinearRow → List ℤ → Option Bool → Type 0
-TellsPoints rows x (Some true) = points_of rows x × (¬ (PassesFirst rows x))
-TellsPoints rows x (Some false) = (¬ (points_of rows x)) × (¬ (PassesFirst rows x))
-TellsPoints rows x None = PassesFirst rows x
+abbrev pub IsMembershipAnswer : List LinearRow → List ℤ → Option Bool → Type 0
+IsMembershipAnswer rows x (Some true) = points_of rows x × (¬ (PassesFirst rows x))
+IsMembershipAnswer rows x (Some false) = (¬ (points_of rows x)) × (¬ (PassesFirst rows x))
+IsMembershipAnswer rows x None = PassesFirst rows x
 
 abbrev pub is_none : Option Bool → Bool
 is_none (Some answer) = false
@@ -225,16 +226,16 @@ printed_by number a s = record s {
 }
 
 -- what stands behind a line that gave this, or why it is refused
-abbrev pub behind : {A : Type 0} → (A → Session) → Result A Fault → Result Session Fault
-behind step (Ok a) = Ok (step a)
-behind step (Err fault) = Err fault
+abbrev pub session_after : {A : Type 0} → (A → Session) → Result A Fault → Result Session Fault
+session_after step (Ok a) = Ok (step a)
+session_after step (Err fault) = Err fault
 
 -- the line has such a result, and behind it stands what the result brings
 pub record Brings {A : Type 0} (Told : Result A Fault → Type 0) (step : A → Session)
     (result : Result Session Fault) : Type 0 where
   pub outcome : Result A Fault
   pub told : Told outcome
-  pub is : result ≡ behind step outcome
+  pub is : result ≡ session_after step outcome
 
 -- what stands behind a line, or why it is refused
 abbrev pub AfterLine : ℕ → Session → Line → Result Session Fault → Type 0
@@ -346,16 +347,16 @@ HasOneEnd script =
     → IsUnflagged (last_session e) → IsUnflagged (last_session f) → e ≡ f
 
 -- a flagged set may be larger, so whether a set is in another isn't told by the lines alone; all other faults are
-abbrev pub IsToldByWords : Fault → Type 0
-IsToldByWords BadLine = Unit {0}
-IsToldByWords (UnknownName name) = Unit {0}
-IsToldByWords (WrongDimension count needed) = Unit {0}
-IsToldByWords (NotIncluded generator) = ⊥
+abbrev pub IsDeterminedByWords : Fault → Type 0
+IsDeterminedByWords BadLine = Unit {0}
+IsDeterminedByWords (UnknownName name) = Unit {0}
+IsDeterminedByWords (WrongDimension count needed) = Unit {0}
+IsDeterminedByWords (NotIncluded generator) = ⊥
 
-abbrev pub IsToldByLines : Result (List ℕ) Refusal → Type 0
-IsToldByLines (Ok output) = Unit {0}
-IsToldByLines (Err (TooLong place)) = Unit {0}
-IsToldByLines (Err (AtLine refused)) = IsToldByWords refused.fault
+abbrev pub IsDeterminedByLines : Result (List ℕ) Refusal → Type 0
+IsDeterminedByLines (Ok output) = Unit {0}
+IsDeterminedByLines (Err (TooLong place)) = Unit {0}
+IsDeterminedByLines (Err (AtLine refused)) = IsDeterminedByWords refused.fault
 
 -- so all are in a script without a widening
 abbrev pub is_widening : Recipe → Bool
@@ -399,8 +400,8 @@ fault_text (WrongDimension count needed) = codes "WrongDimension " ++ decimal co
 fault_text (NotIncluded generator) = codes "NotIncluded " ++ generator
 
 -- written in place of all output
-abbrev pub refused_text : Refusal → List ℕ
-refused_text (TooLong place) =
+abbrev pub script_refusal_text : Refusal → List ℕ
+script_refusal_text (TooLong place) =
     text_line (codes "refused 1 TooLong at " ++ decimal place.line ++ codes ":" ++ decimal place.column)
-refused_text (AtLine refused) =
+script_refusal_text (AtLine refused) =
     text_line (codes "refused line " ++ decimal refused.number ++ codes " " ++ fault_text refused.fault)

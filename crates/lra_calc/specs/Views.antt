@@ -92,11 +92,11 @@ IsUnknown name set (line_error.Refused f) = (set ≡ None) × (fault_of f ≡ sc
 IsUnknown name set line_error.Memory = Unit {0}
 
 -- refused with the generator that is outside; want of memory says nothing
-abbrev pub TellsOutside : Polyhedron → WidenError → LineError → Type 0
-TellsOutside p (widen_error.NotIncluded place) (line_error.Refused f) =
+abbrev pub NamesOutside : Polyhedron → WidenError → LineError → Type 0
+NamesOutside p (widen_error.NotIncluded place) (line_error.Refused f) =
     fault_of f ≡ script.NotIncluded (generator_at p place)
-TellsOutside p widen_error.Memory (line_error.Refused f) = ⊥
-TellsOutside p error line_error.Memory = Unit {0}
+NamesOutside p widen_error.Memory (line_error.Refused f) = ⊥
+NamesOutside p error line_error.Memory = Unit {0}
 
 -- the answer is one that the definition allows; want of memory says nothing
 abbrev pub Gives : {A B : Type 0} → (A → B) → Result A LineError → (Result B script.Fault → Type 0) → Type 0

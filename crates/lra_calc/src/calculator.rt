@@ -137,12 +137,12 @@ pub fn script(alloc: Global, bytes: &[u8]) -> Result<Vec<u8>, CalcError>
     // Whether a script is refused, and why, is told by its lines alone, but for sets that are widened and aren't in the
     // other; and a script of which no line is flagged has one answer.
     ensures one_refusal { (a b : Result (List ℕ) spec.Refusal) → spec.AnswersTo bytes.now a →
-        spec.AnswersTo bytes.now b → spec.IsToldByLines a → spec.IsToldByLines b → spec.AgreesWith a b }
+        spec.AnswersTo bytes.now b → spec.IsDeterminedByLines a → spec.IsDeterminedByLines b → spec.AgreesWith a b }
     ensures without_widenings { spec.NeverWidens bytes.now → (a : Result (List ℕ) spec.Refusal) →
-        spec.AnswersTo bytes.now a → spec.IsToldByLines a }
+        spec.AnswersTo bytes.now a → spec.IsDeterminedByLines a }
     ensures one_end { spec.HasOneEnd bytes.now }
     // What an answer to `holds` says of the set that the name stands for, and where it is wide.
-    ensures points { (p : Polyhedron) (x : List ℤ) → spec.TellsPoints p.rows x (spec.membership p.rows x) }
+    ensures points { (p : Polyhedron) (x : List ℤ) → spec.IsMembershipAnswer p.rows x (spec.membership p.rows x) }
     // What an answer to `include` says of the sets, and an answer to `maximise`.
     ensures inclusions { (p q : Polyhedron) (answer : Inclusion) → IsPolyhedron p →
         IsInclusion q.rows p.generators answer → TellsInclusion p q answer }

@@ -7,7 +7,7 @@ ghost use Rattle.lra_linear_spec.specs.Kinds.{is_line};
 ghost use Rattle.lra_systems.specs.LinearSystems.{constraints as constraints_of, generators as generators_of, FitKinds};
 ghost use Rattle.lra_poly.specs.Outcomes.{Becomes};
 ghost use Rattle.lra_linear_forms.specs.Form.{form_row};
-ghost use Rattle.lra_script.specs.LineForms.{greatest_dims, given_of};
+ghost use Rattle.lra_script.specs.LineForms.{greatest_dims, row_of_generator};
 ghost use Rattle.lra_script.specs.Views.{constraint_of, generator_view, IsDivided};
 ghost use Rattle.lra_calc.specs.MadeSets as sets;
 ghost use Rattle.lra_calc.specs.Script as script;
@@ -125,7 +125,7 @@ fn put_behind_zero(alloc: Global, numbers: &Row) -> Result<Row, AllocError>
 /// The row of a generator, column 0 first.
 fn row_of(alloc: Global, generator: &Generator) -> Result<Row, AllocError>
     ensures { IfOk result (λ row.
-        given_of (generator_view generator.now) ≡ record { row = row; equal = is_line generator.now.kind }) }
+        row_of_generator (generator_view generator.now) ≡ record { row = row; equal = is_line generator.now.kind }) }
 {
     match generator.kind {
         GenKind::Point => generator.numbers.copy(),
@@ -143,7 +143,7 @@ fn generators_of_written(
     requires widths { script.wrong_generator n (map generator_view generators.now) ≡ None }
     requires divided { All (λ g. IsDivided g.kind g.numbers) generators.now }
     ensures dims { IfOk result (λ s. s.dims ≡ n) }
-    ensures made { IfOk result (λ s. generators_of s ≡ map (λ g. given_of (generator_view g)) generators.now) }
+    ensures made { IfOk result (λ s. generators_of s ≡ map (λ g. row_of_generator (generator_view g)) generators.now) }
     ensures fit { IfOk result (λ s. FitKinds s.rows s.kinds) }
 {
     let mut system = GenSys::new(alloc, n);
@@ -199,7 +199,8 @@ pub fn make_of_generators(
     requires divided { All (λ g. IsDivided g.kind g.numbers) generators.now }
     ensures dims { IfOk result (λ m. m.polyhedron.dims ≡ n) }
     ensures made { IfOk result (λ m.
-        sets.IsMadeOfGenerators n (map given_of (map generator_view generators.now)) m.is_flagged m.polyhedron) }
+        sets.IsMadeOfGenerators n (map row_of_generator (map generator_view generators.now)) m.is_flagged
+        m.polyhedron) }
 {
     let generators = generators_of_written(alloc, n, generators)?;
     let (polyhedron, outcome) = Poly::from_generators(alloc, &generators)?;
@@ -210,7 +211,7 @@ pub fn make_of_generators(
 fn combine_into(how: Combination, set: &mut Poly, other: &Poly) -> Result<Outcome, AllocError>
     requires { other.now.dims ≡ set.old.dims }
     ensures { IfOk result (Becomes set.old.dims
-        (sets.combined how set.old.dims set.old other.now)
+        (sets.combined_sets how set.old.dims set.old other.now)
         (sets.CombiningStrains how set.old other.now) set.new) }
 {
     match how {
@@ -237,7 +238,7 @@ fn map_into(how: Mapping, set: &mut Poly, x: usize, form: &LinExpr) -> Result<Ou
     requires column { x < set.old.dims }
     requires form { length form.now.coefficients ≡ set.old.dims }
     ensures { IfOk result (Becomes set.old.dims
-        (sets.mapped how set.old.dims (suc x) (form_row form.now) set.old)
+        (sets.mapped_set how set.old.dims (suc x) (form_row form.now) set.old)
         (sets.MappingStrains how (suc x) (form_row form.now) set.old) set.new) }
 {
     match how {

@@ -85,14 +85,15 @@ impl Fault {
 
 fn push_too_long(text: &mut String, place: Place) -> Result<(), AllocError>
     ensures { OnOk result (string_bytes text.new ≡ string_bytes text.old
-        ++ script.refused_text (script.TooLong place)) }
+        ++ script.script_refusal_text (script.TooLong place)) }
 {
     let Place { line, column } = place;
     writeln!(text, "refused 1 TooLong at {line}:{column}")
 }
 
 fn too_long_text(alloc: Global, place: Place) -> Result<String, AllocError>
-    ensures { IfOk result (λ text. string_bytes text ≡ script.refused_text (script.TooLong place)) }
+    ensures { IfOk result
+        (λ text. string_bytes text ≡ script.script_refusal_text (script.TooLong place)) }
 {
     let mut text = String::new(alloc);
     push_too_long(&mut text, place)?;
@@ -110,7 +111,7 @@ impl CalcRefusal {
     /// The line that is written in place of all output: `refused 1 TooLong at LINE:COLUMN`, or `refused line NUMBER`
     /// and the fault.
     pub fn text(&self, alloc: Global) -> Result<String, AllocError>
-        ensures { IfOk result (λ text. string_bytes text ≡ script.refused_text (refusal_of self.now)) }
+        ensures { IfOk result (λ text. string_bytes text ≡ script.script_refusal_text (refusal_of self.now)) }
     {
         match self {
             CalcRefusal::TooLong(place) => too_long_text(alloc, *place),

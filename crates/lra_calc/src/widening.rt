@@ -5,7 +5,7 @@ ghost use Rattle.lra_script.specs.LineForms.{greatest_dims};
 ghost use Rattle.lra_script.specs.Views.{constraint_of};
 ghost use Rattle.lra_calc.specs.MadeSets as sets;
 ghost use Rattle.lra_calc.specs.Script as script;
-ghost use Rattle.lra_calc.specs.Views.{made_of, Gives, TellsOutside, IsPlacedRefusal};
+ghost use Rattle.lra_calc.specs.Views.{made_of, Gives, NamesOutside, IsPlacedRefusal};
 
 use crate::making::{Made, constraints_of_rows, make_with};
 use crate::refusal::{Fault, LineError};
@@ -19,7 +19,7 @@ use std::alloc::Global;
 fn tell_outside(alloc: Global, set: &Poly, error: WidenError) -> LineError
     requires few { set.now.dims ≤ greatest_dims }
     requires placed { IsPlacedRefusal (length set.now.generators) error }
-    ensures { TellsOutside set.now error result }
+    ensures { NamesOutside set.now error result }
 {
     match error {
         WidenError::NotIncluded(place) => match generator_at(alloc, set, place) {

@@ -4,7 +4,8 @@ use Rattle.std.specs.Prelude.{codes}
 use Rattle.lra_linear_spec.specs.Descriptions.{inequality, equality, generator, line}
 use Rattle.lra_linear_spec.specs.declared.GenKind.TheVariants as gen
 use Rattle.lra_script.specs.ScriptText.{lines, words, is_skipped, is_name, number_of}
-use Rattle.lra_script.specs.LineForms.{Line, Dims, Make, Ask, Con, Gen, Combine, Widen, Limited, Map, Forget, Show, Holds, Include, Maximise, given_of, line_of}
+use Rattle.lra_script.specs.LineForms.{Line, Dims, Make, Ask, Con, Gen, Combine, Widen, Limited, Map, Forget, Show, Holds, Include, Maximise, row_of_generator}
+use Rattle.lra_script.specs.LineForms.{line_of}
 use Rattle.lra_script.specs.declared.recipes.Combination.TheVariants.{Meet, Hull, Elapse}
 use Rattle.lra_script.specs.declared.recipes.Mapping.TheVariants.{Image, Preimage}
 
@@ -52,9 +53,9 @@ generators_line : (said (codes "gen P point 2 0 ; ray 0 ; line -1") ≡ Some (Ma
 generators_line = (refl, refl, refl, refl, refl, refl)
 
 -- catches a 0 that is left out before a ray's numbers, and a line as a ray
-given_rows : (given_of (record { kind = gen.Point; numbers = pos 2 ∷ pos 0 ∷ [] }) ≡ generator (pos 2 ∷ pos 0 ∷ []))
-    × (given_of (record { kind = gen.Ray; numbers = pos 3 ∷ [] }) ≡ generator (pos 0 ∷ pos 3 ∷ []))
-    × (given_of (record { kind = gen.Line; numbers = pos 3 ∷ [] }) ≡ line (pos 0 ∷ pos 3 ∷ []))
+given_rows : (row_of_generator (record { kind = gen.Point; numbers = pos 2 ∷ pos 0 ∷ [] }) ≡ generator (pos 2 ∷ pos 0 ∷ []))
+    × (row_of_generator (record { kind = gen.Ray; numbers = pos 3 ∷ [] }) ≡ generator (pos 0 ∷ pos 3 ∷ []))
+    × (row_of_generator (record { kind = gen.Line; numbers = pos 3 ∷ [] }) ≡ line (pos 0 ∷ pos 3 ∷ []))
 given_rows = (refl, refl, refl)
 
 show_lines : (said (codes "show P") ≡ Some (Ask (Show (codes "P")))) × (said (codes "show") ≡ None) × (said (codes "show P Q") ≡ None) × (said (codes "show 1") ≡ None)

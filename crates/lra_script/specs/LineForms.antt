@@ -131,13 +131,13 @@ generator_of (word ∷ words) =
     (option_and_then (divided kind) (all_of number_of words))) (kind_of word)
 
 -- as a row of n + 1 columns: column 0 of a ray and of a line is 0, and isn't written
-abbrev pub as_given : GenKind → List ℤ → LinearRow
-as_given gen.Point numbers = generator numbers
-as_given gen.Ray numbers = generator (pos 0 ∷ numbers)
-as_given gen.Line numbers = line (pos 0 ∷ numbers)
+abbrev pub row_of_written : GenKind → List ℤ → LinearRow
+row_of_written gen.Point numbers = generator numbers
+row_of_written gen.Ray numbers = generator (pos 0 ∷ numbers)
+row_of_written gen.Line numbers = line (pos 0 ∷ numbers)
 
-abbrev pub given_of : Generator → LinearRow
-given_of g = as_given g.kind g.numbers
+abbrev pub row_of_generator : Generator → LinearRow
+row_of_generator g = row_of_written g.kind g.numbers
 
 -- recipes ----------------------------------------------------------------------------------------------------------
 
@@ -170,14 +170,14 @@ abbrev pub coefficient_of : List ℕ → Option ℤ
 coefficient_of word = option_and_then with_64_bits (number_of word)
 
 -- that K is one from 1 to N is asked where N is known
-abbrev pub map_behind : Mapping → List ℕ → List (List ℕ) → Option Recipe
-map_behind how from [] = None
-map_behind how from (word ∷ form) =
+abbrev pub map_after : Mapping → List ℕ → List (List ℕ) → Option Recipe
+map_after how from [] = None
+map_after how from (word ∷ form) =
     option_and_then (λ k. option_map (Map how from k) (all_of coefficient_of form)) (small_number word)
 
 abbrev pub map_recipe : Mapping → List (List ℕ) → Option Recipe
 map_recipe how [] = None
-map_recipe how (from ∷ rest) = with_name from (map_behind how from rest)
+map_recipe how (from ∷ rest) = with_name from (map_after how from rest)
 
 abbrev pub forget_recipe : List (List ℕ) → Option Recipe
 forget_recipe [] = None

@@ -20,8 +20,8 @@ use Rattle.lra_script.specs.declared.lines.Line.TheVariants as code
 abbrev pub texts : List (Bor (List ℕ)) → List (List ℕ)
 texts words = map (λ w. w.now) words
 
-abbrev pub items_of : {A : Type 0} → Option (Vec A Global) → Option (List A)
-items_of r = option_map (λ v. v.items) r
+abbrev pub option_items : {A : Type 0} → Option (Vec A Global) → Option (List A)
+option_items r = option_map (λ v. v.items) r
 
 abbrev pub constraint_of : Constraint → LinearRow
 constraint_of c = record { row = c.row; equal = is_equality c.kind }

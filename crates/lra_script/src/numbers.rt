@@ -12,7 +12,7 @@ ghost use Rattle.lra_linear_spec.specs.Range.{InRange};
 ghost use Rattle.lra_script.specs.ScriptText as script;
 ghost use Rattle.lra_script.specs.LineForms as form;
 ghost use Rattle.lra_script.specs.LineForms.{all_of};
-ghost use Rattle.lra_script.specs.Views.{texts, items_of};
+ghost use Rattle.lra_script.specs.Views.{texts, option_items};
 
 use lra_base::GREATEST_LIVE;
 use std::alloc::{AllocError, Global};
@@ -142,7 +142,8 @@ pub fn lone_number(words: &[&[u8]]) -> Option<usize>
 /// The numbers that the words write, where each writes one.
 #[tactic(auto, using(crate::proofs::AllOf::onto_nil))]
 pub fn numbers_of(alloc: Global, words: &[&[u8]]) -> Result<Option<Vec<i128>>, AllocError>
-    ensures numbers { IfOk result (λ r. items_of r ≡ all_of script.number_of (texts words.now)) }
+    ensures numbers { IfOk result
+        (λ r. option_items r ≡ all_of script.number_of (texts words.now)) }
     ensures in_range { IfOk result (λ r. IfSome r (λ numbers. All InRange numbers.items)) }
 {
     let mut numbers = Vec::new(alloc);
@@ -169,7 +170,7 @@ fn coefficient_of(word: &[u8]) -> Option<i64>
 /// The numbers that the words write, where each writes one that has 64 bits.
 #[tactic(auto, using(crate::proofs::AllOf::onto_nil))]
 pub fn coefficients_of(alloc: Global, words: &[&[u8]]) -> Result<Option<Vec<i64>>, AllocError>
-    ensures { IfOk result (λ r. items_of r ≡ all_of form.coefficient_of (texts words.now)) }
+    ensures { IfOk result (λ r. option_items r ≡ all_of form.coefficient_of (texts words.now)) }
 {
     let mut numbers = Vec::new(alloc);
     for word in words {

@@ -140,14 +140,14 @@ fn limited_recipe(alloc: Global, words: &[&[u8]]) -> Result<Option<Recipe>, Allo
 }
 
 /// What stands behind the name of the set that is mapped.
-fn map_behind(
+fn map_after(
     alloc: Global,
     how: Mapping,
     from: String,
     words: &[&[u8]],
 ) -> Result<Option<Recipe>, AllocError>
     ensures recipe { IfOk result (λ r.
-        recipe_view r ≡ form.map_behind how (string_bytes from) (texts words.now)) }
+        recipe_view r ≡ form.map_after how (string_bytes from) (texts words.now)) }
     ensures sound { IfOk result (λ r. IfSome r IsRecipe) }
 {
     let [word, numbers @ ..] = words else {
@@ -170,7 +170,7 @@ fn map_recipe(alloc: Global, how: Mapping, words: &[&[u8]]) -> Result<Option<Rec
         return Ok(None);
     };
     match name_of(alloc, from)? {
-        Some(from) => map_behind(alloc, how, from, rest),
+        Some(from) => map_after(alloc, how, from, rest),
         None => Ok(None),
     }
 }

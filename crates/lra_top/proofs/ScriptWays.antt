@@ -17,7 +17,7 @@ use Rattle.lra_answers.specs.declared.status.Status.TheVariants.{Proved, Refused
 pub deserves_output : (bytes text : List ℕ) → script.AnswersTo bytes (Ok text) → DeservesScript bytes text Proved
 deserves_output bytes text answers = inr (answers, refl)
 
-pub deserves_refused : (bytes text : List ℕ) (r : script.Refusal) → script.AnswersTo bytes (Err r) → text ≡ script.refused_text r → DeservesScript bytes text Refused
+pub deserves_refused : (bytes text : List ℕ) (r : script.Refusal) → script.AnswersTo bytes (Err r) → text ≡ script.script_refusal_text r → DeservesScript bytes text Refused
 deserves_refused bytes text r answers written = inl (record { refusal = r; answers = answers; written = written }, refl)
 
 pub ruleset deserving = (deserves_output, deserves_refused)

@@ -9,7 +9,7 @@ use Rattle.lra_answers.specs.declared.status.Status.TheVariants.{Proved, Refused
 pub record IsScriptRefusal (bytes text : List ℕ) : Type 0 where
   pub refusal : script.Refusal
   pub answers : script.AnswersTo bytes (Err refusal)
-  pub written : text ≡ script.refused_text refusal
+  pub written : text ≡ script.script_refusal_text refusal
 
 -- the text and the status that a script deserves: one that it may write, or its refusal
 abbrev pub DeservesScript : List ℕ → List ℕ → Status → Type 0

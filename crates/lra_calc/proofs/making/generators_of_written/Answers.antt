@@ -1,7 +1,7 @@
 -- Goals of `generators_of_written`: the generators, each with as many numbers as it needs.
 use Rattle.std.proofs.Common.{arith, ◌∙◌, suc, ap, sym, length-append}
 use Rattle.lra_linear_spec.specs.Kinds.{is_line}
-use Rattle.lra_script.specs.LineForms.{given_of}
+use Rattle.lra_script.specs.LineForms.{row_of_generator}
 use Rattle.lra_script.specs.Views.{generator_view}
 use Rattle.lra_calc.proofs.MakingLemmas.{generator_fits, pushed_here, fit_later}
 use Rattle.lra_calc.proofs.making.generators_of_written.Goals as goal
@@ -21,7 +21,8 @@ loop-generator-preserved c =
     record {
       dims = c.in_ok-push.ensures.dims ∙ c.loop-generator.invariant.dims;
       kinds = rw (c.in_ok-push.ensures.rows, c.in_ok-push.ensures.kinds, length-append, length-append) (omega arith);
-      made = pushed_here is_line (λ g. given_of (generator_view g)) c.loop-generator.system c.push.new.self c.in_ok-row.row x.kind c.args.generators.now c.loop-generator.generator-index x _ kinds
+      made = pushed_here is_line (λ g. row_of_generator (generator_view g)) c.loop-generator.system c.push.new.self c.in_ok-row.row x.kind c.args.generators.now c.loop-generator.generator-index x _
+          kinds
           c.in_ok-push.ensures.rows c.in_ok-push.ensures.kinds c.loop-generator-test.true c.generator-item.is c.in_ok-row.ensures c.loop-generator.invariant.made;
       fit = fit_later c.loop-generator.system c.push.new.self c.in_ok-row.row x.kind kinds c.in_ok-push.ensures.rows c.in_ok-push.ensures.kinds c.loop-generator.invariant.fit fits.1;
     }

@@ -1,6 +1,6 @@
 use Rattle.std.proofs.Common.{◌≡◌, ◌++◌, drop, length, map}
 use Rattle.lra_systems.specs.LinearSystems.{generators, FitKinds}
-use Rattle.lra_script.specs.LineForms.{given_of}
+use Rattle.lra_script.specs.LineForms.{row_of_generator}
 use Rattle.lra_script.specs.Views.{generator_view}
 use Rattle.lra_calc.proofs.making.generators_of_written.Given as goal
 
@@ -8,6 +8,6 @@ abbrev pub invariant-loop-generator : goal.invariant-loop-generator
 invariant-loop-generator l = record {
   dims : l.system.dims ≡ l.n;
   kinds : length l.system.rows ≡ length l.system.kinds;
-  made : generators l.system ++ map (λ g. given_of (generator_view g)) (drop l.generator-index l.generators) ≡ map (λ g. given_of (generator_view g)) l.generators;
+  made : generators l.system ++ map (λ g. row_of_generator (generator_view g)) (drop l.generator-index l.generators) ≡ map (λ g. row_of_generator (generator_view g)) l.generators;
   fit : FitKinds l.system.rows l.system.kinds;
 }

@@ -2,7 +2,7 @@
 use Rattle.std.proofs.Common.{map, ◌∙◌}
 use Rattle.lra_linear_spec.specs.Descriptions.{Gen as generated_by}
 use Rattle.lra_linear_spec.specs.OperationStrain.{FromGeneratorsStrains}
-use Rattle.lra_script.specs.LineForms.{given_of}
+use Rattle.lra_script.specs.LineForms.{row_of_generator}
 use Rattle.lra_script.specs.Views.{generator_view}
 use Rattle.lra_calc.proofs.MakingLemmas.{made_as_told, map_map}
 use Rattle.lra_calc.proofs.making.make_of_generators.Goals as goal
@@ -10,8 +10,8 @@ use Rattle.lra_calc.proofs.making.make_of_generators.Goals as goal
 pub returns-clause-made : goal.returns-clause-made
 returns-clause-made c =
     let n = c.args.n in
-    let given = map given_of (map generator_view c.args.generators.now) in
-    let made = c.in_ok-generators.ensures.made ∙ map_map given_of generator_view c.args.generators.now in
+    let given = map row_of_generator (map generator_view c.args.generators.now) in
+    let made = c.in_ok-generators.ensures.made ∙ map_map row_of_generator generator_view c.args.generators.now in
     let becomes = rw (c.in_ok-generators.ensures.dims, made) at c.in_ok-polyhedron.ensures.becomes in
     made_as_told n (generated_by given) (FromGeneratorsStrains n given) c.in_ok-polyhedron.polyhedron c.make_with.result.polyhedron c.in_ok-polyhedron.outcome c.make_with.result.is_flagged
     c.make_with.ensures.polyhedron c.make_with.ensures.flagged c.make_with.ensures.formed becomes

@@ -9,5 +9,5 @@ use Rattle.lra_top.proofs.script_answer.answer_script.Goals as goal
 pub returns-in_ok-text-in-Err-Refused : goal.returns-in_ok-text-in-Err-Refused
 returns-in_ok-text-in-Err-Refused c =
     let answers : script.AnswersTo c.args.bytes.now (Err (refusal_of c.in-Err-Refused.refusal)) = search rules in
-    let written : c.into_bytes.result.items ≡ script.refused_text (refusal_of c.in-Err-Refused.refusal) = search rules in
+    let written : c.into_bytes.result.items ≡ script.script_refusal_text (refusal_of c.in-Err-Refused.refusal) = search rules in
     deserves_refused c.args.bytes.now c.into_bytes.result.items (refusal_of c.in-Err-Refused.refusal) answers written
