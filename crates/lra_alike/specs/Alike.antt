@@ -6,30 +6,30 @@ use Rattle.lra_program.specs.Sites.{Site}
 use Rattle.lra_program.specs.Step.{Op}
 use Rattle.lra_operations.specs.Tree.{Exit, Node}
 use Rattle.lra_operations.specs.CheckedOperations.{ops_where}
-use Rattle.lra_flow.specs.Live.{live_after}
-use Rattle.lra_flow.specs.Opened.{opened}
-use Rattle.lra_flow.specs.Room.{most_live}
-use Rattle.lra_outcomes.specs.Fits.{JumpsWith, TreeFits}
-use Rattle.lra_iter.specs.Lives.{PointsHave}
-use Rattle.lra_iter.specs.Numbers.{IsNumbered}
+use Rattle.lra_analysis_spec.specs.Live.{live_after}
+use Rattle.lra_analysis_spec.specs.Instrumented.{instrumented}
+use Rattle.lra_analysis_spec.specs.LiveLimit.{most_live}
+use Rattle.lra_pass_results.specs.Dimensions.{JumpsWith, TreeFits}
+use Rattle.lra_fixpoint.specs.Lives.{PointsHave}
+use Rattle.lra_fixpoint.specs.Numbers.{IsNumbered}
 
 abbrev pub LiveAlike : Type 0
-LiveAlike = (n : ℕ) (g : Node) (k : ℕ) → live_after (opened n g) k ≡ live_after g k
+LiveAlike = (n : ℕ) (g : Node) (k : ℕ) → live_after (instrumented n g) k ≡ live_after g k
 
 abbrev pub JumpsAlike : Type 0
-JumpsAlike = (n : ℕ) (g : Node) (k : ℕ) (j : Exit) (m : ℕ) → JumpsWith (opened n g) k j m ↔ JumpsWith g k j m
+JumpsAlike = (n : ℕ) (g : Node) (k : ℕ) (j : Exit) (m : ℕ) → JumpsWith (instrumented n g) k j m ↔ JumpsWith g k j m
 
 -- begun with k variables
 abbrev pub FitsOpened : Type 0
-FitsOpened = (n : ℕ) (g : Node) (k : ℕ) → k ≤ most_live → TreeFits g k → TreeFits (opened n g) k
+FitsOpened = (n : ℕ) (g : Node) (k : ℕ) → k ≤ most_live → TreeFits g k → TreeFits (instrumented n g) k
 
 abbrev pub NumberedOpened : Type 0
-NumberedOpened = (T : List Site) (n : ℕ) (g : Node) → IsNumbered T g → IsNumbered T (opened n g)
+NumberedOpened = (T : List Site) (n : ℕ) (g : Node) → IsNumbered T g → IsNumbered T (instrumented n g)
 
 abbrev pub PointsOpened : Type 0
 PointsOpened = (T : List Site) (n : ℕ) (g : Node) (k : ℕ) → TreeFits g k → PointsHave T g k →
-    PointsHave T (opened n g) k
+    PointsHave T (instrumented n g) k
 
 abbrev pub AsksAlike : Type 0
 AsksAlike = (asks : Op → Bool) (fresh : Option NumberType) (n : ℕ) (g : Node) →
-    ops_where asks fresh (opened n g) ≡ ops_where asks fresh g
+    ops_where asks fresh (instrumented n g) ≡ ops_where asks fresh g

@@ -12,10 +12,10 @@ use Rattle.lra_program.specs.Program.{Cond}
 use Rattle.lra_program.specs.declared.program.GlobalVariable.{GlobalVariable}
 use Rattle.lra_program.specs.Sites.{Site}
 use Rattle.lra_operations.specs.Tree.{Node}
-use Rattle.lra_flow.specs.Analysis.{IsUnreachable}
-use Rattle.lra_flow.proofs.Keeping.{some_is}
-use Rattle.lra_flow.specs.Room.{most_live}
-use Rattle.lra_flow.specs.Pass.{noted}
+use Rattle.lra_analysis_spec.specs.Analysis.{IsUnreachable}
+use Rattle.lra_analysis_spec.proofs.Keeping.{some_is}
+use Rattle.lra_analysis_spec.specs.LiveLimit.{most_live}
+use Rattle.lra_analysis_spec.specs.Pass.{noted}
 use Rattle.lra_ways.specs.Ways.{Goal, comes_to}
 use Rattle.lra_ways.specs.Stretches.{Stretch}
 use Rattle.lra_sides.specs.Sides.{greatest_paths}

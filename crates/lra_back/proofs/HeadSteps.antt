@@ -19,7 +19,7 @@ module _ {V H : Type 0} (ops : BackOperations V H) (m : Abstraction V H) where
   -- the head starts with an empty value of so many dimensions, and has them
   pub record IsFirst (n : ℕ) (h : H) : Type 0 where
     pub nothing : V
-    pub void : ops.forward.void n 1 nothing
+    pub void : ops.forward.bottom n 1 nothing
     pub starts : ops.forward.started nothing (no_rows n) h
     pub has : m.head_dims h ≡ n
     pub fits : RankFits (m.rank h)
@@ -54,7 +54,7 @@ module _ {V H : Type 0} (ops : BackOperations V H) (m : Abstraction V H) where
   first_started same (x ∷ forward) (h ∷ heads) so =
       let one = so.0 in (
         one.nothing,
-        subst (λ n. ops.forward.void n 1 one.nothing) (sym (same x)) one.void,
+        subst (λ n. ops.forward.bottom n 1 one.nothing) (sym (same x)) one.void,
         subst (λ n. ops.forward.started one.nothing (no_rows n) h) (sym (same x)) one.starts,
         first_started same forward heads so.1,
       )

@@ -5,8 +5,8 @@ use Rattle.lra_domain.specs.Actions.{Action}
 use Rattle.lra_domain.specs.Abstraction.{worse}
 use Rattle.lra_domain.specs.declared.Exactness.{Exactness}
 use Rattle.lra_domain.specs.declared.Exactness.TheVariants.{Exact}
-use Rattle.lra_flow.specs.Pass.{JoinsRunning, RunsFrom}
-use Rattle.lra_flow.proofs.Takes.{worse_exact, worse_worse}
+use Rattle.lra_analysis_spec.specs.Pass.{JoinsRunning, RunsFrom}
+use Rattle.lra_analysis_spec.proofs.Takes.{worse_exact, worse_worse}
 use Rattle.lra_back.specs.Operations.{BackOperations}
 use Rattle.lra_back.specs.GoingBack.{AllComeBack, ComesBack, ComesFromAll, IsNext, JoinsSeed}
 use Rattle.lra_back.proofs.PathSteps.{drop_at}

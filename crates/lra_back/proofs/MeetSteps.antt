@@ -5,7 +5,7 @@ use Rattle.std.proofs.lemmas.List.{append-nil, drop_all}
 use Rattle.std.proofs.lemmas.Option.{none-some}
 use Rattle.lra_domain.specs.Abstraction.{worse}
 use Rattle.lra_domain.specs.declared.Exactness.{Exactness}
-use Rattle.lra_flow.specs.Pass.{noted}
+use Rattle.lra_analysis_spec.specs.Pass.{noted}
 use Rattle.lra_back.specs.Operations.{BackOperations}
 use Rattle.lra_back.specs.Rounds.{AreMet}
 use Rattle.lra_back.proofs.PathSteps.{drop_at}

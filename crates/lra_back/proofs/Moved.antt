@@ -10,8 +10,8 @@ use Rattle.lra_domain.specs.declared.Mode.TheVariants.{Join, Widen}
 use Rattle.lra_program.specs.declared.program.GlobalVariable.{GlobalVariable}
 use Rattle.lra_program.specs.Sites.{Site}
 use Rattle.lra_operations.specs.Tree.{Node}
-use Rattle.lra_flow.specs.Pass.{JoinsRunning, RunsFrom, noted}
-use Rattle.lra_flow.proofs.Transfer.{Matters, Transfers, aligned, leaves}
+use Rattle.lra_analysis_spec.specs.Pass.{JoinsRunning, RunsFrom, noted}
+use Rattle.lra_analysis_spec.proofs.Transfer.{Matters, Transfers, aligned, leaves}
 use Rattle.lra_back.specs.Operations.{BackOperations, Undoes}
 use Rattle.lra_back.specs.GoingBack.{GoesOver, ComesBack, AllComeBack, ComesFromAll, JoinsSeed, IsNext}
 use Rattle.lra_back.specs.Rounds.{Task, seed_at, no_rows, AreStarted, StaysOrGrows, IsTurned, Round, Widens, Rounds, AreMet}

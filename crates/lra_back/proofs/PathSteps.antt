@@ -8,8 +8,8 @@ use Rattle.lra_domain.specs.Actions.{Action, assign, forget, test, embed, remove
 use Rattle.lra_domain.specs.Changes.{AllCanBeMade, CanBeMade, dims_after_actions}
 use Rattle.lra_domain.specs.Abstraction.{worse}
 use Rattle.lra_domain.specs.declared.Exactness.{Exactness}
-use Rattle.lra_flow.proofs.Keeping.{some_is}
-use Rattle.lra_flow.proofs.Takes.{worse_worse}
+use Rattle.lra_analysis_spec.proofs.Keeping.{some_is}
+use Rattle.lra_analysis_spec.proofs.Takes.{worse_worse}
 use Rattle.lra_back.specs.Operations.{BackOperations, Undoes}
 use Rattle.lra_back.specs.GoingBack.{ComesBack, GoesOver}
 use Rattle.lra_back.specs.Going.{ComesOver, Fits, reversed}

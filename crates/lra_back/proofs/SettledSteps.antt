@@ -8,7 +8,7 @@ use Rattle.lra_domain.specs.declared.Exactness.{Exactness}
 use Rattle.lra_domain.specs.declared.Exactness.TheVariants.{Exact, Flagged}
 use Rattle.lra_domain.specs.declared.Mode.{Mode}
 use Rattle.lra_domain.specs.declared.Mode.TheVariants.{Widen}
-use Rattle.lra_flow.specs.Pass.{noted}
+use Rattle.lra_analysis_spec.specs.Pass.{noted}
 use Rattle.lra_back.specs.Operations.{BackOperations}
 use Rattle.lra_back.specs.GoingBack.{AllComeBack, ComesFromAll, IsNext}
 use Rattle.lra_back.specs.Rounds.{IsTurned, Task, seed_at}

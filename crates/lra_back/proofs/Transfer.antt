@@ -7,7 +7,7 @@ use Rattle.lra_domain.specs.declared.Exactness.TheVariants.{Exact}
 use Rattle.lra_program.specs.declared.program.GlobalVariable.{GlobalVariable}
 use Rattle.lra_program.specs.Sites.{Site}
 use Rattle.lra_operations.specs.Tree.{Node}
-use Rattle.lra_flow.proofs.Unflagged.{none_flagged, any_matters, exact_ones, strained_ones}
+use Rattle.lra_analysis_spec.proofs.Unflagged.{none_flagged, any_matters, exact_ones, strained_ones}
 use Rattle.lra_back.specs.Operations.{defined, dropping, straining}
 use Rattle.lra_back.specs.Traced.{Backs, IsTraced}
 use Rattle.lra_back.proofs.Moved.{TransfersBack, backs}

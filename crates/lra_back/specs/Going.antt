@@ -15,7 +15,7 @@ use Rattle.lra_program.specs.ProgramViews.{cond_view}
 use Rattle.lra_program.specs.declared.program.GlobalVariable.{GlobalVariable}
 use Rattle.lra_program.specs.Sites.{Site}
 use Rattle.lra_operations.specs.Tree.{Node}
-use Rattle.lra_flow.specs.Pass.{Leaves}
+use Rattle.lra_analysis_spec.specs.Pass.{Filters}
 use Rattle.lra_ways.specs.Ways.{comes_to, denies}
 use Rattle.lra_ways.specs.Stretches.{AreWays, End, leaves, meets, Stretch}
 use Rattle.lra_sides.specs.Sides.{greatest_paths}
@@ -186,7 +186,7 @@ pub record IsPrepared {V H : Type 0} (m : Abstraction V H) (b : BackwardAbstract
   pub asserted : IsAsserted g p base condition
   pub at_assertion : V
   pub is_there : slice_get forward p ≡ Some at_assertion
-  pub denied : Leaves (dropping m b).forward base condition false at_assertion e t.seed
+  pub denied : Filters (dropping m b).forward base condition false at_assertion e t.seed
   pub sources : AreSources globals sites g t.sources.items
 
 -- what the failure to find paths means here

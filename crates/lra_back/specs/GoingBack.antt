@@ -4,7 +4,7 @@ use Rattle.lra_domain.specs.Actions.{Action}
 use Rattle.lra_domain.specs.Abstraction.{worse}
 use Rattle.lra_domain.specs.declared.Exactness.{Exactness}
 use Rattle.lra_domain.specs.declared.Exactness.TheVariants.{Exact}
-use Rattle.lra_flow.specs.Pass.{JoinsRunning, RunsFrom}
+use Rattle.lra_analysis_spec.specs.Pass.{JoinsRunning, RunsFrom}
 use Rattle.lra_back.specs.Operations.{BackOperations, Undoes}
 
 -- from the value behind the changes to the one before them: over the last of them first

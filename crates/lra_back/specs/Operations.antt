@@ -8,8 +8,8 @@ use Rattle.lra_domain.specs.Abstraction.{Abstraction}
 use Rattle.lra_domain.specs.Parts.{CapsWithin}
 use Rattle.lra_domain.specs.declared.Exactness.{Exactness}
 use Rattle.lra_domain.specs.declared.Exactness.TheVariants.{Exact, Flagged}
-use Rattle.lra_flow.specs.Operations as forward
-use Rattle.lra_flow.specs.Operations.{Operations}
+use Rattle.lra_analysis_spec.specs.Operations as forward
+use Rattle.lra_analysis_spec.specs.Operations.{Operations}
 
 pub record BackOperations (V H : Type 0) : Type 1 where
   pub forward : Operations V H
@@ -20,7 +20,7 @@ pub record BackOperations (V H : Type 0) : Type 1 where
 -- every operation is exact and gives its defined result
 abbrev pub defined : {V H : Type 0} → Abstraction V H → BackwardAbstraction V → BackOperations V H
 defined m b = record {
-  forward = forward.defined m;
+  forward = forward.exact_operations m;
   undone = λ step v e w. (e ≡ Exact) × b.pre step v w;
   met = λ u v e w. (e ≡ Exact) × b.met u v w;
 }
@@ -29,7 +29,7 @@ defined m b = record {
 -- stores that it must have
 abbrev pub dropping : {V H : Type 0} → Abstraction V H → BackwardAbstraction V → BackOperations V H
 dropping m b = record {
-  forward = forward.dropping m;
+  forward = forward.lossy_operations m;
   undone = λ step v e w. TransfersBackTo m b step v e w × (m.dims w ≡ m.dims v) × CapsWithin (m.capped v) (m.capped w);
   met = λ u v e w. MeetsBoth m b u v e w × (m.dims v ≡ m.dims u) × (m.dims w ≡ m.dims u) ×
       CapsWithin (λ c. m.capped u c × m.capped v c) (m.capped w);
@@ -39,7 +39,7 @@ dropping m b = record {
 -- the first flagged operation strains on the operands that the definition has there
 abbrev pub straining : {V H : Type 0} → Abstraction V H → BackwardAbstraction V → BackOperations V H
 straining m b = record {
-  forward = forward.straining m;
+  forward = forward.straining_operations m;
   undone = λ step v e w. (e ≡ Exact → b.pre step v w) × (e ≡ Flagged → b.pre_strains step v);
   met = λ u v e w. (e ≡ Exact → b.met u v w) × (e ≡ Flagged → b.meet_strains u v);
 }

@@ -9,7 +9,7 @@ use Rattle.lra_domain.specs.declared.Exactness.{Exactness}
 use Rattle.lra_domain.specs.declared.Exactness.TheVariants.{Exact}
 use Rattle.lra_domain.specs.declared.Mode.{Mode}
 use Rattle.lra_domain.specs.declared.Mode.TheVariants.{Join, Widen}
-use Rattle.lra_flow.specs.Pass.{noted}
+use Rattle.lra_analysis_spec.specs.Pass.{noted}
 use Rattle.lra_back.specs.Operations.{BackOperations}
 use Rattle.lra_back.specs.GoingBack.{IsNext}
 
@@ -35,7 +35,7 @@ module _ {V H : Type 0} (ops : BackOperations V H) where
   AreStarted [] (h ∷ heads) = ⊥
   AreStarted (x ∷ forward) [] = ⊥
   AreStarted (x ∷ forward) (h ∷ heads) =
-      (v : V) × ops.forward.void (ops.forward.dims x) 1 v × ops.forward.started v (no_rows (ops.forward.dims x)) h ×
+      (v : V) × ops.forward.bottom (ops.forward.dims x) 1 v × ops.forward.started v (no_rows (ops.forward.dims x)) h ×
       AreStarted forward heads
 
   -- the head stays, and is stable, or grows

@@ -5,7 +5,7 @@ use Rattle.lra_domain.specs.Abstraction.{Abstraction}
 use Rattle.lra_domain.specs.declared.Exactness.{Exactness}
 use Rattle.lra_domain.specs.declared.Mode.{Mode}
 use Rattle.lra_domain.specs.declared.Mode.TheVariants.{Widen}
-use Rattle.lra_flow.specs.Pass.{noted}
+use Rattle.lra_analysis_spec.specs.Pass.{noted}
 use Rattle.lra_back.specs.Operations.{BackOperations, dropping}
 use Rattle.lra_back.specs.Rounds as rounds
 use Rattle.lra_back.specs.Going.{AreHeads, IsNextAt, task_view}

@@ -3,7 +3,7 @@ use Rattle.std.specs.Prelude.{◌≡◌, ◌≢◌, ◌≤◌, ℕ, suc, ℤ, Li
 use Rattle.std.specs.Prelude.{Contains, slice_get}
 use Rattle.lra_domain.specs.Actions.{Action}
 use Rattle.lra_domain.specs.Changes.{AllCanBeMade, dims_after_actions}
-use Rattle.lra_flow.specs.Room.{most_live}
+use Rattle.lra_analysis_spec.specs.LiveLimit.{most_live}
 use Rattle.lra_domain.specs.Backward.{BackwardAbstraction}
 use Rattle.lra_domain.specs.Abstraction.{Abstraction}
 use Rattle.lra_domain.specs.declared.Exactness.{Exactness}
@@ -13,8 +13,8 @@ use Rattle.lra_program.specs.Step.{Config, test}
 use Rattle.lra_program.specs.Run.{Point, IsOn, IsFailing, Reaches, Steps}
 use Rattle.lra_program.specs.Sites.{Site}
 use Rattle.lra_operations.specs.Tree.{Node}
-use Rattle.lra_flow.specs.Analysis.{IsUnreachable}
-use Rattle.lra_flow.specs.Pass.{Leaves, noted}
+use Rattle.lra_analysis_spec.specs.Analysis.{IsUnreachable}
+use Rattle.lra_analysis_spec.specs.Pass.{Filters, noted}
 use Rattle.lra_ways.specs.Ways.{Segment, comes_to, denies, does}
 use Rattle.lra_paths.specs.Paths.{leading_in, next_segments}
 use Rattle.lra_back.specs.Operations.{BackOperations, defined, dropping, straining}
@@ -76,7 +76,7 @@ pub record Backs {V H : Type 0} (ops : BackOperations V H) (globals : List Globa
   pub is_there : slice_get forward p ≡ Some at_assertion
   pub exactness : Exactness
   pub seed : V
-  pub denied : Leaves ops.forward base condition false at_assertion exactness seed
+  pub denied : Filters ops.forward base condition false at_assertion exactness seed
   pub first : List H
   pub started : AreStarted ops forward first
   pub last : List H

@@ -3,7 +3,7 @@
 ghost use Rattle.std.specs.Prelude.{◌≡◌, ◌≢◌, ◌↔◌, ℕ, [], true, map, Err, IfOk};
 ghost use Rattle.lra_operations.specs.Tree.{Node};
 ghost use Rattle.lra_operations.specs.TreeViews.{node_view, site_view};
-ghost use Rattle.lra_flow.specs.Analysis.{IsUnreachable};
+ghost use Rattle.lra_analysis_spec.specs.Analysis.{IsUnreachable};
 ghost use Rattle.lra_sides.specs.Tables.{IsTable};
 ghost use Rattle.lra_paths.specs.Paths.{AreFewIn, HasTooManyIn};
 ghost use Rattle.lra_paths.specs.Sources.{to_goal};
@@ -21,7 +21,7 @@ use crate::seeds::{deny, find_asserted};
 use crate::tasks::Task;
 use lra_domain::{Backward, Exactness};
 use lra_operations::{InlinedProgram, Site};
-use lra_outcomes::note;
+use lra_pass_results::note;
 use lra_paths::{Paths, PathsFailure, Source, find_paths};
 use lra_program::GlobalVariable;
 use lra_ways::Goal;

@@ -22,7 +22,7 @@ pub struct Growth {
 fn start<D: Backward>(alloc: Global, dims: usize) -> Result<D::Head, AllocError>
     requires { dims ≤ 2 ^ 30 }
     ensures starts { IfOk result (λ h. (v : D) ×
-        (dropping D.abstraction D.backward_abstraction).forward.void dims 1 v ×
+        (dropping D.abstraction D.backward_abstraction).forward.bottom dims 1 v ×
         (dropping D.abstraction D.backward_abstraction).forward.started v (no_rows dims) h) }
     ensures dims { IfOk result (λ h. D.abstraction.head_dims h ≡ dims) }
     ensures fits { IfOk result (λ h. RankFits (D.abstraction.rank h)) }

@@ -12,7 +12,7 @@ use crate::paths::Found;
 use crate::rounds::Going;
 use crate::tasks::Task;
 use lra_domain::{Backward, worse};
-use lra_outcomes::note;
+use lra_pass_results::note;
 use std::alloc::{AllocError, Global};
 
 /// The values at the points, and the first flagged point.

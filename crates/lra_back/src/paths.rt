@@ -3,7 +3,7 @@
 ghost use Rattle.std.specs.Prelude.{◌≡◌, Some, IfOk, OnOk};
 ghost use Rattle.lra_domain.specs.declared.Exactness.{Exactness};
 ghost use Rattle.lra_domain.specs.Abstraction.{worse};
-ghost use Rattle.lra_flow.specs.Pass.{JoinsRunning};
+ghost use Rattle.lra_analysis_spec.specs.Pass.{JoinsRunning};
 ghost use Rattle.lra_sides.specs.TableSides.{all_done, lists_done};
 ghost use Rattle.lra_back.specs.Operations.{dropping};
 ghost use Rattle.lra_back.specs.GoingBack.{AllComeBack, ComesBack, ComesFromAll};

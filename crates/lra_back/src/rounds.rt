@@ -12,7 +12,7 @@ ghost use Rattle.lra_sides.specs.Tables.{IsTable};
 use crate::heads::grow;
 use crate::tasks::Task;
 use lra_domain::{Backward, Mode};
-use lra_outcomes::note;
+use lra_pass_results::note;
 use lra_paths::Source;
 use lra_ways::Goal;
 use std::alloc::AllocError;

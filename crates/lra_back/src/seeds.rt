@@ -8,17 +8,17 @@ ghost use Rattle.lra_operations.specs.Tree.{Node};
 ghost use Rattle.lra_ways.specs.Ways.{does};
 ghost use Rattle.lra_ways.specs.Stretches.{AreWays};
 ghost use Rattle.lra_ways.specs.StretchViews.{move_view, seen, stretch_view};
-ghost use Rattle.lra_flow.specs.Pass.{Leaves};
-ghost use Rattle.lra_flow.specs.Room.{most_live};
+ghost use Rattle.lra_analysis_spec.specs.Pass.{Filters};
+ghost use Rattle.lra_analysis_spec.specs.LiveLimit.{most_live};
 ghost use Rattle.lra_back.specs.Operations.{dropping};
 ghost use Rattle.lra_back.specs.Traced.{IsAsserted};
 ghost use Rattle.lra_back.specs.Going.{is_denial, condition_seen};
 
 use crate::paths::Found;
-use lra_change::leave;
 use lra_domain::{Backward, Exactness};
 use lra_operations::Op;
 use lra_program::Cond;
+use lra_transfer::filter_condition;
 use lra_ways::{End, Goal, Move, Stretch};
 use std::alloc::{AllocError, Global};
 
@@ -91,14 +91,14 @@ pub fn deny<D: Backward>(
 ) -> Result<Found<D>, AllocError>
     requires { D.abstraction.dims value.now ≤ most_live }
     ensures leaves { IfOk result
-        (λ r. Leaves (dropping D.abstraction D.backward_abstraction).forward
+        (λ r. Filters (dropping D.abstraction D.backward_abstraction).forward
         asserted.entry.base (cond_view asserted.entry.condition.now) false
         value.now r.exactness r.value) }
     ensures dims { IfOk result (λ r. D.abstraction.dims r.value ≡ D.abstraction.dims value.now) }
 {
     let Asserted { base, condition } = asserted;
     let mut seed = value.copy(alloc)?;
-    let exactness = leave(alloc, base, condition, false, &mut seed, Exactness::Exact)?;
+    let exactness = filter_condition(alloc, base, condition, false, &mut seed, Exactness::Exact)?;
     Ok(Found {
         value: seed,
         exactness,

@@ -3,7 +3,7 @@
 ghost use Rattle.std.specs.Prelude.{◌≡◌, ◌≤◌, ◌<◌, ◌^◌, ℕ, length, Some, None, slice_get, IfOk};
 ghost use Rattle.lra_domain.specs.declared.Exactness.{Exactness};
 ghost use Rattle.lra_domain.specs.Abstraction.{worse};
-ghost use Rattle.lra_flow.specs.Pass.{RunsFrom};
+ghost use Rattle.lra_analysis_spec.specs.Pass.{RunsFrom};
 ghost use Rattle.lra_back.specs.Operations.{dropping};
 ghost use Rattle.lra_back.specs.GoingBack.{JoinsSeed};
 ghost use Rattle.lra_back.specs.Rounds.{seed_at};

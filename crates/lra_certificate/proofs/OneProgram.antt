@@ -6,7 +6,7 @@ use Rattle.lra_resolution_spec.specs.Resolve.{resolve}
 use Rattle.lra_program.specs.Program.{Program}
 use Rattle.lra_operations.specs.Agree.{IsInlinedTree}
 use Rattle.lra_operations.specs.Tree.{Node}
-use Rattle.lra_flow.proofs.OneTree.{one_tree}
+use Rattle.lra_analysis_spec.proofs.OneTree.{one_tree}
 use Rattle.lra_front_end.proofs.EachAnswer.{each_answer}
 use Rattle.lra_front_end.proofs.StageSteps as stages
 use Rattle.lra_certificate.specs.Claims.{IsProgram, program_of}

@@ -15,10 +15,10 @@ use Rattle.lra_program.specs.Sites.{Site, sites_of}
 use Rattle.lra_operations.specs.Tree.{Node}
 use Rattle.lra_operations.specs.TreeViews.{site_view}
 use Rattle.lra_operations.specs.declared.tree.Site as declared
-use Rattle.lra_flow.specs.Operations.{dropping}
-use Rattle.lra_flow.specs.Plan.{plan_of}
-use Rattle.lra_iter.specs.Solved.{IsSolved}
-use Rattle.lra_iter.proofs.Counting.{iteration_fails_once}
+use Rattle.lra_analysis_spec.specs.Operations.{lossy_operations}
+use Rattle.lra_analysis_spec.specs.Plan.{plan_of}
+use Rattle.lra_fixpoint.specs.Solved.{IsSolved}
+use Rattle.lra_fixpoint.proofs.Counting.{iteration_fails_once}
 use Rattle.lra_poly_domain.specs.Laws.{polyhedron_laws}
 use Rattle.lra_poly_domain.specs.Abstraction.{polyhedron_abstraction}
 use Rattle.lra_report_states.specs.Polyhedra.{shown_polyhedron}
@@ -80,7 +80,7 @@ module _ (t : FileTree) (g : Node) (sites : List Site) (has : HasInlinedTree t g
       solved.solves polyhedron_laws p v s there site
 
   once : FailOnce solved.result
-  once = iteration_fails_once (dropping polyhedron_abstraction) (plan_of certify_options constants) (resolve t) g solved.result
+  once = iteration_fails_once (lossy_operations polyhedron_abstraction) (plan_of certify_options constants) (resolve t) g solved.result
       (numbered (resolve t) g has.is_graph) solved.derived
 
   closed : AreClosed rational_points (resolve t) g values verdicts

@@ -10,11 +10,11 @@ use Rattle.lra_program.specs.Program.{Expr}
 use Rattle.lra_domain.specs.declared.Exactness.{Exactness}
 use Rattle.lra_domain.specs.Abstraction.{Abstraction}
 use Rattle.lra_operations.specs.Tree.{Completion, normal, jump, Node, Arms, no_arms, entry, arm}
-use Rattle.lra_flow.specs.Operations.{dropping}
-use Rattle.lra_flow.specs.MovesOf.{value_moves}
-use Rattle.lra_flow.specs.Pass.{Result, goes_on, in_turn, MatchesNone, Enters, JoinsRunning, ComesOut}
-use Rattle.lra_flow.proofs.Sound.{right_jump}
-use Rattle.lra_change.proofs.OperationWidths.{value_dims}
+use Rattle.lra_analysis_spec.specs.Operations.{lossy_operations}
+use Rattle.lra_analysis_spec.specs.MovesOf.{value_moves}
+use Rattle.lra_analysis_spec.specs.Pass.{PassResult, goes_on, in_turn, MatchesNone, Enters, JoinsRunning, ComesOut}
+use Rattle.lra_analysis_spec.proofs.Sound.{right_jump}
+use Rattle.lra_transfer.proofs.OperationWidths.{value_dims}
 use Rattle.lra_ways.specs.Ways.{Step, goes, Way, Segment, Suffix, through, enter, outs, inside, led, led_way}
 use Rattle.lra_ways.specs.Ways.{through_arms, through_labels, enter_arms, enter_labels, outs_arms, inside_arms}
 use Rattle.lra_closed.specs.Points.{PointsOf, KeepPoints}
@@ -28,7 +28,7 @@ use Rattle.lra_closed.proofs.Sequences.{Closes, through_both, outs_both, tree_cl
 module _ (V H X : Type 0) (m : Abstraction V H) (o : PointsOf V H X) where
   -- Arms of a `switch` to whose labels the steps go from the value v; what has no match is `other`, and `running` is what
   -- runs before these arms.
-  pub record AreArmsClosed (go : CaseLabel → Step) (d : Bool) (v other : V) (arms : Arms) (running : Option V) (r : Result V) : Type 0 where
+  pub record AreArmsClosed (go : CaseLabel → Step) (d : Bool) (v other : V) (arms : Arms) (running : Option V) (r : PassResult V) : Type 0 where
     pub passes : (u : V) → running ≡ Some u → (h : Completion) (ops : List Step) → Contains (through_arms arms h) ops → KeptBy m o u ops (IsLeft r h)
     pub enters : (u : V) → running ≡ Some u → (way : Way) → Contains (enter_arms arms) way → KeptBy m o u way.ops (IsMet r way.goal)
     pub labels_pass : (h : Completion) (ops : List Step) → Contains (through_labels go arms h) ops → KeptBy m o v ops (IsLeft r h)
@@ -40,7 +40,8 @@ module _ (V H X : Type 0) (m : Abstraction V H) (o : PointsOf V H X) where
   module _ (keep : KeepPoints m o) where
     -- what comes in at a label
     pub label_keeps : (base : ℕ) (e : Expr) (labels : List CaseLabel) (l : CaseLabel) (v other : V) (c x : Exactness) (u : V)
-        → MatchesNone (dropping m) base e labels v c other → Enters (dropping m) base e l v other x u → Keeps m o v (goes base e labels l ∷ []) u
+        → MatchesNone (lossy_operations m) base e labels v c other → Enters (lossy_operations m) base e l v other x u →
+        Keeps m o v (goes base e labels l ∷ []) u
     label_keeps base e labels (Case z) v other c x u none is =
         one_step V H X m o (goes base e labels (Case z)) v u (value_dims V H m base e z true v x u is)
         (made_keep V H X o m keep (value_moves (m.dims v) base true e z) v x u is)
@@ -49,16 +50,16 @@ module _ (V H X : Type 0) (m : Abstraction V H) (o : PointsOf V H X) where
         (one_step V H X m o (goes base e labels Default) v other (none_dims V H X o m keep base e labels v c other none)
         (none_keep V H X o m keep base e labels v c other none (m.dims v) refl))
 
-    enters_keep : (run : Option V) (u : V) (y : Exactness) (w : V) → JoinsRunning (dropping m) run u y w → Keeps m o u [] w
+    enters_keep : (run : Option V) (u : V) (y : Exactness) (w : V) → JoinsRunning (lossy_operations m) run u y w → Keeps m o u [] w
     enters_keep None u y w (same, exact) = same_keeps V H X m o u w same
     enters_keep (Some running) u y w joined = join_right V H X m o keep running u y w joined
 
-    runs_keep : (run : Option V) (u : V) (y : Exactness) (w : V) → JoinsRunning (dropping m) run u y w → (t : V) → run ≡ Some t → Keeps m o t [] w
+    runs_keep : (run : Option V) (u : V) (y : Exactness) (w : V) → JoinsRunning (lossy_operations m) run u y w → (t : V) → run ≡ Some t → Keeps m o t [] w
     runs_keep None u y w is t some = absurd (none-some t some)
     runs_keep (Some running) u y w joined t some =
         subst (λ (x : V). Keeps m o x [] w) (same_Some running t some) (join_left V H X m o keep running u y w joined)
 
-    out_runs : (d : Bool) (run : Option V) (other : V) (x : Exactness) (w : V) → ComesOut (dropping m) d run other x w → (t : V) → run ≡ Some t
+    out_runs : (d : Bool) (run : Option V) (other : V) (x : Exactness) (w : V) → ComesOut (lossy_operations m) d run other x w → (t : V) → run ≡ Some t
         → Keeps m o t [] w
     out_runs true None other x w is t some = absurd (none-some t some)
     out_runs false None other x w is t some = absurd (none-some t some)
@@ -67,7 +68,7 @@ module _ (V H X : Type 0) (m : Abstraction V H) (o : PointsOf V H X) where
     out_runs false (Some running) other x w joined t some =
         subst (λ (y : V). Keeps m o y [] w) (same_Some running t some) (join_left V H X m o keep running other x w joined)
 
-    out_past : (d : Bool) (run : Option V) (other : V) (x : Exactness) (w : V) → ComesOut (dropping m) d run other x w → d ≡ false
+    out_past : (d : Bool) (run : Option V) (other : V) (x : Exactness) (w : V) → ComesOut (lossy_operations m) d run other x w → d ≡ false
         → Keeps m o other [] w
     out_past true None other x w (same, exact) none = same_keeps V H X m o other w same
     out_past false None other x w (same, exact) none = same_keeps V H X m o other w same
@@ -76,7 +77,7 @@ module _ (V H X : Type 0) (m : Abstraction V H) (o : PointsOf V H X) where
 
     -- behind the last arm
     pub arms_end : (go : CaseLabel → Step) (d : Bool) (v other : V) (run : Option V) (x : Exactness) (w : V) (f : Option ℕ)
-        → ComesOut (dropping m) d run other x w → AreArmsClosed go d v other no_arms run (goes_on [] w f)
+        → ComesOut (lossy_operations m) d run other x w → AreArmsClosed go d v other no_arms run (goes_on [] w f)
     arms_end go d v other run x w f out = record {
       passes = passes;
       enters = λ u some way there. absurd (contains_none way there);
@@ -94,8 +95,9 @@ module _ (V H X : Type 0) (m : Abstraction V H) (o : PointsOf V H X) where
         passes u some (jump j) ops there = absurd (contains_none ops there)
 
     -- behind a label
-    pub arms_labelled : (go : CaseLabel → Step) (d : Bool) (v other : V) (l : CaseLabel) (arms : Arms) (run : Option V) (u w : V) (y : Exactness) (r : Result V)
-        → Keeps m o v (go l ∷ []) u → JoinsRunning (dropping m) run u y w → AreArmsClosed go d v other arms (Some w) r
+    pub arms_labelled : (go : CaseLabel → Step) (d : Bool) (v other : V) (l : CaseLabel) (arms : Arms) (run : Option V) (u w : V) (y : Exactness)
+        (r : PassResult V)
+        → Keeps m o v (go l ∷ []) u → JoinsRunning (lossy_operations m) run u y w → AreArmsClosed go d v other arms (Some w) r
         → AreArmsClosed go d v other (entry l arms) run r
     arms_labelled go d v other l arms run u w y r comes joins i = record {
       passes = λ t some h ops there. then_by V H X m o t w [] ops (IsLeft r h) (runs_keep run u y w joins t some) (i.passes w refl h ops there);
@@ -124,9 +126,9 @@ module _ (V H X : Type 0) (m : Abstraction V H) (o : PointsOf V H X) where
         into = keeps_then V H X m o v u w (go l ∷ []) [] comes (enters_keep run u y w joins)
 
     -- a tree and then the arms behind it
-    module _ (go : CaseLabel → Step) (d : Bool) (v other : V) (a : Node) (arms : Arms) (run : Option V) (w : V) (s t : Result V)
+    module _ (go : CaseLabel → Step) (d : Bool) (v other : V) (a : Node) (arms : Arms) (run : Option V) (w : V) (s t : PassResult V)
         (runs : (u : V) → run ≡ Some u → w ≡ u) (i : IsClosed m o a w s) (j : AreArmsClosed go d v other arms (Some s.normal) t) where
-      abbrev whole : Result V
+      abbrev whole : PassResult V
       whole = in_turn s t t.normal t.flag
 
       both : Closes V H X m o (through_both (through a) (through_arms arms)) (enter_arms (arm a arms)) (outs_both (outs a) (through_arms arms) (outs_arms arms))

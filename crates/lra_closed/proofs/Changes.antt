@@ -9,12 +9,12 @@ use Rattle.lra_domain.specs.Actions.{Action}
 use Rattle.lra_domain.specs.declared.Exactness.{Exactness}
 use Rattle.lra_domain.specs.Abstraction.{Abstraction}
 use Rattle.lra_domain.specs.Moves.{Moves, stay, make, first_then, join_of}
-use Rattle.lra_flow.specs.Operations.{dropping}
-use Rattle.lra_flow.specs.Moves.{AreMade}
-use Rattle.lra_flow.specs.MovesOf.{value_moves, number_moves}
-use Rattle.lra_flow.specs.Seen.{seen_of}
-use Rattle.lra_flow.specs.Pass.{MatchesNone}
-use Rattle.lra_change.proofs.OperationWidths.{value_dims}
+use Rattle.lra_analysis_spec.specs.Operations.{lossy_operations}
+use Rattle.lra_analysis_spec.specs.Moves.{AreMade}
+use Rattle.lra_analysis_spec.specs.MovesOf.{value_moves, number_moves}
+use Rattle.lra_analysis_spec.specs.Linearization.{linearized}
+use Rattle.lra_analysis_spec.specs.Pass.{MatchesNone}
+use Rattle.lra_transfer.proofs.OperationWidths.{value_dims}
 use Rattle.lra_sides.specs.Sides.{sides}
 use Rattle.lra_sides.specs.StepMoves.{unmatched_moves}
 use Rattle.lra_closed.specs.Points.{PointsOf, LeadsBy, KeepPoints}
@@ -42,7 +42,7 @@ module _ (V H X : Type 0) (o : PointsOf V H X) where
       two j z y b (one i x z a h first) last
 
   module _ (m : Abstraction V H) (keep : KeepPoints m o) where
-    pub made_keep : (p : Moves) (v : V) (e : Exactness) (w : V) → AreMade (dropping m) p v e w → SidesKeep v p w
+    pub made_keep : (p : Moves) (v : V) (e : Exactness) (w : V) → AreMade (lossy_operations m) p v e w → SidesKeep v p w
     made_keep stay v e w (same, exact) actions x y there h led = stays_keep v w same actions x y there h led
     made_keep (make step) v e w made actions x y there h led =
         let (z, one, still) = subst (λ (l : List Action). LeadsBy o l x y) (sym (one_from (step ∷ []) actions there)) led in
@@ -56,17 +56,17 @@ module _ (V H X : Type 0) (o : PointsOf V H X) where
         ]
 
     -- what is left of a value where an expression has none of the labels' values
-    pub none_keep : (base : ℕ) (e : Expr) (labels : List CaseLabel) (v : V) (x : Exactness) (w : V) → MatchesNone (dropping m) base e labels v x w
-        → (live : ℕ) → m.dims v ≡ live → SidesKeep v (unmatched_moves live (seen_of live base e) labels) w
+    pub none_keep : (base : ℕ) (e : Expr) (labels : List CaseLabel) (v : V) (x : Exactness) (w : V) → MatchesNone (lossy_operations m) base e labels v x w
+        → (live : ℕ) → m.dims v ≡ live → SidesKeep v (unmatched_moves live (linearized live base e) labels) w
     none_keep base e [] v x w (same, exact) live wide = stays_keep v w same
     none_keep base e (Case z ∷ labels) v x w (u, c, d, one, rest, worst) live wide =
-        let first : SidesKeep v (number_moves live false (seen_of live base e) z) u =
+        let first : SidesKeep v (number_moves live false (linearized live base e) z) u =
         subst (λ (n : ℕ). SidesKeep v (value_moves n base false e z) u) wide (made_keep (value_moves (m.dims v) base false e z) v c u one) in
         let last = none_keep base e labels u d w rest live (value_dims V H m base e z false v c u one ∙ wide) in
-        sides_then (number_moves live false (seen_of live base e) z) (unmatched_moves live (seen_of live base e) labels) v u w first last
+        sides_then (number_moves live false (linearized live base e) z) (unmatched_moves live (linearized live base e) labels) v u w first last
     none_keep base e (Default ∷ labels) v x w rest live wide = none_keep base e labels v x w rest live wide
 
-    pub none_dims : (base : ℕ) (e : Expr) (labels : List CaseLabel) (v : V) (x : Exactness) (w : V) → MatchesNone (dropping m) base e labels v x w
+    pub none_dims : (base : ℕ) (e : Expr) (labels : List CaseLabel) (v : V) (x : Exactness) (w : V) → MatchesNone (lossy_operations m) base e labels v x w
         → m.dims w ≡ m.dims v
     none_dims base e [] v x w (same, exact) = ap (λ (u : V). m.dims u) same
     none_dims base e (Case z ∷ labels) v x w (u, c, d, one, rest, worst) =

@@ -7,9 +7,9 @@ use Rattle.lra_domain.specs.Abstraction.{Abstraction}
 use Rattle.lra_program.specs.Program.{Cond}
 use Rattle.lra_program.specs.Step.{test}
 use Rattle.lra_operations.specs.Tree.{Exit, broken, continued, returned, Completion, normal, jump, Node, iterate}
-use Rattle.lra_flow.specs.Plan.{Plan, Widening, mode_at}
-use Rattle.lra_flow.specs.Operations.{dropping}
-use Rattle.lra_flow.specs.Pass.{value, Result, noted, jumps_of, Grows, Pass}
+use Rattle.lra_analysis_spec.specs.Plan.{Plan, Widening, mode_at}
+use Rattle.lra_analysis_spec.specs.Operations.{lossy_operations}
+use Rattle.lra_analysis_spec.specs.Pass.{value, PassResult, noted, jumps_of, AscendingIteration, Pass}
 use Rattle.lra_ways.specs.Ways.{Step, does, comes_to, Way, Segment, Suffix, through, enter, outs, inside, into_body, out_of_body, segment_to}
 use Rattle.lra_closed.specs.Points.{PointsOf, KeepPoints}
 use Rattle.lra_closed.specs.Closed.{Keeps, KeptBy, KeptFrom, IsLeft, IsMet, IsClosed}
@@ -18,23 +18,23 @@ use Rattle.lra_closed.proofs.WaysOn.{at_once, then_by, keeps_then, keeps_on, tes
 use Rattle.lra_closed.proofs.Parts.{IsPart, met_more, from_more, from_met, to_same}
 
 -- the round is passed with the value at the loop's point and this one where the loop ends
-abbrev pub round_of : {V : Type 0} → ℕ → V → V → Option ℕ → Result V → Result V
+abbrev pub round_of : {V : Type 0} → ℕ → V → V → Option ℕ → PassResult V → PassResult V
 round_of q u out f z = record z { entries = value q u ∷ z.entries; normal = out; flag = f }
 
-same_jumps : {V : Type 0} (k : Exit) (q : ℕ) (u out : V) (f : Option ℕ) (z : Result V) (w : V) → Contains (jumps_of k z) w
+same_jumps : {V : Type 0} (k : Exit) (q : ℕ) (u out : V) (f : Option ℕ) (z : PassResult V) (w : V) → Contains (jumps_of k z) w
     → Contains (jumps_of k (round_of q u out f z)) w
 same_jumps broken q u out f z w h = h
 same_jumps continued q u out f z w h = h
 same_jumps returned q u out f z w h = h
 
-round_part : {V : Type 0} (q : ℕ) (u out : V) (f : Option ℕ) (z : Result V) → IsPart z (round_of q u out f z)
+round_part : {V : Type 0} (q : ℕ) (u out : V) (f : Option ℕ) (z : PassResult V) → IsPart z (round_of q u out f z)
 round_part q u out f z x h = contains_tail (value q u) x z.entries h
 
 module _ (V H X : Type 0) (m : Abstraction V H) (o : PointsOf V H X) (keep : KeepPoints m o) (q base : ℕ) (c : Cond) (a : Node) where
   -- the loop's point has a value, from which the body is gone through; what is left behind it comes back to that value
-  module _ (u w out : V) (f : Option ℕ) (z : Result V) (into : Keeps m o u (does (test base c true) ∷ []) w) (body : IsClosed m o a w z)
+  module _ (u w out : V) (f : Option ℕ) (z : PassResult V) (into : Keeps m o u (does (test base c true) ∷ []) w) (body : IsClosed m o a w z)
       (back : Keeps m o z.normal [] u) (ends : Keeps m o u (does (test base c false) ∷ []) out) where
-    abbrev whole : Result V
+    abbrev whole : PassResult V
     whole = round_of q u out f z
 
     here : Contains whole.entries (value q u)
@@ -101,24 +101,25 @@ module _ (V H X : Type 0) (m : Abstraction V H) (o : PointsOf V H X) (keep : Kee
       goes = goes_in_loop;
     }
 
-  module _ (set : Plan) (inside : (f : Option ℕ) (v : V) (r : Result V) → Pass V H (dropping m) set a f v r → IsClosed m o a v r) where
+  module _ (set : Plan) (inside : (f : Option ℕ) (v : V) (r : PassResult V) → Pass V H (lossy_operations m) set a f v r → IsClosed m o a v r) where
     -- the last round, from the value u of the loop's point to s
-    pub record LastRound (u : V) (s : Result V) : Type 0 where
+    pub record LastRound (u : V) (s : PassResult V) : Type 0 where
       pub first : V
-      pub result : Result V
+      pub result : PassResult V
       pub into : Keeps m o u (does (test base c true) ∷ []) first
       pub body : IsClosed m o a first result
       pub same : s ≡ record result { entries = value q u ∷ result.entries }
       pub back : Keeps m o s.normal [] u
 
     -- and u has the points of each earlier head
-    pub record Stable (h : H) (u : V) (s : Result V) : Type 0 where
+    pub record Stable (h : H) (u : V) (s : PassResult V) : Type 0 where
       pub on : (x : X) → o.head_on h x → o.on u x
       pub dims : m.dims u ≡ m.head_dims h
       pub last : LastRound u s
 
-    pub grown : (widening : Widening) (left : ℕ) (f : Option ℕ) (h : H) (later : List H) (u : V) (s : Result V)
-        → Grows V H (dropping m) q base c (Pass V H (dropping m) set a) widening left f h later u s → m.head_well_formed h → Stable h u s
+    pub grown : (widening : Widening) (left : ℕ) (f : Option ℕ) (h : H) (later : List H) (u : V) (s : PassResult V)
+        → AscendingIteration V H (lossy_operations m) q base c (Pass V H (lossy_operations m) set a) widening left f h later u s → m.head_well_formed h →
+        Stable h u s
     grown widening left f h [] u s ((e, valued, (w, d, z, holds, pass, is)), stays) formed = record {
       on = keep.valued h e u valued.0;
       dims = valued.1;

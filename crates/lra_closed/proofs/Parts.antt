@@ -3,7 +3,7 @@ use Rattle.std.proofs.Common.{◌≡◌, ℕ, List, ◌++◌, Option, subst}
 use Rattle.std.specs.List.{Contains}
 use Rattle.std.proofs.lemmas.List.Elements.{Contains-append_left, Contains-append_right}
 use Rattle.lra_domain.specs.Abstraction.{Abstraction}
-use Rattle.lra_flow.specs.Pass.{Entry, value, failing, Result, in_turn}
+use Rattle.lra_analysis_spec.specs.Pass.{PassEntry, value, failing, PassResult, in_turn}
 use Rattle.lra_ways.specs.Ways.{Step, Goal, comes_to, denies, Way, Segment, Suffix, each_then, then_way, then_ways, then_out, then_outs}
 use Rattle.lra_ways.specs.Ways.{segment_by, segments_by}
 use Rattle.lra_closed.specs.Points.{PointsOf}
@@ -13,16 +13,16 @@ use Rattle.lra_closed.proofs.WaysOn.{then_by}
 
 module _ {V : Type 0} where
   -- what the one finds the other finds
-  abbrev pub IsPart : Result V → Result V → Type 0
-  IsPart s r = (x : Entry V) → Contains s.entries x → Contains r.entries x
+  abbrev pub IsPart : PassResult V → PassResult V → Type 0
+  IsPart s r = (x : PassEntry V) → Contains s.entries x → Contains r.entries x
 
-  pub left_part : (r s : Result V) (v : V) (f : Option ℕ) → IsPart r (in_turn r s v f)
+  pub left_part : (r s : PassResult V) (v : V) (f : Option ℕ) → IsPart r (in_turn r s v f)
   left_part r s v f x h = Contains-append_left r.entries s.entries x h
 
-  pub right_part : (r s : Result V) (v : V) (f : Option ℕ) → IsPart s (in_turn r s v f)
+  pub right_part : (r s : PassResult V) (v : V) (f : Option ℕ) → IsPart s (in_turn r s v f)
   right_part r s v f x h = Contains-append_right r.entries s.entries x h
 
-  met_in : (s r : Result V) → IsPart s r → (goal : Goal) (w : V) → IsMet s goal w → IsMet r goal w
+  met_in : (s r : PassResult V) → IsPart s r → (goal : Goal) (w : V) → IsMet s goal w → IsMet r goal w
   met_in s r part (comes_to q) w h = part (value q w) h
   met_in s r part (denies q) w h = part (failing q w) h
 
@@ -30,21 +30,21 @@ module _ (V H X : Type 0) (m : Abstraction V H) (o : PointsOf V H X) where
   pub among_more : (v : V) (ops : List Step) (P Q : V → Type 0) → ((w : V) → P w → Q w) → KeptBy m o v ops P → KeptBy m o v ops Q
   among_more v ops P Q more (w, is, keeps) = (w, more w is, keeps)
 
-  pub met_more : (s r : Result V) → IsPart s r → (v : V) (ops : List Step) (goal : Goal) → KeptBy m o v ops (IsMet s goal) → KeptBy m o v ops (IsMet r goal)
+  pub met_more : (s r : PassResult V) → IsPart s r → (v : V) (ops : List Step) (goal : Goal) → KeptBy m o v ops (IsMet s goal) → KeptBy m o v ops (IsMet r goal)
   met_more s r part v ops goal (w, is, keeps) = (w, met_in s r part goal w is, keeps)
 
-  pub from_more : (s r : Result V) → IsPart s r → (q : ℕ) (ops : List Step) (P Q : V → Type 0) → ((w : V) → P w → Q w) → KeptFrom m o s q ops P
+  pub from_more : (s r : PassResult V) → IsPart s r → (q : ℕ) (ops : List Step) (P Q : V → Type 0) → ((w : V) → P w → Q w) → KeptFrom m o s q ops P
       → KeptFrom m o r q ops Q
   from_more s r part q ops P Q more (v, there, (w, is, keeps)) = (v, part (value q v) there, (w, more w is, keeps))
 
-  pub from_met : (s r : Result V) → IsPart s r → (q : ℕ) (ops : List Step) (goal : Goal) → KeptFrom m o s q ops (IsMet s goal)
+  pub from_met : (s r : PassResult V) → IsPart s r → (q : ℕ) (ops : List Step) (goal : Goal) → KeptFrom m o s q ops (IsMet s goal)
       → KeptFrom m o r q ops (IsMet r goal)
   from_met s r part q ops goal (v, there, (w, is, keeps)) = (v, part (value q v) there, (w, met_in s r part goal w is, keeps))
 
   pub to_same : (v n : V) (ops : List Step) → KeptBy m o v ops (λ w. w ≡ n) → Keeps m o v ops n
   to_same v n ops (w, same, keeps) = subst (λ (u : V). Keeps m o v ops u) same keeps
 
-  pub from_then : (r : Result V) (q : ℕ) (n : V) (a b : List Step) (among : V → Type 0) → KeptFrom m o r q a (λ w. w ≡ n) → KeptBy m o n b among
+  pub from_then : (r : PassResult V) (q : ℕ) (n : V) (a b : List Step) (among : V → Type 0) → KeptFrom m o r q a (λ w. w ≡ n) → KeptBy m o n b among
       → KeptFrom m o r q (a ++ b) among
   from_then r q n a b among (v, there, one) two = (v, there, then_by V H X m o v n a b among (to_same v n a one) two)
 
@@ -57,14 +57,14 @@ module _ (V H X : Type 0) (m : Abstraction V H) (o : PointsOf V H X) where
         let (x, y, i, j, same) = pairs_from (λ (b a : List Step). a ++ b) xs ys ops there in
         subst (λ (l : List Step). KeptBy m o v l among) same (then_by V H X m o v n x y among (to_same v n x (one x i)) (two y j))
 
-    pub enter_then : (xs : List (List Step)) (ways : List Way) (r : Result V) → ((ops : List Step) → Contains xs ops → KeptBy m o v ops (λ w. w ≡ n))
+    pub enter_then : (xs : List (List Step)) (ways : List Way) (r : PassResult V) → ((ops : List Step) → Contains xs ops → KeptBy m o v ops (λ w. w ≡ n))
         → ((way : Way) → Contains ways way → KeptBy m o n way.ops (IsMet r way.goal))
         → (way : Way) → Contains (then_ways xs ways) way → KeptBy m o v way.ops (IsMet r way.goal)
     enter_then xs ways r one two way there =
         let (x, y, i, j, same) = pairs_from then_way xs ways way there in
         subst (λ (l : Way). KeptBy m o v l.ops (IsMet r l.goal)) same (then_by V H X m o v n x y.ops (IsMet r y.goal) (to_same v n x (one x i)) (two y j))
 
-  module _ (n : V) (s r : Result V) (part : IsPart s r) where
+  module _ (n : V) (s r : PassResult V) (part : IsPart s r) where
     pub leave_then : (xs : List Suffix) (ys : List (List Step)) (among : V → Type 0)
         → ((out : Suffix) → Contains xs out → KeptFrom m o s out.source out.ops (λ w. w ≡ n))
         → ((ops : List Step) → Contains ys ops → KeptBy m o n ops among)

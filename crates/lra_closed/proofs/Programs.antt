@@ -11,10 +11,10 @@ use Rattle.lra_domain.specs.Abstraction.{Abstraction}
 use Rattle.lra_program.specs.Program.{Program}
 use Rattle.lra_program.specs.Sites.{Site, sites_of}
 use Rattle.lra_operations.specs.Tree.{Node}
-use Rattle.lra_flow.specs.MovesOf.{first_values}
-use Rattle.lra_flow.specs.Pass.{Result, noted}
-use Rattle.lra_flow.specs.Analysis.{Solves}
-use Rattle.lra_change.proofs.OperationWidths.{globals_dims}
+use Rattle.lra_analysis_spec.specs.MovesOf.{first_values}
+use Rattle.lra_analysis_spec.specs.Pass.{PassResult, noted}
+use Rattle.lra_analysis_spec.specs.Analysis.{IsSolution}
+use Rattle.lra_transfer.proofs.OperationWidths.{globals_dims}
 use Rattle.lra_ways.specs.Ways.{Goal, comes_to, denies, Way, Segment, enter, inside}
 use Rattle.lra_sides.specs.Sides.{sides, written}
 use Rattle.lra_paths.specs.Paths.{same_goal, live_of, started, first_ways, next_segments, leading}
@@ -26,7 +26,7 @@ use Rattle.lra_closed.proofs.Changes.{split_leads, made_keep}
 use Rattle.lra_closed.proofs.Trees.{tree_closed}
 
 module _ (V H X : Type 0) (m : Abstraction V H) (o : PointsOf V H X) (keep : KeepPoints m o) where
-  module _ (r : Result V) (values : List V) (verdicts : List (ℕ × Bool)) (flagged : Option ℕ) (solves : Solves m r values verdicts flagged)
+  module _ (r : PassResult V) (values : List V) (verdicts : List (ℕ × Bool)) (flagged : Option ℕ) (solves : IsSolution m r values verdicts flagged)
       (once : FailOnce r) where
     at_goal : (goal : Goal) (w : V) (y : X) → IsMet r goal w → o.on w y → IsAtGoal o values verdicts goal y
     at_goal (comes_to q) w y met h = (w, (solves.is_value q w).1 met, h)

@@ -4,8 +4,8 @@ use Rattle.std.specs.List.{Contains}
 use Rattle.std.proofs.lemmas.List.Elements.{Contains-append_cases}
 use Rattle.lra_domain.specs.Abstraction.{Abstraction}
 use Rattle.lra_operations.specs.Tree.{Completion, normal, jump, Node}
-use Rattle.lra_flow.specs.Pass.{Result, in_turn}
-use Rattle.lra_flow.proofs.Sound.{left_jump, right_jump}
+use Rattle.lra_analysis_spec.specs.Pass.{PassResult, in_turn}
+use Rattle.lra_analysis_spec.proofs.Sound.{left_jump, right_jump}
 use Rattle.lra_ways.specs.Ways.{Step, Way, Segment, Suffix, through, enter, outs, inside, each_then, then_ways, then_outs, segments_by}
 use Rattle.lra_closed.specs.Points.{PointsOf}
 use Rattle.lra_closed.specs.Closed.{KeptBy, KeptFrom, IsLeft, IsMet, IsClosed}
@@ -23,18 +23,19 @@ outs_both one behind two (jump k) = one (jump k) ++ then_outs (one normal) (behi
 
 module _ (V H X : Type 0) (m : Abstraction V H) (o : PointsOf V H X) where
   -- a part with these ways is closed
-  pub record Closes (T : Completion → List (List Step)) (E : List Way) (O : Completion → List Suffix) (I : List Segment) (v : V) (r : Result V) : Type 0 where
-    pub passes : (h : Completion) (ops : List Step) → Contains (T h) ops → KeptBy m o v ops (IsLeft r h)
-    pub enters : (way : Way) → Contains E way → KeptBy m o v way.ops (IsMet r way.goal)
-    pub leaves : (h : Completion) (out : Suffix) → Contains (O h) out → KeptFrom m o r out.source out.ops (IsLeft r h)
-    pub goes : (s : Segment) → Contains I s → KeptFrom m o r s.source s.way.ops (IsMet r s.way.goal)
+  pub record Closes (T : Completion → List (List Step)) (E : List Way) (O : Completion → List Suffix) (I : List Segment) (v : V) (r : PassResult V) : Type 0
+    where
+      pub passes : (h : Completion) (ops : List Step) → Contains (T h) ops → KeptBy m o v ops (IsLeft r h)
+      pub enters : (way : Way) → Contains E way → KeptBy m o v way.ops (IsMet r way.goal)
+      pub leaves : (h : Completion) (out : Suffix) → Contains (O h) out → KeptFrom m o r out.source out.ops (IsLeft r h)
+      pub goes : (s : Segment) → Contains I s → KeptFrom m o r s.source s.way.ops (IsMet r s.way.goal)
 
-  pub tree_closes : (g : Node) (v : V) (r : Result V) → IsClosed m o g v r → Closes (through g) (enter g) (outs g) (inside g) v r
+  pub tree_closes : (g : Node) (v : V) (r : PassResult V) → IsClosed m o g v r → Closes (through g) (enter g) (outs g) (inside g) v r
   tree_closes g v r i = record { passes = i.passes; enters = i.enters; leaves = i.leaves; goes = i.goes }
 
-  module _ (T U : Completion → List (List Step)) (E F : List Way) (O Q : Completion → List Suffix) (I J : List Segment) (v : V) (s t : Result V)
+  module _ (T U : Completion → List (List Step)) (E F : List Way) (O Q : Completion → List Suffix) (I J : List Segment) (v : V) (s t : PassResult V)
       (i : Closes T E O I v s) (j : Closes U F Q J s.normal t) where
-    abbrev both : Result V
+    abbrev both : PassResult V
     both = in_turn s t t.normal t.flag
 
     later : (h : Completion) (u : V) → IsLeft t h u → IsLeft both h u

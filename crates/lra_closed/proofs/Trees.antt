@@ -17,11 +17,12 @@ use Rattle.lra_operations.specs.declared.probes.Probe.{Probe}
 use Rattle.lra_operations.specs.declared.probes.Probe.TheVariants.{InterferencePoint, RecordWrite}
 use Rattle.lra_operations.specs.Tree.{Exit, broken, continued, returned, Completion, normal, jump, Node, empty, probe, point, act, check, seq, choose, iterate, catch, leave}
 use Rattle.lra_operations.specs.Tree.{select, Arms, no_arms, entry, arm, entries_of}
-use Rattle.lra_flow.specs.Plan.{Plan}
-use Rattle.lra_flow.specs.Operations.{dropping}
-use Rattle.lra_flow.specs.Pass.{Entry, value, failing, given, Result, noted, jumps_of, goes_on, jumps, in_turn, first_of_call, values_behind, behind}
-use Rattle.lra_flow.specs.Pass.{AreJoined, Leaves, Enters, RunsFrom, Narrows, Pass, ArmsPass}
-use Rattle.lra_flow.proofs.Sound.{left_jump, right_jump, jump_there, behind_normal}
+use Rattle.lra_analysis_spec.specs.Plan.{Plan}
+use Rattle.lra_analysis_spec.specs.Operations.{lossy_operations}
+use Rattle.lra_analysis_spec.specs.Pass.{PassEntry, value, failing, recorded, PassResult, noted, jumps_of, goes_on, jumps, in_turn, first_of_call}
+use Rattle.lra_analysis_spec.specs.Pass.{values_behind, jumps_caught}
+use Rattle.lra_analysis_spec.specs.Pass.{AreJoined, Filters, Enters, RunsFrom, DescendingIteration, Pass, ArmsPass}
+use Rattle.lra_analysis_spec.proofs.Sound.{left_jump, right_jump, jump_there, behind_normal}
 use Rattle.lra_ways.specs.Ways.{Step, does, comes_to, denies, Way, Segment, Suffix, same_exit, through, enter, outs, inside, tested, tested_way}
 use Rattle.lra_ways.specs.Ways.{goes_in, past_labels, through_labels}
 use Rattle.lra_closed.specs.Points.{PointsOf, KeepPoints}
@@ -34,7 +35,7 @@ use Rattle.lra_closed.proofs.Loops.{round_of, loop_closed, grown}
 use Rattle.lra_closed.proofs.Arms.{AreArmsClosed, label_keeps, arms_end, arms_labelled, arms_behind}
 
 -- a jump that is caught, and the others
-behind_part : {V : Type 0} (k : Exit) (r : Result V) (v : V) (f : Option ℕ) → IsPart r (behind k r v f)
+behind_part : {V : Type 0} (k : Exit) (r : PassResult V) (v : V) (f : Option ℕ) → IsPart r (jumps_caught k r v f)
 behind_part broken r v f x h = h
 behind_part continued r v f x h = h
 behind_part returned r v f x h = h
@@ -59,8 +60,8 @@ same_is returned broken e = absurd (let no : false ≡ true = e in cc)
 same_is returned continued e = absurd (let no : false ≡ true = e in cc)
 same_is returned returned e = refl
 
-behind_jump : {V : Type 0} (k j : Exit) (r : Result V) (v : V) (f : Option ℕ) → same_exit j k ≡ false → (u : V) → Contains (jumps_of j r) u
-    → Contains (jumps_of j (behind k r v f)) u
+behind_jump : {V : Type 0} (k j : Exit) (r : PassResult V) (v : V) (f : Option ℕ) → same_exit j k ≡ false → (u : V) → Contains (jumps_of j r) u
+    → Contains (jumps_of j (jumps_caught k r v f)) u
 behind_jump broken broken r v f n u h = absurd (let no : true ≡ false = n in cc)
 behind_jump broken continued r v f n u h = h
 behind_jump broken returned r v f n u h = h
@@ -73,11 +74,11 @@ behind_jump returned returned r v f n u h = absurd (let no : true ≡ false = n 
 
 module _ (V H X : Type 0) (m : Abstraction V H) (o : PointsOf V H X) where
   -- leaves of trees -----------------------------------------------------------------------------------------------------
-  one_pass : (v w : V) (way : List Step) (f : Option ℕ) (xs : List (Entry V)) → Keeps m o v way w → (ops : List Step) → Contains (way ∷ []) ops
+  one_pass : (v w : V) (way : List Step) (f : Option ℕ) (xs : List (PassEntry V)) → Keeps m o v way w → (ops : List Step) → Contains (way ∷ []) ops
       → KeptBy m o v ops (IsLeft (goes_on xs w f) normal)
   one_pass v w way f xs keeps ops there = subst (λ (l : List Step). KeptBy m o v l (λ y. y ≡ w)) (one_from way ops there) (w, refl, keeps)
 
-  one_enter : (v w : V) (way : Way) (r : Result V) → IsMet r way.goal w → Keeps m o v way.ops w → (x : Way) → Contains (way ∷ []) x
+  one_enter : (v w : V) (way : Way) (r : PassResult V) → IsMet r way.goal w → Keeps m o v way.ops w → (x : Way) → Contains (way ∷ []) x
       → KeptBy m o v x.ops (IsMet r x.goal)
   one_enter v w way r met keeps x there = subst (λ (l : Way). KeptBy m o v l.ops (IsMet r l.goal)) (one_from way x there) (w, met, keeps)
 
@@ -94,7 +95,7 @@ module _ (V H X : Type 0) (m : Abstraction V H) (o : PointsOf V H X) where
       passes (jump j) ops there = absurd (contains_none ops there)
 
   -- what stands beside a program's operations changes no value where it runs alone
-  aside_closed : (q : ℕ) (what : Probe) (v : V) (xs : List (Entry V)) (f : Option ℕ) → IsClosed m o (probe q what) v (goes_on xs v f)
+  aside_closed : (q : ℕ) (what : Probe) (v : V) (xs : List (PassEntry V)) (f : Option ℕ) → IsClosed m o (probe q what) v (goes_on xs v f)
   aside_closed q what v xs f = record {
     passes = passes;
     enters = λ way there. absurd (contains_none way there);
@@ -167,7 +168,7 @@ module _ (V H X : Type 0) (m : Abstraction V H) (o : PointsOf V H X) where
           )
 
   -- two parts ------------------------------------------------------------------------------------------------------------
-  seq_closed : (a b : Node) (v : V) (s t : Result V) → IsClosed m o a v s → IsClosed m o b s.normal t
+  seq_closed : (a b : Node) (v : V) (s t : PassResult V) → IsClosed m o a v s → IsClosed m o b s.normal t
       → IsClosed m o (seq a b) v (in_turn s t t.normal t.flag)
   seq_closed a b v s t i j = record { passes = passes; enters = both.enters; leaves = leaves; goes = both.goes }
     where
@@ -186,10 +187,10 @@ module _ (V H X : Type 0) (m : Abstraction V H) (o : PointsOf V H X) where
       leaves (jump k) x there = both.leaves (jump k) x there
 
   -- a choice -------------------------------------------------------------------------------------------------------------
-  module _ (q base : ℕ) (c : Cond) (a b : Node) (v on off w : V) (s t : Result V) (f : Option ℕ) (into : Keeps m o v (does (test base c true) ∷ []) on)
+  module _ (q base : ℕ) (c : Cond) (a b : Node) (v on off w : V) (s t : PassResult V) (f : Option ℕ) (into : Keeps m o v (does (test base c true) ∷ []) on)
       (past : Keeps m o v (does (test base c false) ∷ []) off) (i : IsClosed m o a on s) (j : IsClosed m o b off t) (left : Keeps m o s.normal [] w)
       (right : Keeps m o t.normal [] w) where
-    abbrev either : Result V
+    abbrev either : PassResult V
     either = in_turn s t w f
 
     joined_in : (u : V) (ops : List Step) (n : V) → Keeps m o n [] w → KeptBy m o u ops (λ y. y ≡ n) → KeptBy m o u ops (λ y. y ≡ w)
@@ -245,10 +246,10 @@ module _ (V H X : Type 0) (m : Abstraction V H) (o : PointsOf V H X) where
     choose_closed = record { passes = choose_passes; enters = choose_enters; leaves = choose_leaves; goes = choose_goes }
 
   -- where jumps end ------------------------------------------------------------------------------------------------------
-  module _ (q : ℕ) (k : Exit) (a : Node) (v w : V) (s : Result V) (f : Option ℕ) (i : IsClosed m o a v s) (left : Keeps m o s.normal [] w)
+  module _ (q : ℕ) (k : Exit) (a : Node) (v w : V) (s : PassResult V) (f : Option ℕ) (i : IsClosed m o a v s) (left : Keeps m o s.normal [] w)
       (caught : (u : V) → Contains (jumps_of k s) u → Keeps m o u [] w) where
-    abbrev ended : Result V
-    ended = behind k s w f
+    abbrev ended : PassResult V
+    ended = jumps_caught k s w f
 
     ends_here : w ≡ ended.normal
     ends_here = sym (behind_normal k s w f)
@@ -290,7 +291,7 @@ module _ (V H X : Type 0) (m : Abstraction V H) (o : PointsOf V H X) where
     }
 
   -- a `switch` -----------------------------------------------------------------------------------------------------------
-  select_closed : (q base : ℕ) (e : Expr) (arms : Arms) (v other : V) (r : Result V)
+  select_closed : (q base : ℕ) (e : Expr) (arms : Arms) (v other : V) (r : PassResult V)
       → AreArmsClosed V H X m o (goes_in base e arms) (list_any (is_same_case Default) (entries_of arms)) v other arms None r
       → Keeps m o v (goes_in base e arms Default ∷ []) other → IsClosed m o (select q base e arms) v r
   select_closed q base e arms v other r i none = record {
@@ -316,7 +317,7 @@ module _ (V H X : Type 0) (m : Abstraction V H) (o : PointsOf V H X) where
   -- all trees ------------------------------------------------------------------------------------------------------------
   module _ (keep : KeepPoints m o) where
     -- a join of some values has the points of each
-    joined_all : (v : V) (us : List V) (e : Exactness) (w : V) → AreJoined (dropping m) v us e w
+    joined_all : (v : V) (us : List V) (e : Exactness) (w : V) → AreJoined (lossy_operations m) v us e w
         → Keeps m o v [] w × ((u : V) → Contains us u → Keeps m o u [] w)
     joined_all v [] e w (same, exact) = (same_keeps V H X m o v w same, λ u there. absurd (contains_none u there))
     joined_all v (u ∷ us) e w (x, c, d, one, rest, worst) =
@@ -328,7 +329,7 @@ module _ (V H X : Type 0) (m : Abstraction V H) (o : PointsOf V H X) where
           ],
         )
 
-    joined_call : (vs : List V) (n : V) (e : Exactness) (w : V) → AreJoined (dropping m) (first_of_call vs n).0 (first_of_call vs n).1 e w
+    joined_call : (vs : List V) (n : V) (e : Exactness) (w : V) → AreJoined (lossy_operations m) (first_of_call vs n).0 (first_of_call vs n).1 e w
         → Keeps m o n [] w × ((u : V) → Contains vs u → Keeps m o u [] w)
     joined_call [] n e w h = joined_all n [] e w h
     joined_call (v ∷ vs) n e w h =
@@ -340,33 +341,33 @@ module _ (V H X : Type 0) (m : Abstraction V H) (o : PointsOf V H X) where
           ],
         )
 
-    joined_caught : (k : Exit) (r : Result V) (e : Exactness) (w : V) → AreJoined (dropping m) (values_behind k r).0 (values_behind k r).1 e w
+    joined_caught : (k : Exit) (r : PassResult V) (e : Exactness) (w : V) → AreJoined (lossy_operations m) (values_behind k r).0 (values_behind k r).1 e w
         → Keeps m o r.normal [] w × ((u : V) → Contains (jumps_of k r) u → Keeps m o u [] w)
     joined_caught broken r e w h = joined_all r.normal r.breaks e w h
     joined_caught continued r e w h = joined_all r.normal r.continues e w h
     joined_caught returned r e w h = joined_call r.returns r.normal e w h
 
-    runs_same : (live cap : ℕ) (run : Option V) (w : V) → RunsFrom (dropping m) live cap run w → (u : V) → run ≡ Some u → w ≡ u
+    runs_same : (live cap : ℕ) (run : Option V) (w : V) → RunsFrom (lossy_operations m) live cap run w → (u : V) → run ≡ Some u → w ≡ u
     runs_same live cap None w from u some = absurd (none-some u some)
     runs_same live cap (Some running) w same u some = same ∙ same_Some running u some
 
     module _ (set : Plan) (once : set.narrow ≡ 0) where
-      not_narrowed : (q base : ℕ) (c : Cond) (a : Node) (first u : V) (s : Result V) (top : V) (t : Result V)
-          → Narrows V H (dropping m) q base c (Pass V H (dropping m) set a) set.narrow first u s top t → (top ≡ u) × (t ≡ s)
+      not_narrowed : (q base : ℕ) (c : Cond) (a : Node) (first u : V) (s : PassResult V) (top : V) (t : PassResult V)
+          → DescendingIteration V H (lossy_operations m) q base c (Pass V H (lossy_operations m) set a) set.narrow first u s top t → (top ≡ u) × (t ≡ s)
       not_narrowed q base c a first u s top t narrowed =
-          subst (λ (n : ℕ). Narrows V H (dropping m) q base c (Pass V H (dropping m) set a) n first u s top t) once narrowed
+          subst (λ (n : ℕ). DescendingIteration V H (lossy_operations m) q base c (Pass V H (lossy_operations m) set a) n first u s top t) once narrowed
 
-      is_same : (g : Node) (v : V) (r s : Result V) → r ≡ s → IsClosed m o g v s → IsClosed m o g v r
-      is_same g v r s is h = subst (λ (x : Result V). IsClosed m o g v x) (sym is) h
+      is_same : (g : Node) (v : V) (r s : PassResult V) → r ≡ s → IsClosed m o g v s → IsClosed m o g v r
+      is_same g v r s is h = subst (λ (x : PassResult V). IsClosed m o g v x) (sym is) h
 
       mutual
-        pub tree_closed : (g : Node) (f : Option ℕ) (v : V) (r : Result V) → Pass V H (dropping m) set g f v r → IsClosed m o g v r
+        pub tree_closed : (g : Node) (f : Option ℕ) (v : V) (r : PassResult V) → Pass V H (lossy_operations m) set g f v r → IsClosed m o g v r
         tree_closed empty f v r is = is_same empty v r _ is (empty_closed v f)
         tree_closed (probe q InterferencePoint) f v r (w, e, (same, exact), is) =
             is_same (probe q InterferencePoint) v r _ (is ∙ ap (λ (x : V). goes_on [] x (noted q e f)) same)
             (aside_closed q InterferencePoint v [] (noted q e f))
         tree_closed (probe q (RecordWrite place)) f v r is =
-            is_same (probe q (RecordWrite place)) v r _ is (aside_closed q (RecordWrite place) v (given q place v ∷ []) f)
+            is_same (probe q (RecordWrite place)) v r _ is (aside_closed q (RecordWrite place) v (recorded q place v ∷ []) f)
         tree_closed (point q) f v r is = is_same (point q) v r _ is (point_closed q v f)
         tree_closed (act q op) f v r (w, e, done, is) =
             is_same (act q op) v r _ is (act_closed q op v w (noted q e f) (change_keeps V H X m o keep op v e w done))
@@ -385,10 +386,10 @@ module _ (V H X : Type 0) (m : Abstraction V H) (o : PointsOf V H X) where
             let (same, turned) = not_narrowed q base c a v u s top t narrowed in
             let z = i.last.result in
             let whole : r ≡ round_of q u out (noted q e t.flag) z =
-            is ∙ ap (λ (x : Result V). record x { normal = out; flag = noted q e t.flag }) (turned ∙ i.last.same) in
-            let back = subst (λ (x : Result V). Keeps m o x.normal [] u) i.last.same i.last.back in
+            is ∙ ap (λ (x : PassResult V). record x { normal = out; flag = noted q e t.flag }) (turned ∙ i.last.same) in
+            let back = subst (λ (x : PassResult V). Keeps m o x.normal [] u) i.last.same i.last.back in
             let first = at_once V H X m o v u (i.dims ∙ started.1) (λ x k. i.on x (keep.started v _ h started.0 x k)) in
-            let ends = test_keeps V H X m o keep base c false u e out (subst (λ (x : V). Leaves (dropping m) base c false x e out) same off) in
+            let ends = test_keeps V H X m o keep base c false u e out (subst (λ (x : V). Filters (lossy_operations m) base c false x e out) same off) in
             is_same (iterate q base c a) v r _ whole
             (loop_closed V H X m o keep q base c a u i.last.first out (noted q e t.flag) z i.last.into i.last.body back ends v first)
         tree_closed (catch q k a) f v r (w, e, s, one, joined, is) =
@@ -397,22 +398,23 @@ module _ (V H X : Type 0) (m : Abstraction V H) (o : PointsOf V H X) where
         tree_closed (leave n k) f v r (w, nothing, is) = is_same (leave n k) v r _ is (leave_closed n k v w f)
         tree_closed (select q base e arms) f v r (other, x, none, pass) =
             let labels = entries_of arms in
-            let comes : (l : CaseLabel) (y : Exactness) (u : V) → Enters (dropping m) base e l v other y u → Keeps m o v (goes_in base e arms l ∷ []) u =
+            let comes : (l : CaseLabel) (y : Exactness) (u : V) → Enters (lossy_operations m) base e l v other y u →
+            Keeps m o v (goes_in base e arms l ∷ []) u =
             λ l y u is. label_keeps V H X m o keep base e labels l v other x y u none is in
             let i = arms_closed q base e (goes_in base e arms) (list_any (is_same_case Default) labels) v other comes arms (noted q x f) None r pass in
             select_closed q base e arms v other r i (comes Default Exact other (refl, refl))
 
         arms_closed : (q base : ℕ) (e : Expr) (go : CaseLabel → Step) (d : Bool) (v other : V)
-            → ((l : CaseLabel) (y : Exactness) (u : V) → Enters (dropping m) base e l v other y u → Keeps m o v (go l ∷ []) u)
-            → (arms : Arms) (f : Option ℕ) (run : Option V) (r : Result V) → ArmsPass V H (dropping m) set q base e d v other arms f run r
+            → ((l : CaseLabel) (y : Exactness) (u : V) → Enters (lossy_operations m) base e l v other y u → Keeps m o v (go l ∷ []) u)
+            → (arms : Arms) (f : Option ℕ) (run : Option V) (r : PassResult V) → ArmsPass V H (lossy_operations m) set q base e d v other arms f run r
             → AreArmsClosed V H X m o go d v other arms run r
         arms_closed q base e go d v other comes no_arms f run r (w, x, out, is) =
-            subst (λ (y : Result V). AreArmsClosed V H X m o go d v other no_arms run y) (sym is)
+            subst (λ (y : PassResult V). AreArmsClosed V H X m o go d v other no_arms run y) (sym is)
             (arms_end V H X m o keep go d v other run x w (noted q x f) out)
         arms_closed q base e go d v other comes (entry l arms) f run r (u, w, x, y, enters, joins, rest) =
             arms_labelled V H X m o keep go d v other l arms run u w y r (comes l x u enters) joins
             (arms_closed q base e go d v other comes arms (noted q y (noted q x f)) (Some w) r rest)
         arms_closed q base e go d v other comes (arm a arms) f run r (w, s, t, from, one, rest, is) =
-            subst (λ (y : Result V). AreArmsClosed V H X m o go d v other (arm a arms) run y) (sym is)
+            subst (λ (y : PassResult V). AreArmsClosed V H X m o go d v other (arm a arms) run y) (sym is)
             (arms_behind V H X m o keep go d v other a arms run w s t (runs_same (m.dims v) set.parts run w from) (tree_closed a f w s one)
             (arms_closed q base e go d v other comes arms s.flag (Some s.normal) t rest))

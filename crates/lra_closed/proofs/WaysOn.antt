@@ -7,10 +7,10 @@ use Rattle.lra_program.specs.Step.{Op, test}
 use Rattle.lra_domain.specs.Actions.{Action}
 use Rattle.lra_domain.specs.declared.Exactness.{Exactness}
 use Rattle.lra_domain.specs.Abstraction.{Abstraction}
-use Rattle.lra_flow.specs.Operations.{dropping}
-use Rattle.lra_flow.specs.MovesOf.{guard, moves_of}
-use Rattle.lra_flow.specs.Pass.{Changes, Leaves}
-use Rattle.lra_change.proofs.OperationWidths.{changes_dims, leaves_dims}
+use Rattle.lra_analysis_spec.specs.Operations.{lossy_operations}
+use Rattle.lra_analysis_spec.specs.MovesOf.{guard, moves_of}
+use Rattle.lra_analysis_spec.specs.Pass.{OpTransfer, Filters}
+use Rattle.lra_transfer.proofs.OperationWidths.{changes_dims, leaves_dims}
 use Rattle.lra_ways.specs.Ways.{Step, does}
 use Rattle.lra_sides.specs.StepMoves.{step_moves, dims_behind_step}
 use Rattle.lra_sides.specs.Sides.{sides, written}
@@ -80,18 +80,18 @@ module _ (V H X : Type 0) (m : Abstraction V H) (o : PointsOf V H X) where
   }
 
   module _ (keep : KeepPoints m o) where
-    pub change_keeps : (op : Op) (v : V) (e : Exactness) (w : V) → Changes (dropping m) op v e w → Keeps m o v (does op ∷ []) w
+    pub change_keeps : (op : Op) (v : V) (e : Exactness) (w : V) → OpTransfer (lossy_operations m) op v e w → Keeps m o v (does op ∷ []) w
     change_keeps op v e w is =
         one_step (does op) v w (changes_dims V H m op v e w is) (made_keep V H X o m keep (moves_of (m.dims v) op) v e w is)
 
-    pub test_keeps : (base : ℕ) (c : Cond) (wanted : Bool) (v : V) (e : Exactness) (w : V) → Leaves (dropping m) base c wanted v e w
+    pub test_keeps : (base : ℕ) (c : Cond) (wanted : Bool) (v : V) (e : Exactness) (w : V) → Filters (lossy_operations m) base c wanted v e w
         → Keeps m o v (does (test base c wanted) ∷ []) w
     test_keeps base c wanted v e w is = one_step (does (test base c wanted)) v w (leaves_dims V H m base c wanted v e w is)
         (made_keep V H X o m keep (guard (m.dims v) base wanted c) v e w is)
 
     -- a join has the points of both its operands
-    pub join_left : (u v : V) (e : Exactness) (w : V) → (dropping m).joined u v e w → Keeps m o u [] w
+    pub join_left : (u v : V) (e : Exactness) (w : V) → (lossy_operations m).joined u v e w → Keeps m o u [] w
     join_left u v e w joined = at_once u w joined.2 (λ x h. keep.covered u w joined.0.formed joined.0.left x h)
 
-    pub join_right : (u v : V) (e : Exactness) (w : V) → (dropping m).joined u v e w → Keeps m o v [] w
+    pub join_right : (u v : V) (e : Exactness) (w : V) → (lossy_operations m).joined u v e w → Keeps m o v [] w
     join_right u v e w joined = at_once v w (joined.2 ∙ sym joined.1) (λ x h. keep.covered v w joined.0.formed joined.0.right x h)

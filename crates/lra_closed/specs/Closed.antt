@@ -6,9 +6,9 @@ use Rattle.lra_domain.specs.Abstraction.{Abstraction}
 use Rattle.lra_program.specs.Program.{Program}
 use Rattle.lra_program.specs.Sites.{Site, sites_of}
 use Rattle.lra_operations.specs.Tree.{Completion, normal, jump, Node}
-use Rattle.lra_flow.specs.Plan.{Plan}
-use Rattle.lra_flow.specs.Pass.{value, failing, Result, jumps_of}
-use Rattle.lra_flow.specs.Analysis.{Derivation, Solves}
+use Rattle.lra_analysis_spec.specs.Plan.{Plan}
+use Rattle.lra_analysis_spec.specs.Pass.{value, failing, PassResult, jumps_of}
+use Rattle.lra_analysis_spec.specs.Analysis.{LossyIteration, IsSolution}
 use Rattle.lra_ways.specs.Ways.{Step, Goal, comes_to, denies, Way, Segment, Suffix, through, enter, outs, inside}
 use Rattle.lra_sides.specs.Sides.{written}
 use Rattle.lra_sides.specs.WayMoves.{live_behind}
@@ -39,15 +39,15 @@ AreWide {V} m P values = (p : ℕ) (v : V) → slice_get values p ≡ Some v →
     slice_get (sites_of P) p ≡ Some s → m.dims v ≡ s.live
 
 -- no assertion has two values where it is false
-abbrev pub FailOnce : {V : Type 0} → Result V → Type 0
+abbrev pub FailOnce : {V : Type 0} → PassResult V → Type 0
 FailOnce {V} r = (q : ℕ) (u w : V) → Contains r.entries (failing q u) → Contains r.entries (failing q w) → u ≡ w
 
 -- Of an iteration that isn't narrowed, flagged or not. Narrowed once, a loop's value is the join of what came in first
 -- with what one round left, and where its body isn't monotone, as one with a loop, another round may lead out of that.
 abbrev pub ValuesAreClosed : {V H X : Type 0} → Abstraction V H → PointsOf V H X → Type 0
-ValuesAreClosed {V} m o = (set : Plan) (P : Program) (g : Node) (r : Result V) (values : List V)
-    (verdicts : List (ℕ × Bool)) (flagged : Option ℕ) → set.narrow ≡ 0 → Derivation m set P g r →
-    Solves m r values verdicts flagged → AreWide m P values → FailOnce r → AreClosed o P g values verdicts
+ValuesAreClosed {V} m o = (set : Plan) (P : Program) (g : Node) (r : PassResult V) (values : List V)
+    (verdicts : List (ℕ × Bool)) (flagged : Option ℕ) → set.narrow ≡ 0 → LossyIteration m set P g r →
+    IsSolution m r values verdicts flagged → AreWide m P values → FailOnce r → AreClosed o P g values verdicts
 
 -- trees: a pass --------------------------------------------------------------------------------------------------
 
@@ -64,22 +64,23 @@ abbrev pub KeptBy : {V H X : Type 0} → Abstraction V H → PointsOf V H X → 
 KeptBy {V} m o v ops among = (w : V) × among w × Keeps m o v ops w
 
 -- so it is from the value at the point of this number
-abbrev pub KeptFrom : {V H X : Type 0} → Abstraction V H → PointsOf V H X → Result V → ℕ → List Step → (V → Type 0) →
+abbrev pub KeptFrom : {V H X : Type 0} → Abstraction V H → PointsOf V H X → PassResult V → ℕ → List Step →
+    (V → Type 0) →
     Type 0
 KeptFrom {V} m o r q ops among = (v : V) × Contains r.entries (value q v) × KeptBy m o v ops among
 
 -- the tree is left so with the value
-abbrev pub IsLeft : {V : Type 0} → Result V → Completion → V → Type 0
+abbrev pub IsLeft : {V : Type 0} → PassResult V → Completion → V → Type 0
 IsLeft r normal v = v ≡ r.normal
 IsLeft r (jump j) v = Contains (jumps_of j r) v
 
 -- the value is one at the point, or where the assertion there is false
-abbrev pub IsMet : {V : Type 0} → Result V → Goal → V → Type 0
+abbrev pub IsMet : {V : Type 0} → PassResult V → Goal → V → Type 0
 IsMet r (comes_to q) v = Contains r.entries (value q v)
 IsMet r (denies q) v = Contains r.entries (failing q v)
 
 -- from this value through the tree, with this result
-pub record IsClosed {V H X : Type 0} (m : Abstraction V H) (o : PointsOf V H X) (g : Node) (v : V) (r : Result V)
+pub record IsClosed {V H X : Type 0} (m : Abstraction V H) (o : PointsOf V H X) (g : Node) (v : V) (r : PassResult V)
     : Type 0 where
   pub passes : (h : Completion) (ops : List Step) → Contains (through g h) ops → KeptBy m o v ops (IsLeft r h)
   pub enters : (way : Way) → Contains (enter g) way → KeptBy m o v way.ops (IsMet r way.goal)

@@ -13,8 +13,8 @@ use Rattle.lra_operations.specs.Inlined.{InlineState, InlineStmt, InlineItems, I
 use Rattle.lra_operations.specs.Inlined.{as_nothing, as_block, as_absent, as_assign, as_write, as_write_call, as_call, as_if, as_loop, as_for}
 use Rattle.lra_operations.specs.Inlined.{as_break, as_continue, as_return, as_return_value, as_return_call, as_end, as_end_value, as_end_call, as_assert}
 use Rattle.lra_operations.specs.Inlined.{as_assume, as_switch, as_none, as_declaration, as_array, as_statement, is_loop}
-use Rattle.lra_flow.specs.Analysis.{IsUnreachable}
-use Rattle.lra_flow.specs.MovesOf.{first_values}
+use Rattle.lra_analysis_spec.specs.Analysis.{IsUnreachable}
+use Rattle.lra_analysis_spec.specs.MovesOf.{first_values}
 use Rattle.lra_ways.specs.Ways.{Step, comes_to, Way, each_then, then_way, then_ways, through, enter}
 use Rattle.lra_ways.proofs.FlatSteps.{flat_none}
 use Rattle.lra_sides.specs.Sides.{sides}

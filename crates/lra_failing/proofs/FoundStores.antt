@@ -19,10 +19,10 @@ use Rattle.lra_program.specs.Step.{test}
 use Rattle.lra_program.specs.Sites.{Site}
 use Rattle.lra_program.specs.declared.program.GlobalVariable.{GlobalVariable}
 use Rattle.lra_operations.specs.Tree.{Node}
-use Rattle.lra_flow.specs.MovesOf.{guard}
-use Rattle.lra_flow.specs.Pass.{noted}
-use Rattle.lra_flow.proofs.Covers.{stays_has}
-use Rattle.lra_flow.proofs.Keeps.{moves_keep}
+use Rattle.lra_analysis_spec.specs.MovesOf.{guard}
+use Rattle.lra_analysis_spec.specs.Pass.{noted}
+use Rattle.lra_analysis_spec.proofs.Covers.{stays_has}
+use Rattle.lra_analysis_spec.proofs.Keeps.{moves_keep}
 use Rattle.lra_ways.specs.Ways.{Segment, comes_to, denies, does}
 use Rattle.lra_sides.specs.Sides.{sides, written}
 use Rattle.lra_sides.proofs.SideSteps.{leads_then, sides_lead}

@@ -27,21 +27,22 @@ use Rattle.lra_domain.specs.Actions as action
 use Rattle.lra_domain.specs.Changes.{CanBeMade, AllCanBeMade}
 use Rattle.lra_domain.specs.Changes as changes
 use Rattle.lra_domain.specs.Moves.{Moves, stay, make, first_then, join_of}
-use Rattle.lra_flow.specs.Live.{dims_behind}
-use Rattle.lra_flow.specs.Linear.{constant_form, comparison_test}
-use Rattle.lra_flow.specs.MovesOf.{in_turn, first_case, second_case, in_case, in_cases, tested, test_moves, case_moves, seen_moves, split_moves}
-use Rattle.lra_flow.specs.MovesOf.{comparison_as, comparison_moves, guard, number_moves, within_type, set_to, append_set, push_all, set_cell}
-use Rattle.lra_flow.specs.MovesOf.{above_least, below_greatest, set_target, drop_last, moves_of}
-use Rattle.lra_flow.specs.Room.{most_live}
-use Rattle.lra_flow.specs.Seen.{Divides, SeenFits, seen_of, subtracted, difference_seen}
-use Rattle.lra_flow.specs.declared.seen.Division.{Division}
-use Rattle.lra_flow.specs.declared.seen.Seen.{Seen}
-use Rattle.lra_flow.specs.declared.seen.Seen.TheVariants.{Linear, Divided, Unseen}
-use Rattle.lra_flow.proofs.DivisionLemmas.{constant_length, room, seen_fits, subtracted_fits}
-use Rattle.lra_flow.proofs.FormLemmas.{set_length}
-use Rattle.lra_forms.proofs.GivenSteps.{test_wide}
-use Rattle.lra_change.specs.Changes.{Stays, CellFits, PlaceFits, OpFits}
-use Rattle.lra_change.proofs.ChangeSteps.{assign_stays, first_made, second_made}
+use Rattle.lra_analysis_spec.specs.Live.{live_after_op}
+use Rattle.lra_analysis_spec.specs.Linear.{constant_form, comparison_test}
+use Rattle.lra_analysis_spec.specs.MovesOf.{in_turn, first_case, second_case, in_case, in_cases, test_action, test_moves, case_moves, linearized_moves}
+use Rattle.lra_analysis_spec.specs.MovesOf.{split_moves}
+use Rattle.lra_analysis_spec.specs.MovesOf.{comparison_as, comparison_moves, guard, number_moves, within_type, set_to, append_set, push_all, set_cell}
+use Rattle.lra_analysis_spec.specs.MovesOf.{above_least, below_greatest, set_target, drop_last, moves_of}
+use Rattle.lra_analysis_spec.specs.LiveLimit.{most_live}
+use Rattle.lra_analysis_spec.specs.Linearization.{Divides, LinearizedFits, linearized, subtracted, linearized_difference}
+use Rattle.lra_analysis_spec.specs.declared.linearization.Division.{Division}
+use Rattle.lra_analysis_spec.specs.declared.linearization.Linearized.{Linearized}
+use Rattle.lra_analysis_spec.specs.declared.linearization.Linearized.TheVariants.{Linear, Divided, Unseen}
+use Rattle.lra_analysis_spec.proofs.DivisionLemmas.{constant_length, room, seen_fits, subtracted_fits}
+use Rattle.lra_analysis_spec.proofs.FormLemmas.{set_length}
+use Rattle.lra_linearize.proofs.GuardThresholdSteps.{test_wide}
+use Rattle.lra_transfer.specs.Changes.{Stays, CellFits, PlaceFits, OpFitsDims}
+use Rattle.lra_transfer.proofs.ChangeSteps.{assign_stays, first_made, second_made}
 use Rattle.lra_ways.specs.Ways.{Step, does, goes}
 use Rattle.lra_sides.specs.Sides.{sides, written}
 use Rattle.lra_sides.specs.StepMoves.{unmatched_moves, label_moves, step_moves, dims_behind_step}
@@ -109,37 +110,37 @@ test_width differs d t n wide is = test_wide Differs d t (sym is) ∙ wide
 
 test_leads : (o : Option Test) (n : ℕ) → ((t : Test) → o ≡ Some t → length t.expr.coefficients ≡ n) → SidesLeadOn (test_moves o) n n
 test_leads None n h = stay_leads n n refl
-test_leads (Some t) n h = make_leads (tested t) n n (h t refl) refl
+test_leads (Some t) n h = make_leads (test_action t) n n (h t refl) refl
 
 divided_leads : (d : Division) (o : Option Test) (n : ℕ) → Divides d n → n ≤ most_live → ((t : Test) → o ≡ Some t → length t.expr.coefficients ≡ n + 2)
     → SidesLeadOn (case_moves n d o) n n
 divided_leads d None n fits few h = stay_leads n n refl
-divided_leads d (Some t) n fits few h = cases_lead d (tested t) n fits few (h t refl, refl)
+divided_leads d (Some t) n fits few h = cases_lead d (test_action t) n fits few (h t refl, refl)
 
 module _ (n : ℕ) (few : n ≤ most_live) where
-  seen_leads : (op : Comparison) (w : Seen) → SeenFits w n → SidesLeadOn (seen_moves n op w) n n
+  seen_leads : (op : Comparison) (w : Linearized) → LinearizedFits w n → SidesLeadOn (linearized_moves n op w) n n
   seen_leads op (Linear d) fits = test_leads (comparison_test op d) n (λ t is. test_width op d t n fits is)
   seen_leads op (Divided c d) fits = divided_leads c (comparison_test op d) n fits.0 few (λ t is. test_width op d t (n + 2) fits.1 is)
   seen_leads op Unseen fits = stay_leads n n refl
 
-  split_leads : (op : Comparison) (w : Seen) → SeenFits w n → SidesLeadOn (split_moves n op w) n n
-  split_leads differs w fits = join_leads (seen_moves n below w) (seen_moves n above w) n n (seen_leads below w fits) (seen_leads above w fits)
+  split_leads : (op : Comparison) (w : Linearized) → LinearizedFits w n → SidesLeadOn (split_moves n op w) n n
+  split_leads differs w fits = join_leads (linearized_moves n below w) (linearized_moves n above w) n n (seen_leads below w fits) (seen_leads above w fits)
   split_leads below w fits = seen_leads below w fits
   split_leads at_most w fits = seen_leads at_most w fits
   split_leads above w fits = seen_leads above w fits
   split_leads at_least w fits = seen_leads at_least w fits
   split_leads equal w fits = seen_leads equal w fits
 
-  compared_lead : (op : Comparison) (w : Seen) → SeenFits w n → SidesLeadOn (comparison_moves n op w) n n
+  compared_lead : (op : Comparison) (w : Linearized) → LinearizedFits w n → SidesLeadOn (comparison_moves n op w) n n
   compared_lead op (Linear d) fits = split_leads op (Linear d) fits
   compared_lead op (Divided c d) fits = split_leads op (Divided c d) fits
   compared_lead op Unseen fits = stay_leads n n refl
 
   guard_leads : (base : ℕ) (wanted : Bool) (c : Cond) → SidesLeadOn (guard n base wanted c) n n
-  guard_leads base wanted (compare op a b) = compared_lead (comparison_as wanted op) (difference_seen n base a b)
-      (subtracted_fits (seen_of n base a) (seen_of n base b) n (seen_fits n base a) (seen_fits n base b))
-  guard_leads base wanted (nonzero e) = compared_lead (comparison_as wanted differs) (difference_seen n base e (literal Int 0))
-      (subtracted_fits (seen_of n base e) (seen_of n base (literal Int 0)) n (seen_fits n base e) (seen_fits n base (literal Int 0)))
+  guard_leads base wanted (compare op a b) = compared_lead (comparison_as wanted op) (linearized_difference n base a b)
+      (subtracted_fits (linearized n base a) (linearized n base b) n (seen_fits n base a) (seen_fits n base b))
+  guard_leads base wanted (nonzero e) = compared_lead (comparison_as wanted differs) (linearized_difference n base e (literal Int 0))
+      (subtracted_fits (linearized n base e) (linearized n base (literal Int 0)) n (seen_fits n base e) (seen_fits n base (literal Int 0)))
   guard_leads base wanted (opposite c) = guard_leads base (not wanted) c
   guard_leads base true (both_of a b) =
       then_leads (guard n base true a) (guard n base true b) n n n (guard_leads base true a) (guard_leads base true b)
@@ -152,21 +153,21 @@ module _ (n : ℕ) (few : n ≤ most_live) where
   guard_leads base false (either_of a b) =
       then_leads (guard n base false a) (guard n base false b) n n n (guard_leads base false a) (guard_leads base false b)
 
-  number_leads : (wanted : Bool) (s : Seen) (z : ℤ) → SeenFits s n → SidesLeadOn (number_moves n wanted s z) n n
+  number_leads : (wanted : Bool) (s : Linearized) (z : ℤ) → LinearizedFits s n → SidesLeadOn (number_moves n wanted s z) n n
   number_leads wanted s z fits = compared_lead (comparison_as wanted equal) (subtracted s (Linear (constant_form n z)))
       (subtracted_fits s (Linear (constant_form n z)) n fits (constant_length n z))
 
-  unmatched_lead : (s : Seen) (labels : List CaseLabel) → SeenFits s n → SidesLeadOn (unmatched_moves n s labels) n n
+  unmatched_lead : (s : Linearized) (labels : List CaseLabel) → LinearizedFits s n → SidesLeadOn (unmatched_moves n s labels) n n
   unmatched_lead s [] fits = stay_leads n n refl
   unmatched_lead s (Case z ∷ labels) fits =
       then_leads (number_moves n false s z) (unmatched_moves n s labels) n n n (number_leads false s z fits) (unmatched_lead s labels fits)
   unmatched_lead s (Default ∷ labels) fits = unmatched_lead s labels fits
 
-  label_leads : (s : Seen) (labels : List CaseLabel) (l : CaseLabel) → SeenFits s n → SidesLeadOn (label_moves n s labels l) n n
+  label_leads : (s : Linearized) (labels : List CaseLabel) (l : CaseLabel) → LinearizedFits s n → SidesLeadOn (label_moves n s labels l) n n
   label_leads s labels (Case z) fits = number_leads true s z fits
   label_leads s labels Default fits = unmatched_lead s labels fits
 
-  set_leads : (x : ℕ) (s : Seen) → x < n → SeenFits s n → SidesLeadOn (set_to n x s) n n
+  set_leads : (x : ℕ) (s : Linearized) → x < n → LinearizedFits s n → SidesLeadOn (set_to n x s) n n
   set_leads x (Linear f) lives fits = make_leads (assign x f) n n (lives, fits) refl
   set_leads x (Divided d f) lives fits = cases_lead d (assign x f) n fits.0 few (assign_stays x f n lives fits.1)
   set_leads x Unseen lives fits = make_leads (forget x) n n lives refl
@@ -184,7 +185,7 @@ within_leads Int x p n m h =
     then_leads p (first_then (make low) (make high)) n m m h
     (then_leads (make low) (make high) m m m (make_leads low m m (one_wide m x (pos 1)) refl) (make_leads high m m (one_wide m x (negsuc 0)) refl))
 
-append_leads : (n : ℕ) (s : Seen) → n < most_live → SeenFits s (suc n) → SidesLeadOn (append_set n s) n (suc n)
+append_leads : (n : ℕ) (s : Linearized) → n < most_live → LinearizedFits s (suc n) → SidesLeadOn (append_set n s) n (suc n)
 append_leads n s less fits =
     let last : n < suc n = omega arith in
     then_leads (make (embed 1)) (set_to (suc n) n s) n (suc n) (suc n) (embed_leads n less) (set_leads (suc n) less n s last fits)
@@ -195,7 +196,7 @@ append_leads n s less fits =
 push_leads : (base : ℕ) (given : List Argument) (n : ℕ) → n + length given ≤ most_live → SidesLeadOn (push_all n base given) n (n + length given)
 push_leads base [] n room = stay_leads n (n + 0) (omega arith)
 push_leads base (a ∷ rest) n room =
-    let w = seen_of (suc n) base a.value in
+    let w = linearized (suc n) base a.value in
     let one = within_leads a.number_type n (append_set n w) n (suc n) (append_leads n w (omega (arith, room)) (seen_fits (suc n) base a.value)) in
     let rest_leads = push_leads base rest (suc n) (omega (arith, room)) in
     let same : suc n + length rest ≡ n + length (a ∷ rest) = omega arith in
@@ -206,19 +207,19 @@ drop_leads : (k n : ℕ) → k ≤ n → SidesLeadOn (drop_last k) n (n - k)
 drop_leads zero n less = stay_leads n (n - 0) (omega arith)
 drop_leads (suc k) n less = make_leads (remove_last (suc k)) n (n - suc k) less refl
 
-cell_leads : (t : NumberType) (c : Cell) (w : Seen) (n : ℕ) → n ≤ most_live → CellFits c n → SeenFits w n → SidesLeadOn (set_cell n t c w) n n
+cell_leads : (t : NumberType) (c : Cell) (w : Linearized) (n : ℕ) → n ≤ most_live → CellFits c n → LinearizedFits w n → SidesLeadOn (set_cell n t c w) n n
 cell_leads t (Variable x) w n few lives fits = within_leads t x (set_to n x w) n n (set_leads n few x w lives fits)
 cell_leads t (Waiting p) w n few lives fits = stay_leads n n refl
 
-target_leads : (o : Option Target) (w : Seen) (n : ℕ) → n ≤ most_live → PlaceFits o n → SeenFits w n → SidesLeadOn (set_target n o w) n n
+target_leads : (o : Option Target) (w : Linearized) (n : ℕ) → n ≤ most_live → PlaceFits o n → LinearizedFits w n → SidesLeadOn (set_target n o w) n n
 target_leads None w n few lives fits = stay_leads n n refl
 target_leads (Some t) w n few lives fits = cell_leads t.number_type t.cell w n few lives fits
 
-op_leads : (op : Op) (n : ℕ) → n ≤ most_live → OpFits op n → SidesLeadOn (moves_of n op) n (dims_behind op n)
+op_leads : (op : Op) (n : ℕ) → n ≤ most_live → OpFitsDims op n → SidesLeadOn (moves_of n op) n (live_after_op op n)
 op_leads (append t) n few fits = within_leads t n (make (embed 1)) n (suc n)
     (make_leads (embed 1) n (suc n) (omega (arith, fits)) (let one : n + 1 ≡ suc n = omega arith in one))
 op_leads (fill a) n few fits = stay_leads n n refl
-op_leads (store_value base x y) n few fits = target_leads x.target (seen_of n base y) n few fits (seen_fits n base y)
+op_leads (store_value base x y) n few fits = target_leads x.target (linearized n base y) n few fits (seen_fits n base y)
 op_leads (store_element base x y) n few fits = stay_leads n n refl
 op_leads (havoc x) n few fits = target_leads x.target Unseen n few fits tt
 op_leads (step.push base given) n few fits = push_leads base given n fits
@@ -230,12 +231,12 @@ op_leads (step.test base c wanted) n few fits = guard_leads n few base wanted c
 
 -- it can be done where n variables live
 abbrev pub StepFits : ℕ → Step → Type 0
-StepFits n (does op) = OpFits op n
+StepFits n (does op) = OpFitsDims op n
 StepFits n (goes base e labels l) = ⊤
 
 step_leads : (s : Step) (n : ℕ) → n ≤ most_live → StepFits n s → SidesLeadOn (step_moves n s) n (dims_behind_step s n)
 step_leads (does op) n few fits = op_leads op n few fits
-step_leads (goes base e labels l) n few fits = label_leads n few (seen_of n base e) labels l (seen_fits n base e)
+step_leads (goes base e labels l) n few fits = label_leads n few (linearized n base e) labels l (seen_fits n base e)
 
 -- all of it can be done where n variables live, and leaves m
 abbrev pub StepsFit : ℕ → ℕ → List Step → Type 0

@@ -15,11 +15,11 @@ use Rattle.lra_operations.specs.Tree.{Exit, broken, continued, returned, Complet
 use Rattle.lra_operations.specs.Tree.{catch}
 use Rattle.lra_operations.specs.Tree.{leave, select, Arms, no_arms, entry, arm, entries_of}
 use Rattle.lra_operations.proofs.ArmRows.{arms_row}
-use Rattle.lra_flow.specs.Live.{dims_behind, live_after}
-use Rattle.lra_flow.specs.Room.{most_live}
-use Rattle.lra_change.specs.Changes.{OpFits}
-use Rattle.lra_outcomes.specs.Fits.{JumpsWith, ArmsJumpWith, TreeFits, ArmsFit}
-use Rattle.lra_iter.specs.Lives.{LiveAt, PointsHave, ArmsHave}
+use Rattle.lra_analysis_spec.specs.Live.{live_after_op, live_after}
+use Rattle.lra_analysis_spec.specs.LiveLimit.{most_live}
+use Rattle.lra_transfer.specs.Changes.{OpFitsDims}
+use Rattle.lra_pass_results.specs.Dimensions.{JumpsWith, ArmsJumpWith, TreeFits, ArmsFit}
+use Rattle.lra_fixpoint.specs.Lives.{LiveAt, PointsHave, ArmsHave}
 use Rattle.lra_ways.specs.Ways.{Step, does, goes, Goal, comes_to, denies, Way, Segment, Suffix, same_exit, each_then, then_way, then_ways, then_out, then_outs}
 use Rattle.lra_ways.specs.Ways.{segment_by, segments_by, led, led_way, tested, tested_way, into_body, out_of_body, segment_to, past_labels}
 use Rattle.lra_ways.specs.Ways.{through, through_arms, through_labels, enter, enter_arms, enter_labels, outs, inside}
@@ -145,7 +145,7 @@ module _ (T : List Site) where
       leaves normal = all_one (LeftFits (point q) n normal) (record { source = q; ops = [] }) (n, refl, λ s is. sym (here s is))
       leaves (jump j) = All-nil (LeftFits (point q) n (jump j))
 
-  fit_act : (q : ℕ) (op : Op) (n : ℕ) → n ≤ most_live → OpFits op n → WaysFit (act q op) n
+  fit_act : (q : ℕ) (op : Op) (n : ℕ) → n ≤ most_live → OpFitsDims op n → WaysFit (act q op) n
   fit_act q op n few fits = record {
     passes = passes;
     enters = All-nil (WayFits n);
@@ -154,7 +154,7 @@ module _ (T : List Site) where
   }
     where
       passes : (h : Completion) → All (PassFits (act q op) n h) (through (act q op) h)
-      passes normal = all_one (PassFits (act q op) n normal) (does op ∷ []) (dims_behind op n, refl, (fits, few, refl))
+      passes normal = all_one (PassFits (act q op) n normal) (does op ∷ []) (live_after_op op n, refl, (fits, few, refl))
       passes (jump j) = All-nil (PassFits (act q op) n (jump j))
 
   fit_check : (q base : ℕ) (c : Cond) (n : ℕ) → n ≤ most_live → WaysFit (check q base c) n

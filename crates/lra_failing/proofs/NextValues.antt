@@ -12,9 +12,9 @@ use Rattle.lra_domain.specs.Abstraction.{Abstraction}
 use Rattle.lra_domain.specs.Moves.{LeadsAll}
 use Rattle.lra_domain.specs.Gammas.{InGamma, InHeadGamma}
 use Rattle.lra_domain.specs.declared.Exactness.{Exactness}
-use Rattle.lra_flow.specs.Operations as forward
-use Rattle.lra_flow.specs.Pass.{JoinsRunning, RunsFrom}
-use Rattle.lra_flow.proofs.Covers.{covered_has}
+use Rattle.lra_analysis_spec.specs.Operations as forward
+use Rattle.lra_analysis_spec.specs.Pass.{JoinsRunning, RunsFrom}
+use Rattle.lra_analysis_spec.proofs.Covers.{covered_has}
 use Rattle.lra_back.specs.Operations.{dropping}
 use Rattle.lra_back.specs.GoingBack.{AllComeBack, ComesBack, ComesFromAll, IsNext, JoinsSeed}
 use Rattle.lra_failing.proofs.Retraced.{gone_over}
@@ -27,11 +27,13 @@ SomeHas m (Some v) s = InGamma m v s
 module _ {V H : Type 0} (m : Abstraction V H) (b : BackwardAbstraction V) (laws : Laws m) where
   -- joins ---------------------------------------------------------------------------------------------------------------
 
-  joins_so : (so : Option V) (u : V) (e : Exactness) (w : V) → JoinsRunning (forward.dropping m) so u e w → (s : List ℤ) → SomeHas m so s → InGamma m w s
+  joins_so : (so : Option V) (u : V) (e : Exactness) (w : V) → JoinsRunning (forward.lossy_operations m) so u e w → (s : List ℤ) → SomeHas m so s →
+      InGamma m w s
   joins_so None u e w joins s own = absurd own
   joins_so (Some v) u e w joins s own = covered_has m laws v w joins.0.formed joins.0.left s own
 
-  joins_new : (so : Option V) (u : V) (e : Exactness) (w : V) → JoinsRunning (forward.dropping m) so u e w → (s : List ℤ) → InGamma m u s → InGamma m w s
+  joins_new : (so : Option V) (u : V) (e : Exactness) (w : V) → JoinsRunning (forward.lossy_operations m) so u e w → (s : List ℤ) → InGamma m u s →
+      InGamma m w s
   joins_new None u e w (same, exact) s own = subst (λ x. InGamma m x s) (sym same) own
   joins_new (Some v) u e w joins s own = covered_has m laws u w joins.0.formed joins.0.right s own
 
@@ -105,7 +107,7 @@ module _ {V H : Type 0} (m : Abstraction V H) (b : BackwardAbstraction V) (laws 
     comes = λ s own. subst (λ o. SomeHas m o s) (sym same) (joins_new so seed e w joins s own);
   }
 
-  runs_from : (live cap : ℕ) (all : Option V) (w : V) → RunsFrom (forward.dropping m) live cap all w → (s : List ℤ) → SomeHas m all s → InGamma m w s
+  runs_from : (live cap : ℕ) (all : Option V) (w : V) → RunsFrom (forward.lossy_operations m) live cap all w → (s : List ℤ) → SomeHas m all s → InGamma m w s
   runs_from live cap None w runs s own = absurd own
   runs_from live cap (Some v) w same s own = subst (λ x. InGamma m x s) (sym same) own
 

@@ -8,9 +8,9 @@ use Rattle.lra_linear_spec.proofs.Membership.{all_from, filter_from}
 use Rattle.lra_program.specs.declared.program.GlobalVariable.{GlobalVariable}
 use Rattle.lra_program.specs.Sites.{Site}
 use Rattle.lra_operations.specs.Tree.{Node}
-use Rattle.lra_flow.specs.Room.{most_live}
-use Rattle.lra_outcomes.specs.Fits.{TreeFits}
-use Rattle.lra_iter.specs.Lives.{PointsHave}
+use Rattle.lra_analysis_spec.specs.LiveLimit.{most_live}
+use Rattle.lra_pass_results.specs.Dimensions.{TreeFits}
+use Rattle.lra_fixpoint.specs.Lives.{PointsHave}
 use Rattle.lra_ways.specs.Ways.{Goal, comes_to, denies, Segment, inside}
 use Rattle.lra_sides.specs.Sides.{written}
 use Rattle.lra_paths.specs.Paths.{same_goal, live_of, leading_in, next_segments}

@@ -6,10 +6,10 @@ use Rattle.lra_program.specs.declared.program.GlobalVariable.{GlobalVariable}
 use Rattle.lra_program.specs.Sites.{Site, sites_of}
 use Rattle.lra_operations.specs.Agree.{IsInlinedTree}
 use Rattle.lra_operations.specs.Tree.{Node}
-use Rattle.lra_flow.specs.Analysis.{IsUnreachable}
-use Rattle.lra_flow.specs.Room.{most_live}
-use Rattle.lra_outcomes.specs.Fits.{TreeFits}
-use Rattle.lra_iter.specs.Lives.{PointsHave}
+use Rattle.lra_analysis_spec.specs.Analysis.{IsUnreachable}
+use Rattle.lra_analysis_spec.specs.LiveLimit.{most_live}
+use Rattle.lra_pass_results.specs.Dimensions.{TreeFits}
+use Rattle.lra_fixpoint.specs.Lives.{PointsHave}
 use Rattle.lra_ways.specs.Ways.{comes_to}
 use Rattle.lra_paths.specs.Paths.{leading}
 use Rattle.lra_back.specs.Traced.{AreAsserted, NothingLeftAtStart, PathsFit}

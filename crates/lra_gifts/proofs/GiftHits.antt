@@ -24,7 +24,7 @@ use Rattle.lra_operations.specs.Inlined.{as_for, as_break, as_continue, as_retur
 use Rattle.lra_operations.specs.Inlined.{as_assert, as_assume, as_switch, as_write, as_write_call, as_fresh, as_given, as_value, as_result, is_loop}
 use Rattle.lra_operations.specs.Inlined.{loop_node, return_node, switch_node}
 use Rattle.lra_operations.proofs.ArmRows.{row_behind}
-use Rattle.lra_flow.specs.Opened as opened
+use Rattle.lra_analysis_spec.specs.Instrumented as opened
 use Rattle.lra_inline_sound.proofs.Landing.{config, Matches}
 use Rattle.lra_inline_sound.proofs.Shapes.{tail_node}
 use Rattle.lra_inline_sound.proofs.Split.{trail, named, not_there, receiver_is, no_mark, IsClosed, IsThere, IsSought}
@@ -33,7 +33,7 @@ use Rattle.lra_gifts.proofs.TopGifts.{TopGives, no_end, tail_gives, row_gives, l
 
 module _ (may : State → State → Type 0) (gift : ℕ) (P : Program) (T : List Site) where
   abbrev pub Given : Node → Trace Point → ℕ → Trace Point → Type 0
-  Given g a q b = opened.Gives (point_at T) may g a q gift b
+  Given g a q b = opened.WritesVariable (point_at T) may g a q gift b
 
   -- where the configuration's step, from what others made of its state, gives the variable a value, the tree does
   pub record Hit (c : Config) (zs : List (TraceEvent Point)) (p : ℕ) (g : Node) (a : Trace Point) : Type 0 where
@@ -77,7 +77,7 @@ module _ (may : State → State → Type 0) (keeps : KeepsWidth may) (gift : ℕ
   H g a = Hit may gift P T c zs p g a
 
   abbrev B : Node → Trace Point → ℕ → Trace Point → Type 0
-  B g a q b = opened.Gives (point_at T) may g a q gift b
+  B g a q b = opened.WritesVariable (point_at T) may g a q gift b
 
   abbrev There : List Item → InlineState → Trace Point → Type 0
   There is spot a = IsThere may P T c zs H is spot a

@@ -15,7 +15,7 @@ use Rattle.lra_operations.specs.Inlined.{loop_node}
 use Rattle.lra_operations.proofs.ArmRows.{arms_row, row_behind}
 use Rattle.lra_inline_sound.proofs.Landing.{IsBare}
 use Rattle.lra_inline_sound.proofs.Shapes.{tail_node, Round, rounds_first}
-use Rattle.lra_flow.specs.Opened as opened
+use Rattle.lra_analysis_spec.specs.Instrumented as opened
 use Rattle.lra_interleavings.specs.Writes.{OpWrites, StepWrites}
 
 -- at a function's end: what is given behind it, before a further point is met
@@ -75,7 +75,7 @@ any_only (inr x) = x
 
 module _ (name : ℕ → Point) (may : State → State → Type 0) where
   abbrev Given : Node → ℕ → Trace Point → ℕ → Trace Point → Type 0
-  Given g x a q b = opened.Gives name may g a q x b
+  Given g x a q b = opened.WritesVariable name may g a q x b
 
   -- a function's end
   pub tail_gives : (r n params x : ℕ) (to : Receiver) (a b d : Trace Point) → VisitsPoint name may r a b
@@ -86,21 +86,22 @@ module _ (name : ℕ → Point) (may : State → State → Type 0) where
 
   module _ (x : ℕ) where
     arms_give : (l : CaseLabel) (arms : Arms) (a : Trace Point) (q : ℕ) (b : Trace Point) → Given (arms_row arms) x a q b
-        → opened.ArmsGive name may l true arms a q x b
+        → opened.ArmsWriteVariable name may l true arms a q x b
     arms_give l no_arms a q b g = g
     arms_give l (entry k arms) a q b g = arms_give l arms a q b g
     arms_give l (arm g' arms) a q b (inl g) = inl g
     arms_give l (arm g' arms) a q b (inr (m, e, g)) = inr (m, e, arms_give l arms m q b g)
 
     entered_gives : (l : CaseLabel) (arms : Arms) (t : Bool)
-        → ((a : Trace Point) (q : ℕ) (b : Trace Point) → Given (row_behind l arms) x a q b → opened.ArmsGive name may l false arms a q x b)
-        → (a : Trace Point) (q : ℕ) (b : Trace Point) → Given (cond t (arms_row arms) (row_behind l arms)) x a q b → opened.ArmsGive name may l t arms a q x b
+        → ((a : Trace Point) (q : ℕ) (b : Trace Point) → Given (row_behind l arms) x a q b → opened.ArmsWriteVariable name may l false arms a q x b)
+        → (a : Trace Point) (q : ℕ) (b : Trace Point) → Given (cond t (arms_row arms) (row_behind l arms)) x a q b →
+        opened.ArmsWriteVariable name may l t arms a q x b
     entered_gives l arms true each a q b g = arms_give l arms a q b g
     entered_gives l arms false each a q b g = each a q b g
 
     -- behind a label
     pub row_gives : (l : CaseLabel) (arms : Arms) (a : Trace Point) (q : ℕ) (b : Trace Point) → Given (row_behind l arms) x a q b
-        → opened.ArmsGive name may l false arms a q x b
+        → opened.ArmsWriteVariable name may l false arms a q x b
     row_gives l no_arms a q b g = g
     row_gives l (entry k arms) a q b g = entered_gives l arms (is_same_case l k) (row_gives l arms) a q b g
     row_gives l (arm g' arms) a q b g = row_gives l arms a q b g

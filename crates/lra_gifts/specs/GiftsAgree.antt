@@ -8,14 +8,14 @@ use Rattle.lra_program.specs.Traces.{Trace}
 use Rattle.lra_operations.specs.Tree.{Node}
 use Rattle.lra_operations.specs.Agree.{IsInlinedTree}
 use Rattle.lra_operations.specs.TracesAgree.{KeepsWidth, point_at}
-use Rattle.lra_flow.specs.Opened.{Gives}
+use Rattle.lra_analysis_spec.specs.Instrumented.{WritesVariable}
 use Rattle.lra_interleavings.specs.Interleavings.{thread_program}
 use Rattle.lra_interleavings.specs.ThreadModular.{WritesThere, OthersInterfere, AreAllowed, IsThreadModular}
 
 -- the tree of the program, begun with these draws, gives the variable x a value at the point; the trail ends behind it
 abbrev pub TreeGives : (State → State → Type 0) → Program → Node → List ℤ → ℕ → ℕ → Trace Point → Type 0
 TreeGives may P g draws q x a =
-    Gives (point_at (sites_of P)) may g (record { state = begun P draws; events = [] }) q x a
+    WritesVariable (point_at (sites_of P)) may g (record { state = begun P draws; events = [] }) q x a
 
 abbrev pub GiftsAgree : (State → State → Type 0) → Type 0
 GiftsAgree may = (P : Program) (g : Node) → IsInlinedTree P g → (draws : List ℤ) (x : ℕ) (a : Trace Point) →

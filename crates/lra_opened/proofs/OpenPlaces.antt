@@ -20,7 +20,7 @@ use Rattle.lra_operations.specs.TreeViews.{arm_view, arms_before, arms_of, node_
 use Rattle.lra_operations.specs.Parts.{whole_of}
 use Rattle.lra_operations.specs.Sizes.{arm_sizes, arms_tree_sizes, whole_size}
 use Rattle.lra_operations.proofs.ArmViews.{entry_seen, tree_seen}
-use Rattle.lra_flow.specs.Opened.{opened, opened_arms}
+use Rattle.lra_analysis_spec.specs.Instrumented.{instrumented, instrumented_arms}
 use Rattle.lra_opened.specs.declared.places.Row as of_row
 use Rattle.lra_opened.specs.declared.places.Selection as of_select
 use Rattle.lra_opened.specs.declared.places.Next as next
@@ -47,8 +47,8 @@ left_pushed ps qs p is = ap all_left is ∙ sum_by_push place_left ps p
 
 -- one opens, and a tree in it is next
 pub opened_in : (n : ℕ) (ps qs : List place.Place) (p : place.Place) (g : Node) → qs ≡ ps ++ p ∷ []
-    → Leads n ps (around n p (opened n (node_view g))) (1 + place_left p + tree_left g) qs (Opens g)
-opened_in n ps qs p g is = record { same = around_pushed n ps qs p (opened n (node_view g)) is; falls = omega (arith, left_pushed ps qs p is) }
+    → Leads n ps (around n p (instrumented n (node_view g))) (1 + place_left p + tree_left g) qs (Opens g)
+opened_in n ps qs p g is = record { same = around_pushed n ps qs p (instrumented n (node_view g)) is; falls = omega (arith, left_pushed ps qs p is) }
 
 -- the innermost is filled by a tree
 pub filled : (n : ℕ) (ps qs now : List place.Place) (p : place.Place) (g : Node) (x : next.Next) → qs ≡ ps ++ p ∷ []
@@ -74,25 +74,28 @@ stands n ps g k x is few = record { same = ap (all_around n ps) is; falls = omeg
 -- trees -----------------------------------------------------------------------------------------------------------------------
 
 -- this one is opened
-pub leaf_leads : (n : ℕ) (ps : List place.Place) (p : Parts) (g h : Node) → whole_of p ≡ g → node_view h ≡ opened n (parts_view p)
-    → Leads n ps (opened n (node_view g)) (tree_left g) ps (Gives h)
-leaf_leads n ps p g h is made = stands n ps (opened n (node_view g)) (tree_left g) (Gives h) (made ∙ ap (opened n) (sym (seen_as p g is))) (some_left p g is)
+pub leaf_leads : (n : ℕ) (ps : List place.Place) (p : Parts) (g h : Node) → whole_of p ≡ g → node_view h ≡ instrumented n (parts_view p)
+    → Leads n ps (instrumented n (node_view g)) (tree_left g) ps (Gives h)
+leaf_leads n ps p g h is made =
+    stands n ps (instrumented n (node_view g)) (tree_left g) (Gives h) (made ∙ ap (instrumented n) (sym (seen_as p g is))) (some_left p g is)
 
 -- a tree in this one is next, or a row or arms
 pub parts_lead : {E : Type 0} (r : outcome.Result next.Next E) (n : ℕ) (ps qs : List place.Place) (p : Parts) (g : Node) (h : graph.Node) (k : ℕ)
-    → whole_of p ≡ g → h ≡ opened n (parts_view p) → k ≤ 2 * parts_size p → IfOk r (λ x. Leads n ps h k qs x)
-    → IfOk r (λ x. Leads n ps (opened n (node_view g)) (tree_left g) qs x)
+    → whole_of p ≡ g → h ≡ instrumented n (parts_view p) → k ≤ 2 * parts_size p → IfOk r (λ x. Leads n ps h k qs x)
+    → IfOk r (λ x. Leads n ps (instrumented n (node_view g)) (tree_left g) qs x)
 parts_lead r n ps qs p g h k is made few led =
-    leads_on r n ps qs h (opened n (node_view g)) k (tree_left g) (made ∙ ap (opened n) (sym (seen_as p g is))) (omega (arith, few, left_of p g is)) led
+    leads_on r n ps qs h (instrumented n (node_view g)) k (tree_left g) (made ∙ ap (instrumented n) (sym (seen_as p g is))) (omega (arith, few, left_of p g is))
+    led
 
 -- its arms are next
 pub select_leads : (n : ℕ) (ps : List place.Place) (q base : ℕ) (e : Expr) (arms : Vec Arm Global) (g : Node) (s : of_select.Selection)
     → whole_of (parts.Select q base e arms) ≡ g
-    → selection_whole n s ≡ graph.select q base (expr_view e) (opened_arms n (arms_of (map arm_view arms.items)))
-    → selection_left s ≡ 2 + 2 * arms_tree_sizes (map arm_sizes arms.items) → Leads n ps (opened n (node_view g)) (tree_left g) ps (Selects s)
+    → selection_whole n s ≡ graph.select q base (expr_view e) (instrumented_arms n (arms_of (map arm_view arms.items)))
+    → selection_left s ≡ 2 + 2 * arms_tree_sizes (map arm_sizes arms.items) → Leads n ps (instrumented n (node_view g)) (tree_left g) ps (Selects s)
 select_leads n ps q base e arms g s is made size =
     let p = parts.Select q base e arms in
-    stands n ps (opened n (node_view g)) (tree_left g) (Selects s) (made ∙ ap (opened n) (sym (seen_as p g is))) (omega (arith, size, left_of p g is))
+    stands n ps (instrumented n (node_view g)) (tree_left g) (Selects s) (made ∙ ap (instrumented n) (sym (seen_as p g is)))
+    (omega (arith, size, left_of p g is))
 
 -- rows ------------------------------------------------------------------------------------------------------------------------
 
@@ -105,11 +108,11 @@ reversed_last xs x = reverse-append xs (x ∷ [])
 
 -- the next of those that are left
 left_next : (n : ℕ) (left behind : List Node) (g last : Node) → left ≡ behind ++ g ∷ []
-    → row_of_left n left last ≡ graph.seq (opened n (node_view g)) (row_of_left n behind last)
-left_next n left behind g last is = ap (λ xs. opened n (row (map node_view xs) (node_view last))) (ap reverse is ∙ reversed_last behind g)
+    → row_of_left n left last ≡ graph.seq (instrumented n (node_view g)) (row_of_left n behind last)
+left_next n left behind g last is = ap (λ xs. instrumented n (row (map node_view xs) (node_view last))) (ap reverse is ∙ reversed_last behind g)
 
 pub row_next : (n : ℕ) (done : Vec Node Global) (left behind : Vec Node Global) (last : Box Node Global) (g : Node) → left.items ≡ behind.items ++ g ∷ []
-    → around n (Row (record { done = done; left = behind; last = last })) (opened n (node_view g)) ≡
+    → around n (Row (record { done = done; left = behind; last = last })) (instrumented n (node_view g)) ≡
     row_whole n (record { done = done; left = left; last = last })
 row_next n done left behind last g is = ap (row (map node_view done.items)) (sym (left_next n left.items behind.items g last.value is))
 
@@ -119,10 +122,10 @@ row_fewer done left behind last g is = omega (arith, ap (sum_by whole_size) is �
 
 -- the last tree of a row
 pub row_ends : (n : ℕ) (done left : Vec Node Global) (last : Box Node Global) (g : Node) → g ≡ last.value → length left.items ≡ 0
-    → around n (Last done) (opened n (node_view g)) ≡ row_whole n (record { done = done; left = left; last = last })
+    → around n (Last done) (instrumented n (node_view g)) ≡ row_whole n (record { done = done; left = left; last = last })
 row_ends n done left last g is none =
-    ap (λ (x : Node). row (map node_view done.items) (opened n (node_view x))) is ∙
-    ap (λ (xs : List Node). row (map node_view done.items) (opened n (row (map node_view (reverse xs)) (node_view last.value))))
+    ap (λ (x : Node). row (map node_view done.items) (instrumented n (node_view x))) is ∙
+    ap (λ (xs : List Node). row (map node_view done.items) (instrumented n (row (map node_view (reverse xs)) (node_view last.value))))
     (sym (nil_from_length left.items none))
 
 pub row_ends_fewer : (done left : Vec Node Global) (last : Box Node Global) (g : Node) → g ≡ last.value
@@ -131,10 +134,10 @@ row_ends_fewer done left last g is = omega (arith, ap whole_size is)
 
 -- a row of which nothing is opened
 pub row_begins : (n : ℕ) (done trees left : Vec Node Global) (last : Box Node Global) → done.items ≡ [] → left.items ≡ reverse trees.items
-    → row_whole n (record { done = done; left = left; last = last }) ≡ opened n (row (map node_view trees.items) (node_view last.value))
+    → row_whole n (record { done = done; left = left; last = last }) ≡ instrumented n (row (map node_view trees.items) (node_view last.value))
 row_begins n done trees left last none is =
     ap (λ (xs : List Node). row (map node_view xs) (row_of_left n left.items last.value)) none ∙
-    ap (λ (xs : List Node). opened n (row (map node_view xs) (node_view last.value))) (ap reverse is ∙ reverse-reverse trees.items)
+    ap (λ (xs : List Node). instrumented n (row (map node_view xs) (node_view last.value))) (ap reverse is ∙ reverse-reverse trees.items)
 
 pub row_begins_fewer : (done trees left : Vec Node Global) (last : Box Node Global) → left.items ≡ reverse trees.items
     → 1 + row_left (record { done = done; left = left; last = last }) ≤ 3 + 2 * (sum_by whole_size trees.items + whole_size last.value)
@@ -156,18 +159,20 @@ arms_more [] a h = refl
 arms_more (b ∷ arms) a h = ap (arm_view b) (arms_more arms a h)
 
 arms_next : (n : ℕ) (left behind : List Arm) (a : Arm) → left ≡ behind ++ a ∷ []
-    → arms_of_left n left ≡ opened_arms n (arm_view a (arms_of (map arm_view (reverse behind))))
-arms_next n left behind a is = ap (λ xs. opened_arms n (arms_of (map arm_view xs))) (ap reverse is ∙ reversed_last behind a)
+    → arms_of_left n left ≡ instrumented_arms n (arm_view a (arms_of (map arm_view (reverse behind))))
+arms_next n left behind a is = ap (λ xs. instrumented_arms n (arms_of (map arm_view xs))) (ap reverse is ∙ reversed_last behind a)
 
 -- the next of those that are left is a label
 entry_next : (n : ℕ) (left behind : List Arm) (a : Arm) (l : CaseLabel) → left ≡ behind ++ a ∷ [] → armed.Entry l ≡ a
     → arms_of_left n left ≡ graph.entry l (arms_of_left n behind)
-entry_next n left behind a l is here = arms_next n left behind a is ∙ ap (opened_arms n) (entry_seen a l (arms_of (map arm_view (reverse behind))) (sym here))
+entry_next n left behind a l is here =
+    arms_next n left behind a is ∙ ap (instrumented_arms n) (entry_seen a l (arms_of (map arm_view (reverse behind))) (sym here))
 
 -- or a tree
 tree_next : (n : ℕ) (left behind : List Arm) (a : Arm) (g : Node) → left ≡ behind ++ a ∷ [] → armed.Tree g ≡ a
-    → arms_of_left n left ≡ graph.arm (opened n (node_view g)) (arms_of_left n behind)
-tree_next n left behind a g is here = arms_next n left behind a is ∙ ap (opened_arms n) (tree_seen a g (arms_of (map arm_view (reverse behind))) (sym here))
+    → arms_of_left n left ≡ graph.arm (instrumented n (node_view g)) (arms_of_left n behind)
+tree_next n left behind a g is here =
+    arms_next n left behind a is ∙ ap (instrumented_arms n) (tree_seen a g (arms_of (map arm_view (reverse behind))) (sym here))
 
 module _ (q base : ℕ) (e : Expr) where
   abbrev Of : Vec Arm Global → Vec Arm Global → of_select.Selection
@@ -192,7 +197,7 @@ module _ (q base : ℕ) (e : Expr) where
   )
 
   pub tree_stands : (n : ℕ) (done left behind : Vec Arm Global) (a : Arm) (g : Node) → left.items ≡ behind.items ++ a ∷ [] → armed.Tree g ≡ a
-      → around n (arm_place (Of done behind)) (opened n (node_view g)) ≡ selection_whole n (Of done left)
+      → around n (arm_place (Of done behind)) (instrumented n (node_view g)) ≡ selection_whole n (Of done left)
   tree_stands n done left behind a g is here =
       ap (λ h. graph.select q base (expr_view e) (arms_before (map arm_view done.items) h)) (sym (tree_next n left.items behind.items a g is here))
 
@@ -212,10 +217,10 @@ module _ (q base : ℕ) (e : Expr) where
 
   -- none of them is opened
   pub arms_begin : (n : ℕ) (done arms left : Vec Arm Global) → done.items ≡ [] → left.items ≡ reverse arms.items
-      → selection_whole n (Of done left) ≡ graph.select q base (expr_view e) (opened_arms n (arms_of (map arm_view arms.items)))
+      → selection_whole n (Of done left) ≡ graph.select q base (expr_view e) (instrumented_arms n (arms_of (map arm_view arms.items)))
   arms_begin n done arms left none is =
       ap (λ (xs : List Arm). graph.select q base (expr_view e) (arms_before (map arm_view xs) (arms_of_left n left.items))) none ∙
-      ap (λ (xs : List Arm). graph.select q base (expr_view e) (opened_arms n (arms_of (map arm_view xs)))) (ap reverse is ∙ reverse-reverse arms.items)
+      ap (λ (xs : List Arm). graph.select q base (expr_view e) (instrumented_arms n (arms_of (map arm_view xs)))) (ap reverse is ∙ reverse-reverse arms.items)
 
   pub arms_begin_left : (done arms left : Vec Arm Global) → left.items ≡ reverse arms.items
       → selection_left (Of done left) ≡ 2 + 2 * arms_tree_sizes (map arm_sizes arms.items)

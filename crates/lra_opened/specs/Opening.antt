@@ -6,7 +6,7 @@ use Rattle.lra_operations.specs.declared.tree.Arm.{Arm}
 use Rattle.lra_operations.specs.declared.tree.Node.{Node}
 use Rattle.lra_operations.specs.Tree as graph
 use Rattle.lra_operations.specs.TreeViews.{arm_view, arms_before, arms_of, exit_view, node_view, row}
-use Rattle.lra_flow.specs.Opened.{entered, opened, opened_arms}
+use Rattle.lra_analysis_spec.specs.Instrumented.{with_interference, instrumented, instrumented_arms}
 use Rattle.lra_opened.specs.declared.places.Row as of_row
 use Rattle.lra_opened.specs.declared.places.Selection as of_select
 use Rattle.lra_opened.specs.declared.places.Next as next
@@ -16,10 +16,10 @@ use Rattle.lra_opened.specs.declared.places.Place.TheVariants.{Row, Last, First,
 
 -- the trees that are left in a row, the first of them last, and the row's last tree
 abbrev pub row_of_left : ℕ → List Node → Node → graph.Node
-row_of_left n left last = opened n (row (map node_view (reverse left)) (node_view last))
+row_of_left n left last = instrumented n (row (map node_view (reverse left)) (node_view last))
 
 abbrev pub arms_of_left : ℕ → List Arm → graph.Arms
-arms_of_left n left = opened_arms n (arms_of (map arm_view (reverse left)))
+arms_of_left n left = instrumented_arms n (arms_of (map arm_view (reverse left)))
 
 -- a row, and a `switch`, of which something is opened and the rest is left
 abbrev pub row_whole : ℕ → of_row.Row → graph.Node
@@ -35,10 +35,10 @@ selection_whole n s = select_around s (arms_of_left n s.left.items)
 abbrev pub around : ℕ → place.Place → graph.Node → graph.Node
 around n (Row r) g = row (map node_view r.done.items) (graph.seq g (row_of_left n r.left.items r.last.value))
 around n (Last done) g = row (map node_view done.items) g
-around n (First q base c b) g = graph.choose q base (cond_view c) g (opened n (node_view b.value))
+around n (First q base c b) g = graph.choose q base (cond_view c) g (instrumented n (node_view b.value))
 around n (Second q base c a) g = graph.choose q base (cond_view c) (node_view a.value) g
 around n (Body q base c) g =
-    entered q (graph.iterate q base (cond_view c) (graph.seq g (graph.probe q InterferencePoint)))
+    with_interference q (graph.iterate q base (cond_view c) (graph.seq g (graph.probe q InterferencePoint)))
 around n (Catch q k) g = graph.catch q (exit_view k) g
 around n (arm_place s) g = select_around s (graph.arm g (arms_of_left n s.left.items))
 
@@ -49,6 +49,6 @@ all_around n (p ∷ ps) g = around n p (all_around n ps g)
 
 -- what the next thing becomes
 abbrev pub standing : ℕ → next.Next → graph.Node
-standing n (Opens g) = opened n (node_view g)
+standing n (Opens g) = instrumented n (node_view g)
 standing n (Gives g) = node_view g
 standing n (Selects s) = selection_whole n s

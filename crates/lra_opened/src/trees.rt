@@ -7,7 +7,8 @@ ghost use Rattle.lra_operations.specs.declared.probes.Probe.TheVariants.{Interfe
 ghost use Rattle.lra_operations.specs.Tree as graph;
 ghost use Rattle.lra_operations.specs.TreeViews.{arm_view, arms_of, node_view, op_view, row};
 ghost use Rattle.lra_operations.specs.Sizes.{arm_sizes, arms_tree_sizes, whole_size};
-ghost use Rattle.lra_flow.specs.Opened.{entered, noting_of, opened, opened_arms};
+ghost use Rattle.lra_analysis_spec.specs.Instrumented.{with_interference, with_recording, instrumented};
+ghost use Rattle.lra_analysis_spec.specs.Instrumented.{instrumented_arms};
 ghost use Rattle.lra_program.specs.WrittenVariables.{written_variable, target_variable};
 ghost use Rattle.lra_opened.specs.Opening.{around, row_whole, selection_whole};
 ghost use Rattle.lra_opened.specs.StepsLeft.{place_left, row_left, selection_left, tree_left, Leads, Reaches};
@@ -54,7 +55,8 @@ fn find_gift(op: &Op) -> Option<usize>
 /// The operation, and behind it what it gives to one of the first variables.
 fn note_gift(alloc: Global, globals: usize, point: usize, op: Op) -> Result<Node, AllocError>
     ensures { IfOk result (λ g. node_view g ≡
-        noting_of globals point (written_variable (op_view op)) (graph.act point (op_view op))) }
+        with_recording globals point (written_variable (op_view op))
+        (graph.act point (op_view op))) }
 {
     match find_gift(&op) {
         Some(place) => {
@@ -71,7 +73,7 @@ fn note_gift(alloc: Global, globals: usize, point: usize, op: Op) -> Result<Node
 
 /// Others act, and then the tree.
 fn enter(alloc: Global, point: usize, tree: Node) -> Result<Node, AllocError>
-    ensures { IfOk result (λ g. node_view g ≡ entered point (node_view tree)) }
+    ensures { IfOk result (λ g. node_view g ≡ with_interference point (node_view tree)) }
 {
     put_in_turn(alloc, Node::Probe(point, Probe::InterferencePoint), tree)
 }
@@ -84,7 +86,7 @@ fn enter_loop(
     condition: Cond,
     body: Node,
 ) -> Result<Node, AllocError>
-    ensures { IfOk result (λ g. node_view g ≡ entered point
+    ensures { IfOk result (λ g. node_view g ≡ with_interference point
         (graph.iterate point base (cond_view condition)
         (graph.seq (node_view body) (graph.probe point InterferencePoint)))) }
 {
@@ -98,7 +100,7 @@ fn enter_loop(
 /// This place opens, and in it the tree is next.
 fn open_in(places: &mut Vec<Place>, place: Place, tree: Node) -> Result<Next, AllocError>
     ensures { (n : ℕ) → IfOk result (λ next. Leads n places.old.items
-        (around n place (opened n (node_view tree)))
+        (around n place (instrumented n (node_view tree)))
         (1 + place_left place + tree_left tree) places.new.items next) }
 {
     places.push(place)?;
@@ -157,7 +159,7 @@ fn open_row(
     last: Box<Node>,
 ) -> Result<Next, AllocError>
     ensures { (n : ℕ) → IfOk result (λ next. Leads n places.old.items
-        (opened n (row (map node_view trees.items) (node_view last.value)))
+        (instrumented n (row (map node_view trees.items) (node_view last.value)))
         (3 + 2 * (sum_by whole_size trees.items + whole_size last.value)) places.new.items next) }
 {
     trees.reverse();
@@ -174,7 +176,7 @@ fn open_row(
 fn select(alloc: Global, point: usize, base: usize, value: Expr, mut arms: Vec<Arm>) -> Selection
     ensures whole { (n : ℕ) → selection_whole n result ≡
         graph.select point base (expr_view value)
-        (opened_arms n (arms_of (map arm_view arms.items))) }
+        (instrumented_arms n (arms_of (map arm_view arms.items))) }
     ensures steps { selection_left result ≡ 2 + 2 * arms_tree_sizes (map arm_sizes arms.items) }
 {
     arms.reverse();
@@ -195,7 +197,8 @@ fn open_parts(
     places: &mut Vec<Place>,
     tree: Node,
 ) -> Result<Next, AllocError>
-    ensures { IfOk result (λ next. Leads globals places.old.items (opened globals (node_view tree))
+    ensures { IfOk result
+        (λ next. Leads globals places.old.items (instrumented globals (node_view tree))
         (tree_left tree) places.new.items next) }
 {
     match tree.into_parts() {
@@ -305,7 +308,7 @@ fn take_step(
 /// The tree with what others do: they act before each point, before a loop and at its body's end; what the first so
 /// many variables get is noted.
 pub fn open_tree(alloc: Global, globals: usize, tree: Node) -> Result<Node, AllocError>
-    ensures { IfOk result (λ g. node_view g ≡ opened globals (node_view tree)) }
+    ensures { IfOk result (λ g. node_view g ≡ instrumented globals (node_view tree)) }
 {
     let mut places = Vec::new(alloc);
     let mut next = Next::Opens(tree);
@@ -323,7 +326,8 @@ pub fn opened_graph(
     globals: usize,
     graph: InlinedProgram,
 ) -> Result<InlinedProgram, AllocError>
-    ensures tree { IfOk result (λ g. node_view g.tree ≡ opened globals (node_view graph.tree)) }
+    ensures tree { IfOk result
+        (λ g. node_view g.tree ≡ instrumented globals (node_view graph.tree)) }
     ensures sites { IfOk result (λ g. g.sites ≡ graph.sites) }
 {
     let mut graph = graph;

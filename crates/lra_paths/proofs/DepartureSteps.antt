@@ -12,7 +12,7 @@ use Rattle.lra_domain.specs.Moves.{Moves, stay, first_then}
 use Rattle.lra_program.specs.declared.program.GlobalVariable.{GlobalVariable}
 use Rattle.lra_program.specs.Sites.{Site}
 use Rattle.lra_operations.specs.Tree.{Node}
-use Rattle.lra_flow.specs.MovesOf.{first_values}
+use Rattle.lra_analysis_spec.specs.MovesOf.{first_values}
 use Rattle.lra_ways.specs.Ways.{Step, Goal, each_then, enter, inside, Way, Segment}
 use Rattle.lra_sides.specs.Sides.{sides, written, greatest_paths}
 use Rattle.lra_paths.specs.Paths.{live_of, same_goal, started, leading_in, AreFewFrom, HasTooManyIn}

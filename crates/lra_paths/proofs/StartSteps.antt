@@ -6,8 +6,8 @@ use Rattle.lra_program.specs.Program.{Program}
 use Rattle.lra_program.specs.declared.program.GlobalVariable.{GlobalVariable}
 use Rattle.lra_program.specs.Step.{State}
 use Rattle.lra_program.specs.Run.{begun}
-use Rattle.lra_flow.specs.MovesOf.{first_values}
-use Rattle.lra_flow.proofs.Keeping.{first_lead}
+use Rattle.lra_analysis_spec.specs.MovesOf.{first_values}
+use Rattle.lra_analysis_spec.proofs.Keeping.{first_lead}
 use Rattle.std.proofs.lemmas.List.{length-map}
 use Rattle.lra_ways.specs.Ways.{Step, RunsOps}
 use Rattle.lra_sides.specs.Sides.{sides, written}

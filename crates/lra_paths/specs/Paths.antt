@@ -8,7 +8,7 @@ use Rattle.lra_program.specs.Program.{Program}
 use Rattle.lra_program.specs.declared.program.GlobalVariable.{GlobalVariable}
 use Rattle.lra_program.specs.Sites.{Site, sites_of}
 use Rattle.lra_operations.specs.Tree.{Node}
-use Rattle.lra_flow.specs.MovesOf.{first_values}
+use Rattle.lra_analysis_spec.specs.MovesOf.{first_values}
 use Rattle.lra_ways.specs.Ways.{Step, Goal, comes_to, denies, Way, Segment, each_then, enter, inside}
 use Rattle.lra_sides.specs.Sides.{sides, written, greatest_paths}
 

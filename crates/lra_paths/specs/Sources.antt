@@ -6,7 +6,7 @@ use Rattle.lra_domain.specs.Actions.{Action}
 use Rattle.lra_domain.specs.Moves.{Moves, stay, first_then}
 use Rattle.lra_program.specs.declared.program.GlobalVariable.{GlobalVariable}
 use Rattle.lra_program.specs.Sites.{Site}
-use Rattle.lra_flow.specs.MovesOf.{first_values}
+use Rattle.lra_analysis_spec.specs.MovesOf.{first_values}
 use Rattle.lra_ways.specs.Ways.{Step, Goal}
 use Rattle.lra_sides.specs.Sides.{sides, greatest_paths}
 use Rattle.lra_paths.specs.Paths.{live_of, same_goal}

@@ -10,7 +10,7 @@ use Rattle.lra_domain.specs.declared.Exactness.{Exactness}
 use Rattle.lra_domain.specs.declared.Exactness.TheVariants.{Exact, Flagged}
 use Rattle.lra_domain.specs.declared.Mode.{Mode}
 use Rattle.lra_domain.specs.declared.Mode.TheVariants.{Join, Widen}
-use Rattle.lra_flow.specs.Pass.{noted}
+use Rattle.lra_analysis_spec.specs.Pass.{noted}
 use Rattle.lra_back.specs.Operations.{BackOperations}
 use Rattle.lra_back.specs.Rounds.{AreMet, Round, Rounds, Task, Widens}
 use Rattle.lra_back.specs.Traced.{Backs}

@@ -9,11 +9,11 @@ use Rattle.lra_program.specs.declared.program.GlobalVariable.{GlobalVariable}
 use Rattle.lra_program.specs.Sites.{Site, sites_of}
 use Rattle.lra_operations.specs.CheckedOperations.{accessing_ops}
 use Rattle.lra_operations.specs.Tree.{Node}
-use Rattle.lra_flow.specs.Accesses.{OpInside, JudgesAccesses}
-use Rattle.lra_flow.specs.Operations.{defined, dropping, straining}
-use Rattle.lra_flow.specs.Room.{most_live}
-use Rattle.lra_flow.proofs.OneAccess.{accesses_written, accesses_strained}
-use Rattle.lra_iter.specs.Solved.{IsSolved}
+use Rattle.lra_analysis_spec.specs.Accesses.{OpInside, JudgesAccesses}
+use Rattle.lra_analysis_spec.specs.Operations.{exact_operations, lossy_operations, straining_operations}
+use Rattle.lra_analysis_spec.specs.LiveLimit.{most_live}
+use Rattle.lra_analysis_spec.proofs.OneAccess.{accesses_written, accesses_strained}
+use Rattle.lra_fixpoint.specs.Solved.{IsSolved}
 use Rattle.lra_front_end.specs.Stages.{HasInlinedTree}
 use Rattle.lra_poly_domain.specs.Laws.{polyhedron_laws}
 use Rattle.lra_poly_domain.specs.Abstraction.{polyhedron_abstraction}
@@ -50,20 +50,21 @@ module _ (t : FileTree) (g : Node) (sites : List Site) (has : HasInlinedTree t g
   are_wide = subst (λ (T : List Site). AreWide polyhedron_abstraction T values) (sym has.points) wide_at
 
   module _ (inside : List (ℕ × List (Place × Bool))) (flagged : Option ℕ)
-      (judges : JudgesAccesses polyhedron_abstraction (dropping polyhedron_abstraction) g values behind inside flagged) where
+      (judges : JudgesAccesses polyhedron_abstraction (lossy_operations polyhedron_abstraction) g values behind inside flagged) where
     pub flag_there : (q : ℕ) → flagged ≡ Some q → q < length sites
     flag_there q is =
         let low = last_handed polyhedron_abstraction t g sites has (forward_plan constants) values verdicts behind solved false [] inside behind flagged
         (refl, refl) judges q is in
         subst (λ (n : ℕ). q < n) (sym (ap length has.points)) low
 
-    written_if : flagged ≡ None → JudgesAccesses polyhedron_abstraction (defined polyhedron_abstraction) g values None inside None
+    written_if : flagged ≡ None → JudgesAccesses polyhedron_abstraction (exact_operations polyhedron_abstraction) g values None inside None
     written_if none =
         let so = accesses_written polyhedron_abstraction polyhedron_laws g values behind inside flagged none judges in
-        let first : behind ≡ None = none_before (dropping polyhedron_abstraction) (OpInside polyhedron_abstraction (dropping polyhedron_abstraction))
+        let first : behind ≡ None =
+        none_before (lossy_operations polyhedron_abstraction) (OpInside polyhedron_abstraction (lossy_operations polyhedron_abstraction))
         (accessing_ops None g) values behind inside flagged judges none in
-        subst (λ (f : Option ℕ). JudgesAccesses polyhedron_abstraction (defined polyhedron_abstraction) g values None inside f) none
-        (subst (λ (f : Option ℕ). JudgesAccesses polyhedron_abstraction (defined polyhedron_abstraction) g values f inside flagged) first so)
+        subst (λ (f : Option ℕ). JudgesAccesses polyhedron_abstraction (exact_operations polyhedron_abstraction) g values None inside f) none
+        (subst (λ (f : Option ℕ). JudgesAccesses polyhedron_abstraction (exact_operations polyhedron_abstraction) g values f inside flagged) first so)
 
     pub is_forward : IsForward constants (resolve t) g values flagged
     is_forward = record {
@@ -74,8 +75,8 @@ module _ (t : FileTree) (g : Node) (sites : List Site) (has : HasInlinedTree t g
       accessed = judges;
       accessed_written = written_if;
       accessed_strained = λ q none some.
-          subst (λ (f : Option ℕ). JudgesAccesses polyhedron_abstraction (straining polyhedron_abstraction) g values f inside (Some q)) none
-          (subst (λ (f : Option ℕ). JudgesAccesses polyhedron_abstraction (straining polyhedron_abstraction) g values behind inside f) some
+          subst (λ (f : Option ℕ). JudgesAccesses polyhedron_abstraction (straining_operations polyhedron_abstraction) g values f inside (Some q)) none
+          (subst (λ (f : Option ℕ). JudgesAccesses polyhedron_abstraction (straining_operations polyhedron_abstraction) g values behind inside f) some
           (accesses_strained polyhedron_abstraction polyhedron_laws g values behind inside flagged judges));
     }
 

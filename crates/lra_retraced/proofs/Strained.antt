@@ -5,10 +5,10 @@ use Rattle.std.proofs.lemmas.Option.{none-some, same_Some}
 use Rattle.lra_program.specs.Sites.{sites_of}
 use Rattle.lra_operations.specs.CheckedOperations.{accessing_ops}
 use Rattle.lra_report.specs.BackText.{BackReport}
-use Rattle.lra_flow.specs.Accesses.{OpInside}
-use Rattle.lra_flow.specs.Analysis.{Solves}
-use Rattle.lra_flow.specs.Judging.{Finding, first_flagged}
-use Rattle.lra_flow.specs.Operations as iteration
+use Rattle.lra_analysis_spec.specs.Accesses.{OpInside}
+use Rattle.lra_analysis_spec.specs.Analysis.{IsSolution}
+use Rattle.lra_analysis_spec.specs.Judging.{Finding, first_flagged}
+use Rattle.lra_analysis_spec.specs.Operations as iteration
 use Rattle.lra_certificate.specs.Claims.{program_of}
 use Rattle.lra_poly_domain.specs.Abstraction.{polyhedron_abstraction}
 use Rattle.lra_poly_domain.specs.Backward.{polyhedron_backward}
@@ -39,12 +39,13 @@ module _ (source : List ℕ) (p : ℕ) (r : BackReport) (x : IsBackOf source p r
     result = x.found.ahead.solved.result;
     written = x.found.ahead.solved.written none;
     verdicts = x.found.ahead.verdicts;
-    solves = subst (λ (f : Option ℕ). Solves polyhedron_abstraction x.found.ahead.solved.result x.found.forward x.found.ahead.verdicts f) none
+    solves = subst (λ (f : Option ℕ). IsSolution polyhedron_abstraction x.found.ahead.solved.result x.found.forward x.found.ahead.verdicts f) none
         x.found.ahead.solved.solves;
   }
 
   none_behind : x.found.flagged ≡ None → x.found.ahead.behind ≡ None
-  none_behind none = none_before (iteration.dropping polyhedron_abstraction) (OpInside polyhedron_abstraction (iteration.dropping polyhedron_abstraction))
+  none_behind none = none_before (iteration.lossy_operations polyhedron_abstraction)
+      (OpInside polyhedron_abstraction (iteration.lossy_operations polyhedron_abstraction))
       (accessing_ops None x.program.operations) x.found.forward x.found.ahead.behind x.found.ahead.inside x.found.flagged x.found.ahead.accessed none
 
   none_forward : x.last ≡ None → x.found.flagged ≡ None

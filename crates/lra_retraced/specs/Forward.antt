@@ -6,10 +6,10 @@ use Rattle.lra_linear_spec.specs.Polyhedra.{Polyhedron}
 use Rattle.lra_program.specs.Program.{Program}
 use Rattle.lra_operations.specs.Tree.{Node}
 use Rattle.lra_options.specs.OptionRows.{default_options}
-use Rattle.lra_flow.specs.Accesses.{JudgesAccesses}
-use Rattle.lra_flow.specs.Operations.{defined, dropping, straining}
-use Rattle.lra_flow.specs.Plan.{Plan, plan_of}
-use Rattle.lra_iter.specs.Solved.{IsSolved}
+use Rattle.lra_analysis_spec.specs.Accesses.{JudgesAccesses}
+use Rattle.lra_analysis_spec.specs.Operations.{exact_operations, lossy_operations, straining_operations}
+use Rattle.lra_analysis_spec.specs.Plan.{Plan, plan_of}
+use Rattle.lra_fixpoint.specs.Solved.{IsSolved}
 use Rattle.lra_poly_domain.specs.Abstraction.{polyhedron_abstraction}
 
 -- of a program with these constants
@@ -25,8 +25,9 @@ pub record IsForward (constants : List ℤ) (P : Program) (g : Node) (values : L
   pub behind : Option ℕ
   pub solved : IsSolved polyhedron_abstraction (forward_plan constants) P g values verdicts behind
   pub inside : List (ℕ × List (Place × Bool))
-  pub accessed : JudgesAccesses polyhedron_abstraction (dropping polyhedron_abstraction) g values behind inside flagged
+  pub accessed : JudgesAccesses polyhedron_abstraction (lossy_operations polyhedron_abstraction) g values behind inside
+      flagged
   pub accessed_written : flagged ≡ None →
-      JudgesAccesses polyhedron_abstraction (defined polyhedron_abstraction) g values None inside None
+      JudgesAccesses polyhedron_abstraction (exact_operations polyhedron_abstraction) g values None inside None
   pub accessed_strained : (q : ℕ) → behind ≡ None → flagged ≡ Some q →
-      JudgesAccesses polyhedron_abstraction (straining polyhedron_abstraction) g values None inside (Some q)
+      JudgesAccesses polyhedron_abstraction (straining_operations polyhedron_abstraction) g values None inside (Some q)

@@ -25,10 +25,10 @@ use Rattle.lra_report.specs.Report.{PointReport, InvariantHolds}
 use Rattle.lra_report_states.specs.Polyhedra.{shown_polyhedron}
 use Rattle.lra_report_states.specs.Shown.{AreShown}
 use Rattle.lra_front_end.specs.Stages.{HasConstants}
-use Rattle.lra_flow.specs.Accesses.{JudgesAccesses}
-use Rattle.lra_flow.specs.Analysis.{Written, Solves, Strains}
-use Rattle.lra_flow.specs.Operations as iteration
-use Rattle.lra_flow.specs.Pass.{Result}
+use Rattle.lra_analysis_spec.specs.Accesses.{JudgesAccesses}
+use Rattle.lra_analysis_spec.specs.Analysis.{ExactIteration, IsSolution, StrainsAtPoint}
+use Rattle.lra_analysis_spec.specs.Operations as iteration
+use Rattle.lra_analysis_spec.specs.Pass.{PassResult}
 use Rattle.lra_paths.specs.Paths.{AreFewPaths, HasTooMany}
 use Rattle.lra_certificate.specs.Claims.{IsProgram, program_of}
 use Rattle.lra_poly_domain.specs.Abstraction.{polyhedron_abstraction}
@@ -96,10 +96,10 @@ pub record IsProvedAtFirst (P : Program) (g : Node) (r : BackReport) : Type 0 wh
 
 -- the values of the written iteration, in which nothing strains
 pub record IsWrittenForward (constants : List ℤ) (P : Program) (g : Node) (forward : List Polyhedron) : Type 0 where
-  pub result : Result Polyhedron
-  pub written : Written polyhedron_abstraction (forward_plan constants) P g result
+  pub result : PassResult Polyhedron
+  pub written : ExactIteration polyhedron_abstraction (forward_plan constants) P g result
   pub verdicts : List (ℕ × Bool)
-  pub solves : Solves polyhedron_abstraction result forward verdicts None
+  pub solves : IsSolution polyhedron_abstraction result forward verdicts None
 
 -- without a flag what is shown is what is defined, over the values of the written iteration
 pub record IsDefinedBack (constants : List ℤ) (P : Program) (g : Node) (p : ℕ) (r : BackReport) : Type 0 where
@@ -115,7 +115,8 @@ pub record StrainsInAccess (constants : List ℤ) (P : Program) (g : Node) (q : 
   pub forward : List Polyhedron
   pub written : IsWrittenForward constants P g forward
   pub inside : List (ℕ × List (Place × Bool))
-  pub judged : JudgesAccesses polyhedron_abstraction (iteration.straining polyhedron_abstraction) g forward None inside
+  pub judged : JudgesAccesses polyhedron_abstraction (iteration.straining_operations polyhedron_abstraction) g forward
+      None inside
       (Some q)
 
 -- and so does an operation with which these are gone back over
@@ -129,7 +130,7 @@ pub record StrainsBack (constants : List ℤ) (P : Program) (g : Node) (p q : �
 -- an operation of the point q strains, and all before it is exact: of the written iteration, of what is judged of
 -- accesses behind it, or of going back behind these
 abbrev pub StrainsAt : List ℤ → Program → Node → ℕ → ℕ → Type 0
-StrainsAt constants P g p q = Strains polyhedron_abstraction (forward_plan constants) P g q ⊎
+StrainsAt constants P g p q = StrainsAtPoint polyhedron_abstraction (forward_plan constants) P g q ⊎
     (StrainsInAccess constants P g q ⊎ StrainsBack constants P g p q)
 
 -- rows and generators of each state tell the same points

@@ -7,7 +7,7 @@ ghost use Rattle.lra_resolution_spec.specs.Resolve.{resolve};
 ghost use Rattle.lra_program.specs.ProgramViews.{program_view};
 ghost use Rattle.lra_operations.specs.TreeViews.{node_view, site_view};
 ghost use Rattle.lra_front_end.specs.Stages.{HasInlinedTree};
-ghost use Rattle.lra_iter.specs.Solved.{IsSolved};
+ghost use Rattle.lra_fixpoint.specs.Solved.{IsSolved};
 ghost use Rattle.lra_poly_domain.specs.Abstraction.{polyhedron_abstraction};
 ghost use Rattle.lra_report.specs.View.{back_report_of, point_report_of};
 ghost use Rattle.lra_back.specs.Traced.{AreWide};
@@ -17,9 +17,9 @@ ghost use Rattle.lra_retraced.specs.Retraced.{IsBackOf, IsRefusedSo, IsRetraced,
 
 use crate::refusals::BackError;
 use lra_back::{BackFailure, Backs, back};
+use lra_bounds_checks::judge_accesses;
+use lra_fixpoint::{Plan, Solution};
 use lra_front_end::{AcceptedSource, read_source};
-use lra_inside::judge_accesses;
-use lra_iter::{Plan, Solution};
 use lra_options::default_options;
 use lra_poly_domain::Polyhedron;
 use lra_report::{BackReport, PointReport};

@@ -5,8 +5,8 @@ use Rattle.std.specs.Prelude.{IfOk}
 use Rattle.lra_program.specs.Program.{Cond}
 use Rattle.lra_program.specs.ProgramViews.{cond_view}
 use Rattle.lra_program.specs.declared.program.Cond as declared_cond
-use Rattle.lra_forms.proofs.CondSizes.{cond_size, row_size, chain_size}
-use Rattle.lra_flow.specs.MovesOf.{guard}
+use Rattle.lra_linearize.proofs.CondSizes.{cond_size, row_size, chain_size}
+use Rattle.lra_analysis_spec.specs.MovesOf.{guard}
 use Rattle.lra_sides.specs.Conditions.{AreIn, HasBoth, JoinsAlways, PutsInFront, chain_of, joined}
 use Rattle.lra_sides.specs.Tables.{Grows}
 use Rattle.lra_sides.specs.declared.conditions.Both.{Both}

@@ -7,7 +7,7 @@ use Rattle.lra_domain.specs.Actions.{Action}
 use Rattle.lra_domain.specs.Changes.{action_of, actions_of}
 use Rattle.lra_domain.specs.declared.changes.Change.{Change}
 use Rattle.lra_domain.specs.Moves.{Moves, stay, make, first_then, join_of}
-use Rattle.lra_flow.specs.MovesOf.{in_turn}
+use Rattle.lra_analysis_spec.specs.MovesOf.{in_turn}
 use Rattle.lra_sides.specs.Conditions.{IsTurned}
 use Rattle.lra_sides.specs.Tables.{or_stay, all_moves, moves_at, Has, Grows}
 use Rattle.lra_sides.specs.declared.tables.Entry.{Entry}

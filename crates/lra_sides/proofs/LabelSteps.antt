@@ -10,11 +10,11 @@ use Rattle.lra_operations.specs.declared.tree.Arm.{Arm}
 use Rattle.lra_operations.specs.declared.tree.Arm.TheVariants.{Entry, Tree}
 use Rattle.lra_operations.specs.declared.tree.Node.{Node}
 use Rattle.lra_domain.specs.Moves.{stay, first_then}
-use Rattle.lra_flow.specs.Linear.{constant_form}
-use Rattle.lra_flow.specs.MovesOf.{comparison_as, comparison_moves, number_moves}
-use Rattle.lra_flow.specs.Seen.{seen_of, subtracted}
-use Rattle.lra_flow.specs.declared.seen.Seen.{Seen}
-use Rattle.lra_flow.specs.declared.seen.Seen.TheVariants.{Linear}
+use Rattle.lra_analysis_spec.specs.Linear.{constant_form}
+use Rattle.lra_analysis_spec.specs.MovesOf.{comparison_as, comparison_moves, number_moves}
+use Rattle.lra_analysis_spec.specs.Linearization.{linearized, subtracted}
+use Rattle.lra_analysis_spec.specs.declared.linearization.Linearized.{Linearized}
+use Rattle.lra_analysis_spec.specs.declared.linearization.Linearized.TheVariants.{Linear}
 use Rattle.lra_sides.specs.PassedLabels.{ArePassed, PutsLabel}
 use Rattle.lra_ways.specs.Labels.{label_at, labels_in}
 use Rattle.lra_sides.specs.StepMoves.{label_moves, step_moves, unmatched_moves}
@@ -27,31 +27,31 @@ use Rattle.lra_sides.proofs.GuardSteps.{then_has}
 use Rattle.lra_sides.proofs.TableSteps.{within}
 
 -- the comparison with a number
-pub number_has : {E : Type 0} (r : outcome.Result ℕ E) (es : List declared.Entry) (live : ℕ) (wanted : Bool) (s d : Seen) (z : ℤ) (op : Comparison)
+pub number_has : {E : Type 0} (r : outcome.Result ℕ E) (es : List declared.Entry) (live : ℕ) (wanted : Bool) (s d : Linearized) (z : ℤ) (op : Comparison)
     → op ≡ comparison_as wanted equal → d ≡ subtracted s (Linear (constant_form live z)) → IfOk r (λ i. Has es i (comparison_moves live op d))
     → IfOk r (λ i. Has es i (number_moves live wanted s z))
 number_has r es live wanted s d z op so is has =
     subst (λ (o : Comparison). IfOk r (λ i. Has es i (comparison_moves live o (subtracted s (Linear (constant_form live z)))))) so
-    (subst (λ (x : Seen). IfOk r (λ i. Has es i (comparison_moves live op x))) is has)
+    (subst (λ (x : Linearized). IfOk r (λ i. Has es i (comparison_moves live op x))) is has)
 
 -- what is seen of the value goes to the label
-module _ {E : Type 0} (r : outcome.Result ℕ E) (es : List declared.Entry) (live : ℕ) (selection : Selection) (l : CaseLabel) (s : Seen) where
-  goes_to : (m : CaseLabel) → l ≡ m → s ≡ seen_of live selection.base (expr_view selection.value.now)
+module _ {E : Type 0} (r : outcome.Result ℕ E) (es : List declared.Entry) (live : ℕ) (selection : Selection) (l : CaseLabel) (s : Linearized) where
+  goes_to : (m : CaseLabel) → l ≡ m → s ≡ linearized live selection.base (expr_view selection.value.now)
       → IfOk r (λ i. Has es i (label_moves live s (labels_in selection.arms.now) m)) → IfOk r (λ i. Has es i (step_moves live (selection_view selection l)))
   goes_to m is same has =
-      subst (λ (n : CaseLabel). IfOk r (λ i. Has es i (label_moves live (seen_of live selection.base (expr_view selection.value.now))
+      subst (λ (n : CaseLabel). IfOk r (λ i. Has es i (label_moves live (linearized live selection.base (expr_view selection.value.now))
       (labels_in selection.arms.now) n))) (sym is)
-      (subst (λ (x : Seen). IfOk r (λ i. Has es i (label_moves live x (labels_in selection.arms.now) m))) same has)
+      (subst (λ (x : Linearized). IfOk r (λ i. Has es i (label_moves live x (labels_in selection.arms.now) m))) same has)
 
-  pub case_selected : (z : ℤ) → l ≡ Case z → s ≡ seen_of live selection.base (expr_view selection.value.now)
+  pub case_selected : (z : ℤ) → l ≡ Case z → s ≡ linearized live selection.base (expr_view selection.value.now)
       → IfOk r (λ i. Has es i (number_moves live true s z)) → IfOk r (λ i. Has es i (step_moves live (selection_view selection l)))
   case_selected z is same has = goes_to (Case z) is same has
 
-  pub default_selected : l ≡ Default → s ≡ seen_of live selection.base (expr_view selection.value.now)
+  pub default_selected : l ≡ Default → s ≡ linearized live selection.base (expr_view selection.value.now)
       → IfOk r (λ i. Has es i (unmatched_moves live s (labels_in selection.arms.now))) → IfOk r (λ i. Has es i (step_moves live (selection_view selection l)))
   default_selected is same has = goes_to Default is same has
 
-module _ (live : ℕ) (s : Seen) where
+module _ (live : ℕ) (s : Linearized) where
   -- the label's value is passed, and then the later ones are
   pub case_puts : {E : Type 0} (r : outcome.Result ℕ E) (es fs gs : List declared.Entry) (l : CaseLabel) (z : ℤ) (one later : ℕ) → l ≡ Case z → Grows es fs
       → Has fs one (number_moves live false s z) → IfOk r (λ i. Has gs i (first_then (moves_at fs one) (moves_at fs later)))

@@ -8,13 +8,13 @@ use Rattle.lra_program.specs.Step.{State, environment_at, Op, append, fill, stor
 use Rattle.lra_program.specs.Step as step
 use Rattle.lra_inline_sound.proofs.Lengths.{length_append, length_fill, length_given, length_give_element, length_any, length_push, length_push_for}
 use Rattle.lra_inline_sound.proofs.Lengths.{length_test}
-use Rattle.lra_flow.specs.Live.{dims_behind}
+use Rattle.lra_analysis_spec.specs.Live.{live_after_op}
 
 least_of_both : (n k : ℕ) → min n k ≡ k - (k - n)
 least_of_both n k = omega arith
 
 -- where a step ends, so many live
-pub op_length : (op : Op) (s t : State) → run_op op s ≡ Some t → length t.store ≡ dims_behind op (length s.store)
+pub op_length : (op : Op) (s t : State) → run_op op s ≡ Some t → length t.store ≡ live_after_op op (length s.store)
 op_length (append x) s t e = length_append x s t e
 op_length (fill a) s t e = length_fill a s t e
 op_length (store_value base x y) s t e = length_given x s (value_of y (environment_at base s) s.draws) t e

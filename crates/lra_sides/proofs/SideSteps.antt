@@ -10,7 +10,7 @@ use Rattle.lra_domain.specs.Abstraction.{worse}
 use Rattle.lra_domain.specs.declared.Exactness.{Exactness}
 use Rattle.lra_domain.specs.declared.Exactness.TheVariants.{Exact}
 use Rattle.lra_domain.specs.Moves.{Moves, stay, make, first_then, join_of, MayLead, LeadsAll, SomeLeads, cases}
-use Rattle.lra_flow.specs.Moves.{AreMade}
+use Rattle.lra_analysis_spec.specs.Moves.{AreMade}
 use Rattle.lra_ways.specs.Ways.{each_then}
 use Rattle.lra_sides.specs.Sides.{sides, on_paths, SidesAreMade}
 use Rattle.lra_ways.proofs.Lists.{each_then_nil, each_then_append, each_then_assoc}

@@ -14,9 +14,9 @@ use Rattle.lra_domain.specs.Moves.{MayLead}
 use Rattle.lra_program.specs.Program.{Expr}
 use Rattle.lra_program.specs.Value.{value_of, compares}
 use Rattle.lra_program.specs.Step.{State, environment_at}
-use Rattle.lra_flow.specs.Seen.{seen_of}
-use Rattle.lra_flow.proofs.CondKeeping.{value_leads}
-use Rattle.lra_flow.proofs.Keeping.{op_leads}
+use Rattle.lra_analysis_spec.specs.Linearization.{linearized}
+use Rattle.lra_analysis_spec.proofs.CondKeeping.{value_leads}
+use Rattle.lra_analysis_spec.proofs.Keeping.{op_leads}
 use Rattle.lra_ways.specs.Ways.{Step, does, goes, RunsStep}
 use Rattle.lra_sides.specs.StepMoves.{dims_behind_step, label_moves, step_moves, unmatched_moves}
 use Rattle.lra_ways.proofs.LabelLaws.{neither}
@@ -39,7 +39,7 @@ step_length (goes base e labels l) s t (z, got, same, is) = ap (λ (u : State). 
 module _ (base : ℕ) (e : Expr) (s : State) (z : ℤ) (left : List ℤ) (got : value_of e (environment_at base s) s.draws ≡ Some (z, left)) where
   -- where no label names the value
   unmatched_lead : (labels : List CaseLabel) → list_any (is_same_case (Case z)) labels ≡ false
-      → MayLead (unmatched_moves (length s.store) (seen_of (length s.store) base e) labels) s.store s.store
+      → MayLead (unmatched_moves (length s.store) (linearized (length s.store) base e) labels) s.store s.store
   unmatched_lead [] none = refl
   unmatched_lead (Case y ∷ labels) none =
       let (here, later) = neither (int_eq z y) (list_any (is_same_case (Case z)) labels) none in
@@ -47,7 +47,7 @@ module _ (base : ℕ) (e : Expr) (s : State) (z : ℤ) (left : List ℤ) (got : 
   unmatched_lead (Default ∷ labels) none = unmatched_lead labels none
 
   label_leads : (labels : List CaseLabel) (b : Bool) → list_any (is_same_case (Case z)) labels ≡ b
-      → MayLead (label_moves (length s.store) (seen_of (length s.store) base e) labels (if b then Case z else Default)) s.store s.store
+      → MayLead (label_moves (length s.store) (linearized (length s.store) base e) labels (if b then Case z else Default)) s.store s.store
   label_leads labels true is = value_leads (environment_at base s) e z true s.draws left z got (itself z)
   label_leads labels false is = unmatched_lead labels is
 
@@ -55,5 +55,5 @@ pub step_leads : (step : Step) (s t : State) → RunsStep step s t → MayLead (
 step_leads (does op) s t o = op_leads op s t o
 step_leads (goes base e labels l) s t (z, got, same, is) =
     let led = label_leads base e s z t.draws got labels (list_any (is_same_case (Case z)) labels) refl in
-    subst (λ store. MayLead (label_moves (length s.store) (seen_of (length s.store) base e) labels l) s.store store) (sym (ap (λ (u : State). u.store) same))
-    (subst (λ k. MayLead (label_moves (length s.store) (seen_of (length s.store) base e) labels k) s.store s.store) (sym is) led)
+    subst (λ store. MayLead (label_moves (length s.store) (linearized (length s.store) base e) labels l) s.store store) (sym (ap (λ (u : State). u.store) same))
+    (subst (λ k. MayLead (label_moves (length s.store) (linearized (length s.store) base e) labels k) s.store s.store) (sym is) led)

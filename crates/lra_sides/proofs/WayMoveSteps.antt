@@ -3,9 +3,9 @@ use Rattle.std.proofs.Common.{◌≡◌, ℕ, List, [], ◌∷◌, ◌++◌, ◌
 use Rattle.std.proofs.lemmas.List.{map_more, take_all}
 use Rattle.lra_domain.specs.Actions.{Action}
 use Rattle.lra_domain.specs.Moves.{Moves, stay, first_then}
-use Rattle.lra_flow.specs.declared.seen.Seen.{Seen}
-use Rattle.lra_flow.specs.Seen.{SeenFits, seen_of}
-use Rattle.lra_flow.proofs.DivisionLemmas.{seen_fits}
+use Rattle.lra_analysis_spec.specs.declared.linearization.Linearized.{Linearized}
+use Rattle.lra_analysis_spec.specs.Linearization.{LinearizedFits, linearized}
+use Rattle.lra_analysis_spec.proofs.DivisionLemmas.{seen_fits}
 use Rattle.lra_program.specs.Program.{Expr}
 use Rattle.lra_sides.specs.StepMoves.{dims_behind_step, step_moves}
 use Rattle.lra_ways.specs.Ways.{Step, each_then}
@@ -41,8 +41,8 @@ behind_more live [] step = refl
 behind_more live (o ∷ ops) step = behind_more (dims_behind_step o live) ops step
 
 -- what is seen of an expression fits
-pub seen_so : (live base : ℕ) (e : Expr) (s : Seen) → s ≡ seen_of live base e → SeenFits s live
-seen_so live base e s is = subst (λ r. SeenFits r live) (sym is) (seen_fits live base e)
+pub seen_so : (live base : ℕ) (e : Expr) (s : Linearized) → s ≡ linearized live base e → LinearizedFits s live
+seen_so live base e s is = subst (λ r. LinearizedFits r live) (sym is) (seen_fits live base e)
 
 -- one more of what is done on a way
 module _ (live : ℕ) (xs : List Move) (i : ℕ) (x : Move) (less : i < length xs) (is : x ≡ get_or xs i x) where

@@ -5,7 +5,7 @@ use Rattle.lra_domain.specs.Changes.{actions_of}
 use Rattle.lra_domain.specs.declared.changes.Change.{Change}
 use Rattle.lra_program.specs.Program.{Cond, both_of, either_of}
 use Rattle.lra_program.specs.ProgramViews.{all_of, any_of}
-use Rattle.lra_flow.specs.MovesOf.{guard, in_turn}
+use Rattle.lra_analysis_spec.specs.MovesOf.{guard, in_turn}
 use Rattle.lra_sides.specs.Tables.{Has}
 use Rattle.lra_sides.specs.declared.conditions.Both.{Both}
 use Rattle.lra_sides.specs.declared.tables.Entry.{Entry}

@@ -2,18 +2,18 @@
 use Rattle.std.specs.Prelude.{◌≡◌, ℕ, List, ◌++◌}
 use Rattle.lra_base.specs.declared.case_labels.CaseLabel.{CaseLabel}
 use Rattle.lra_operations.specs.declared.tree.Arm.{Arm}
-use Rattle.lra_flow.specs.declared.seen.Seen.{Seen}
+use Rattle.lra_analysis_spec.specs.declared.linearization.Linearized.{Linearized}
 use Rattle.lra_sides.specs.StepMoves.{unmatched_moves}
 use Rattle.lra_sides.specs.Tables.{Has}
 use Rattle.lra_sides.specs.declared.tables.Entry.{Entry}
 use Rattle.lra_ways.specs.Labels.{label_at, labels_in}
 
 -- one arm more, in front of whichever labels the later ones are
-abbrev pub PutsLabel : List Entry → List Entry → ℕ → Seen → Arm → ℕ → ℕ → Type 0
+abbrev pub PutsLabel : List Entry → List Entry → ℕ → Linearized → Arm → ℕ → ℕ → Type 0
 PutsLabel es fs live s a later place = (labels : List CaseLabel) → Has es later (unmatched_moves live s labels) →
     Has fs place (unmatched_moves live s (label_at a ++ labels))
 
 -- the labels behind those that are left are passed
-abbrev pub ArePassed : List Entry → ℕ → Seen → List Arm → List Arm → ℕ → Type 0
+abbrev pub ArePassed : List Entry → ℕ → Linearized → List Arm → List Arm → ℕ → Type 0
 ArePassed es live s arms left place = (labels : List CaseLabel) × (labels_in arms ≡ labels_in left ++ labels) ×
     Has es place (unmatched_moves live s labels)

@@ -6,8 +6,8 @@ use Rattle.lra_domain.specs.Moves.{Moves, stay, make, first_then, join_of, MayLe
 use Rattle.lra_domain.specs.declared.Exactness.{Exactness}
 use Rattle.lra_domain.specs.declared.Exactness.TheVariants.{Exact}
 use Rattle.lra_program.specs.Step.{State}
-use Rattle.lra_flow.specs.Moves.{AreMade}
-use Rattle.lra_flow.specs.Operations.{Operations}
+use Rattle.lra_analysis_spec.specs.Moves.{AreMade}
+use Rattle.lra_analysis_spec.specs.Operations.{Operations}
 use Rattle.lra_ways.specs.Ways.{Step, each_then, RunsOps}
 use Rattle.lra_sides.specs.StepMoves.{step_moves, dims_behind_step}
 
@@ -32,8 +32,8 @@ greatest_paths = 1024
 abbrev pub on_paths : Operations (List (List Action)) (Unit {0})
 on_paths = record {
   dims = λ paths. 0;
-  universal = λ n cap paths. paths ≡ [] ∷ [];
-  void = λ n cap paths. paths ≡ [];
+  top = λ n cap paths. paths ≡ [] ∷ [];
+  bottom = λ n cap paths. paths ≡ [];
   changed = λ step paths e more. (e ≡ Exact) × (more ≡ map (λ path. path ++ step ∷ []) paths);
   joined = λ one other e both. (e ≡ Exact) × (both ≡ one ++ other);
   started = λ paths rows h. ⊥;

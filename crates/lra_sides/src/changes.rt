@@ -3,13 +3,13 @@
 ghost use Rattle.std.specs.Prelude.{◌≡◌, ◌<◌, ◌^◌, ◌-◌, ◌+◌, pos, suc, length, map, replicate, slice_set};
 ghost use Rattle.std.specs.Prelude.{Some, IfOk, OnOk};
 ghost use Rattle.lra_base.specs.declared.number_types.NumberType.TheVariants.{Int};
-ghost use Rattle.lra_flow.specs.Live.{dims_behind};
+ghost use Rattle.lra_analysis_spec.specs.Live.{live_after_op};
 ghost use Rattle.lra_domain.specs.Moves.{first_then, make};
-ghost use Rattle.lra_flow.specs.MovesOf.{append_set, drop_last, first_values, guard, moves_of, push_all};
-ghost use Rattle.lra_flow.specs.MovesOf.{set_target, set_to, above_least, below_greatest, within_type};
-ghost use Rattle.lra_flow.specs.Linear.{constant_form};
-ghost use Rattle.lra_flow.specs.Seen.{SeenFits, seen_of};
-ghost use Rattle.lra_flow.specs.declared.seen.Seen.TheVariants.{Linear, Unseen};
+ghost use Rattle.lra_analysis_spec.specs.MovesOf.{append_set, drop_last, first_values, guard, moves_of, push_all};
+ghost use Rattle.lra_analysis_spec.specs.MovesOf.{set_target, set_to, above_least, below_greatest, within_type};
+ghost use Rattle.lra_analysis_spec.specs.Linear.{constant_form};
+ghost use Rattle.lra_analysis_spec.specs.Linearization.{LinearizedFits, linearized};
+ghost use Rattle.lra_analysis_spec.specs.declared.linearization.Linearized.TheVariants.{Linear, Unseen};
 ghost use Rattle.lra_domain.specs.Actions.{embed, test};
 ghost use Rattle.lra_linear_spec.specs.declared.ConKind.TheVariants.{Ge};
 ghost use Rattle.lra_operations.specs.TreeViews.{op_view};
@@ -23,12 +23,12 @@ use crate::conditions::{Frame, push_cases};
 use crate::guards::push_guards;
 use crate::selections::push_selection;
 use crate::tables::{Entry, push_first_then, push_make, push_stay};
+use lra_analysis_spec::Linearized;
 use lra_base::NumberType;
 use lra_domain::Change;
-use lra_flow::Seen;
-use lra_forms::{constant_of, form_of_one, see};
 use lra_linear_forms::Test;
 use lra_linear_spec::ConKind;
+use lra_linearize::{constant_of, form_of_one, linearize};
 use lra_operations::Op;
 use lra_program::{Argument, Cell, Cond, Expr, GlobalVariable, Target};
 use lra_ways::Move;
@@ -40,23 +40,23 @@ use std::alloc::{AllocError, Global};
 fn push_set(
     frame: Frame,
     place: usize,
-    seen: &Seen,
+    seen: &Linearized,
     entries: &mut Vec<Entry>,
 ) -> Result<usize, AllocError>
     requires table { IsTable entries.old.items }
     requires few { frame.live < 2 ^ 62 - 2 }
-    requires width { SeenFits seen.now frame.live }
+    requires width { LinearizedFits seen.now frame.live }
     ensures table { OnOk result (IsTable entries.new.items) }
     ensures grows { OnOk result (Grows entries.old.items entries.new.items) }
     ensures has { IfOk result (λ i. Has entries.new.items i (set_to frame.live place seen.now)) }
 {
     match seen {
-        Seen::Unseen => push_make(entries, Change::Forget(place)),
-        Seen::Linear(form) => {
+        Linearized::Unseen => push_make(entries, Change::Forget(place)),
+        Linearized::Linear(form) => {
             let copy = form.copy(frame.alloc)?;
             push_make(entries, Change::Assign(place, copy))
         }
-        Seen::Divided(division, form) => {
+        Linearized::Divided(division, form) => {
             let copy = form.copy(frame.alloc)?;
             let change = Change::Assign(place, copy);
             push_cases(frame.alloc, entries, frame.live, division, change)
@@ -135,12 +135,12 @@ fn push_within(
 fn push_target(
     frame: Frame,
     target: Target,
-    seen: &Seen,
+    seen: &Linearized,
     entries: &mut Vec<Entry>,
 ) -> Result<usize, AllocError>
     requires table { IsTable entries.old.items }
     requires few { frame.live < 2 ^ 62 - 2 }
-    requires width { SeenFits seen.now frame.live }
+    requires width { LinearizedFits seen.now frame.live }
     ensures table { OnOk result (IsTable entries.new.items) }
     ensures grows { OnOk result (Grows entries.old.items entries.new.items) }
     ensures has { IfOk result (λ i. Has entries.new.items i
@@ -161,13 +161,13 @@ fn push_target(
 fn push_appended(
     frame: Frame,
     place: usize,
-    seen: &Seen,
+    seen: &Linearized,
     entries: &mut Vec<Entry>,
 ) -> Result<usize, AllocError>
     requires table { IsTable entries.old.items }
     requires few { frame.live < 2 ^ 62 - 2 }
     requires last { frame.live ≡ suc place }
-    requires width { SeenFits seen.now frame.live }
+    requires width { LinearizedFits seen.now frame.live }
     ensures table { OnOk result (IsTable entries.new.items) }
     ensures grows { OnOk result (Grows entries.old.items entries.new.items) }
     ensures has { IfOk result (λ i. Has entries.new.items i (append_set place seen.now)) }
@@ -182,13 +182,13 @@ fn push_new(
     frame: Frame,
     place: usize,
     number_type: NumberType,
-    seen: &Seen,
+    seen: &Linearized,
     entries: &mut Vec<Entry>,
 ) -> Result<usize, AllocError>
     requires table { IsTable entries.old.items }
     requires few { frame.live < 2 ^ 62 - 2 }
     requires last { frame.live ≡ suc place }
-    requires width { SeenFits seen.now frame.live }
+    requires width { LinearizedFits seen.now frame.live }
     ensures table { OnOk result (IsTable entries.new.items) }
     ensures grows { OnOk result (Grows entries.old.items entries.new.items) }
     ensures has { IfOk result (λ i. Has entries.new.items i (within_type number_type
@@ -221,7 +221,7 @@ fn push_argument(
     ensures grows { OnOk result (Grows entries.old.items entries.new.items) }
     ensures has { IfOk result (λ i. Has entries.new.items i (within_type argument.now.number_type
         (suc frame.live) frame.live (append_set frame.live
-        (seen_of (suc frame.live) frame.base (expr_view argument.now.value))))) }
+        (linearized (suc frame.live) frame.base (expr_view argument.now.value))))) }
 {
     let live = one_more(frame.live)?;
     let Frame {
@@ -229,7 +229,7 @@ fn push_argument(
         live: place,
         base,
     } = frame;
-    let seen = see(alloc, live, base, &argument.value)?;
+    let seen = linearize(alloc, live, base, &argument.value)?;
     let number_type = argument.number_type;
     push_new(
         Frame { alloc, live, base },
@@ -287,7 +287,13 @@ fn push_global(
         live,
         base: 0,
     };
-    push_new(frame, place, number_type, &Seen::Linear(form), entries)
+    push_new(
+        frame,
+        place,
+        number_type,
+        &Linearized::Linear(form),
+        entries,
+    )
 }
 
 /// The global variables behind so many, each with its first value.
@@ -374,13 +380,13 @@ fn push_give(
     ensures table { OnOk result (IsTable entries.new.items) }
     ensures grows { OnOk result (Grows entries.old.items entries.new.items) }
     ensures has { IfOk result (λ i. Has entries.new.items i (set_target frame.live target
-        (seen_of frame.live frame.base (expr_view e.now)))) }
+        (linearized frame.live frame.base (expr_view e.now)))) }
 {
     ensure_room(frame.live)?;
     match target {
         None => push_stay(entries),
         Some(target) => {
-            let seen = see(frame.alloc, frame.live, frame.base, e)?;
+            let seen = linearize(frame.alloc, frame.live, frame.base, e)?;
             push_target(frame, target, &seen, entries)
         }
     }
@@ -400,7 +406,7 @@ fn push_give_any(
     ensure_room(frame.live)?;
     match target {
         None => push_stay(entries),
-        Some(target) => push_target(frame, target, &Seen::Unseen, entries),
+        Some(target) => push_target(frame, target, &Linearized::Unseen, entries),
     }
 }
 
@@ -502,7 +508,7 @@ fn sum_of(live: usize, more: usize) -> Result<usize, AllocError>
 
 /// How many variables live behind the least change.
 fn live_behind_op(live: usize, op: &Op) -> Result<usize, AllocError>
-    ensures { IfOk result (λ n. n ≡ dims_behind (op_view op.now) live) }
+    ensures { IfOk result (λ n. n ≡ live_after_op (op_view op.now) live) }
 {
     match op {
         Op::Append(_) => sum_of(live, 1),

@@ -6,21 +6,21 @@ ghost use Rattle.lra_base.specs.Operators.{differs};
 ghost use Rattle.lra_domain.specs.Actions.{remove_last};
 ghost use Rattle.lra_domain.specs.Changes.{action_of, actions_of};
 ghost use Rattle.lra_domain.specs.Moves.{make, first_then, join_of};
-ghost use Rattle.lra_flow.specs.Linear.{comparison_test};
-ghost use Rattle.lra_flow.specs.MovesOf as moves;
-ghost use Rattle.lra_flow.specs.MovesOf.{comparison_moves, in_cases, in_turn, seen_moves, test_moves};
-ghost use Rattle.lra_flow.specs.Seen.{Divides, SeenFits, difference_seen};
+ghost use Rattle.lra_analysis_spec.specs.Linear.{comparison_test};
+ghost use Rattle.lra_analysis_spec.specs.MovesOf as moves;
+ghost use Rattle.lra_analysis_spec.specs.MovesOf.{comparison_moves, in_cases, in_turn, linearized_moves, test_moves};
+ghost use Rattle.lra_analysis_spec.specs.Linearization.{Divides, LinearizedFits, linearized_difference};
 ghost use Rattle.lra_sides.specs.Conditions.{AreIn, HasBoth};
 ghost use Rattle.lra_sides.specs.Tables.{Grows, Has, IsTable, moves_at};
 ghost use Rattle.lra_program.specs.Program.{compare, nonzero};
 ghost use Rattle.lra_program.specs.ProgramViews.{all_of, any_of, cond_view, expr_view};
 
 use crate::tables::{Entry, push_first_then, push_join, push_make, push_stay};
+use lra_analysis_spec::{Division, Linearized};
 use lra_base::{Comparison, NumberType};
 use lra_domain::Change;
-use lra_flow::{Division, Seen};
-use lra_forms::{first_case, opposite_of, second_case, see_difference, test_of};
 use lra_linear_forms::Test;
+use lra_linearize::{first_case, linearize_difference, opposite_of, second_case, test_of};
 use lra_program::{Cond, Expr};
 use std::alloc::{AllocError, Global};
 
@@ -148,23 +148,23 @@ fn push_seen(
     entries: &mut Vec<Entry>,
     live: usize,
     op: Comparison,
-    seen: &Seen,
+    seen: &Linearized,
 ) -> Result<usize, AllocError>
     requires table { IsTable entries.old.items }
     requires few { live < 2 ^ 62 - 2 }
-    requires width { SeenFits seen.now live }
+    requires width { LinearizedFits seen.now live }
     ensures table { OnOk result (IsTable entries.new.items) }
     ensures grows { OnOk result (Grows entries.old.items entries.new.items) }
     ensures has { IfOk result (λ i. Has entries.new.items i
-        (seen_moves live (comparison_view op) seen.now)) }
+        (linearized_moves live (comparison_view op) seen.now)) }
 {
     match seen {
-        Seen::Unseen => push_stay(entries),
-        Seen::Linear(d) => {
+        Linearized::Unseen => push_stay(entries),
+        Linearized::Linear(d) => {
             let test = test_of(alloc, op, d)?;
             push_test(entries, test)
         }
-        Seen::Divided(division, d) => {
+        Linearized::Divided(division, d) => {
             let test = test_of(alloc, op, d)?;
             push_test_in_cases(alloc, entries, live, division, test)
         }
@@ -176,11 +176,11 @@ fn push_differs(
     alloc: Global,
     entries: &mut Vec<Entry>,
     live: usize,
-    seen: &Seen,
+    seen: &Linearized,
 ) -> Result<usize, AllocError>
     requires table { IsTable entries.old.items }
     requires few { live < 2 ^ 62 - 2 }
-    requires width { SeenFits seen.now live }
+    requires width { LinearizedFits seen.now live }
     ensures table { OnOk result (IsTable entries.new.items) }
     ensures grows { OnOk result (Grows entries.old.items entries.new.items) }
     ensures has { IfOk result (λ i. Has entries.new.items i
@@ -197,18 +197,18 @@ pub fn push_comparison(
     entries: &mut Vec<Entry>,
     live: usize,
     op: Comparison,
-    seen: &Seen,
+    seen: &Linearized,
 ) -> Result<usize, AllocError>
     requires table { IsTable entries.old.items }
     requires few { live < 2 ^ 62 - 2 }
-    requires width { SeenFits seen.now live }
+    requires width { LinearizedFits seen.now live }
     ensures table { OnOk result (IsTable entries.new.items) }
     ensures grows { OnOk result (Grows entries.old.items entries.new.items) }
     ensures has { IfOk result (λ i. Has entries.new.items i
         (comparison_moves live (comparison_view op) seen.now)) }
 {
     match seen {
-        Seen::Unseen => push_stay(entries),
+        Linearized::Unseen => push_stay(entries),
         _ => match op {
             Comparison::Differs => push_differs(alloc, entries, live, seen),
             _ => push_seen(alloc, entries, live, op, seen),
@@ -231,7 +231,7 @@ pub fn push_comparison_guards(
     ensures has { IfOk result (λ b. HasBoth entries.new.items frame.live frame.base
         (compare (comparison_view op) (expr_view left.now) (expr_view right.now)) b) }
 {
-    let seen = see_difference(frame.alloc, frame.live, frame.base, left, right)?;
+    let seen = linearize_difference(frame.alloc, frame.live, frame.base, left, right)?;
     let so = push_comparison(frame.alloc, entries, frame.live, op, &seen)?;
     let not = push_comparison(frame.alloc, entries, frame.live, opposite_of(op), &seen)?;
     Ok(Both { so, not })

@@ -2,8 +2,8 @@
 
 ghost use Rattle.std.specs.Prelude.{List, ◌∷◌, ◌<◌, ◌^◌, ◌-◌, length, IfOk, OnOk};
 ghost use Rattle.lra_base.specs.declared.case_labels.CaseLabel.{CaseLabel};
-ghost use Rattle.lra_flow.specs.MovesOf.{number_moves};
-ghost use Rattle.lra_flow.specs.Seen.{SeenFits};
+ghost use Rattle.lra_analysis_spec.specs.MovesOf.{number_moves};
+ghost use Rattle.lra_analysis_spec.specs.Linearization.{LinearizedFits};
 ghost use Rattle.lra_sides.specs.PassedLabels.{PutsLabel};
 ghost use Rattle.lra_ways.specs.Labels.{labels_in};
 ghost use Rattle.lra_sides.specs.StepMoves.{step_moves, unmatched_moves};
@@ -12,9 +12,9 @@ ghost use Rattle.lra_sides.specs.Tables.{Grows, Has, IsTable};
 
 use crate::conditions::push_comparison;
 use crate::tables::{Entry, push_first_then, push_stay};
+use lra_analysis_spec::Linearized;
 use lra_base::{CaseLabel, Comparison};
-use lra_flow::Seen;
-use lra_forms::{comparison_where, see, subtract_number};
+use lra_linearize::{comparison_where, linearize, subtract_number};
 use lra_operations::Arm;
 use lra_ways::Selection;
 use std::alloc::{AllocError, Global};
@@ -23,14 +23,14 @@ use std::alloc::{AllocError, Global};
 fn push_number(
     alloc: Global,
     live: usize,
-    seen: &Seen,
+    seen: &Linearized,
     number: &i64,
     wanted: bool,
     entries: &mut Vec<Entry>,
 ) -> Result<usize, AllocError>
     requires table { IsTable entries.old.items }
     requires few { live < 2 ^ 62 - 2 }
-    requires width { SeenFits seen.now live }
+    requires width { LinearizedFits seen.now live }
     ensures table { OnOk result (IsTable entries.new.items) }
     ensures grows { OnOk result (Grows entries.old.items entries.new.items) }
     ensures has { IfOk result (λ i. Has entries.new.items i
@@ -45,14 +45,14 @@ fn push_number(
 fn push_unmatched_label(
     alloc: Global,
     live: usize,
-    seen: &Seen,
+    seen: &Linearized,
     label: &CaseLabel,
     later: usize,
     entries: &mut Vec<Entry>,
 ) -> Result<usize, AllocError>
     requires table { IsTable entries.old.items }
     requires few { live < 2 ^ 62 - 2 }
-    requires width { SeenFits seen.now live }
+    requires width { LinearizedFits seen.now live }
     requires later { later < length entries.old.items }
     ensures table { OnOk result (IsTable entries.new.items) }
     ensures grows { OnOk result (Grows entries.old.items entries.new.items) }
@@ -73,14 +73,14 @@ fn push_unmatched_label(
 fn push_unmatched_arm(
     alloc: Global,
     live: usize,
-    seen: &Seen,
+    seen: &Linearized,
     arm: &Arm,
     later: usize,
     entries: &mut Vec<Entry>,
 ) -> Result<usize, AllocError>
     requires table { IsTable entries.old.items }
     requires few { live < 2 ^ 62 - 2 }
-    requires width { SeenFits seen.now live }
+    requires width { LinearizedFits seen.now live }
     requires later { later < length entries.old.items }
     ensures table { OnOk result (IsTable entries.new.items) }
     ensures grows { OnOk result (Grows entries.old.items entries.new.items) }
@@ -97,13 +97,13 @@ fn push_unmatched_arm(
 fn push_unmatched(
     alloc: Global,
     live: usize,
-    seen: &Seen,
+    seen: &Linearized,
     arms: &[Arm],
     entries: &mut Vec<Entry>,
 ) -> Result<usize, AllocError>
     requires table { IsTable entries.old.items }
     requires few { live < 2 ^ 62 - 2 }
-    requires width { SeenFits seen.now live }
+    requires width { LinearizedFits seen.now live }
     ensures table { OnOk result (IsTable entries.new.items) }
     ensures grows { OnOk result (Grows entries.old.items entries.new.items) }
     ensures has { IfOk result (λ i. Has entries.new.items i
@@ -133,7 +133,7 @@ pub fn push_selection(
     ensures has { IfOk result (λ i. Has entries.new.items i
         (step_moves live (selection_view selection.entry label.now))) }
 {
-    let seen = see(alloc, live, selection.base, selection.value)?;
+    let seen = linearize(alloc, live, selection.base, selection.value)?;
     match label {
         CaseLabel::Case(number) => push_number(alloc, live, &seen, number, true, entries),
         CaseLabel::Default => push_unmatched(alloc, live, &seen, selection.arms, entries),

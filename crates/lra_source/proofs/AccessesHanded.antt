@@ -17,9 +17,9 @@ use Rattle.lra_program.specs.Sites.{Site}
 use Rattle.lra_program.specs.Step.{Op, append, fill, store_value, store_element, havoc, push, push_for, truncate_to, test}
 use Rattle.lra_operations.specs.Tree.{Node}
 use Rattle.lra_operations.specs.CheckedOperations.{OpAtPoint, accessing_ops, AreOncePerPoint}
-use Rattle.lra_flow.specs.Operations.{Operations}
-use Rattle.lra_flow.specs.Accesses.{EachJudged, CondInside, OpInside, AskedInside, JudgesAccesses}
-use Rattle.lra_iter.specs.Numbers.{AreBelow}
+use Rattle.lra_analysis_spec.specs.Operations.{Operations}
+use Rattle.lra_analysis_spec.specs.Accesses.{EachJudged, CondInside, OpInside, InsideAtPoint, JudgesAccesses}
+use Rattle.lra_fixpoint.specs.Numbers.{AreBelow}
 use Rattle.lra_report.specs.Listing.{accesses_at}
 use Rattle.lra_report_build.specs.AnalysisResults.{AreAccessVerdicts, IsAccessing}
 use Rattle.lra_source.proofs.Found.{place_of, site_there, found_of, asked_one, found_on}
@@ -67,7 +67,7 @@ module _ {V H : Type 0} (m : Abstraction V H) (ops : Operations V H) where
   op_placed (truncate_to n) v js e told = each_placed v 0 [] js e told
   op_placed (test base c wanted) v js e told = cond_placed base c v js e told
 
-  asked_placed : (values : List V) (a : OpAtPoint) (js : List (Place × Bool)) (e : Exactness) → AskedInside m ops values a js e →
+  asked_placed : (values : List V) (a : OpAtPoint) (js : List (Place × Bool)) (e : Exactness) → InsideAtPoint m ops values a js e →
       ArePlaced (op_accesses a.op) js
   asked_placed values a js e (v, w, c, d, there, behind, told, flags) = op_placed a.op w js d told
 

@@ -12,21 +12,21 @@ use Rattle.lra_program.specs.Sites.{Site, sites_of}
 use Rattle.lra_operations.specs.Tree.{Node}
 use Rattle.lra_operations.specs.Agree.{point_of, Agrees}
 use Rattle.lra_operations.specs.CheckedOperations.{OpAtPoint, AgreesOnAccesses}
-use Rattle.lra_flow.specs.Plan.{Plan}
-use Rattle.lra_flow.specs.Pass.{Result}
-use Rattle.lra_flow.specs.Operations.{dropping}
-use Rattle.lra_flow.specs.Analysis.{Derivation, Solves}
-use Rattle.lra_flow.specs.Accesses.{AskedInside, JudgesAccesses}
-use Rattle.lra_flow.proofs.AccessesSound.{inside_never_stray}
+use Rattle.lra_analysis_spec.specs.Plan.{Plan}
+use Rattle.lra_analysis_spec.specs.Pass.{PassResult}
+use Rattle.lra_analysis_spec.specs.Operations.{lossy_operations}
+use Rattle.lra_analysis_spec.specs.Analysis.{LossyIteration, IsSolution}
+use Rattle.lra_analysis_spec.specs.Accesses.{InsideAtPoint, JudgesAccesses}
+use Rattle.lra_analysis_spec.proofs.AccessesSound.{inside_never_stray}
 use Rattle.lra_source.specs.Soundness.{AccessesAreSound}
 use Rattle.lra_source.proofs.Found.{found_of, one_asked_there}
 use Rattle.lra_source.proofs.Sound.{held_there}
 
-module _ (V H : Type 0) (m : Abstraction V H) (laws : Laws m) (set : Plan) (P : Program) (good : AreGoodGlobals P.globals) (g : Node) (r : Result V)
-    (derived : Derivation m set P g r) (agrees : Agrees P g) (values : List V) (verdicts : List (ℕ × Bool)) (flagged : Option ℕ)
-    (solves : Solves m r values verdicts flagged)
+module _ (V H : Type 0) (m : Abstraction V H) (laws : Laws m) (set : Plan) (P : Program) (good : AreGoodGlobals P.globals) (g : Node) (r : PassResult V)
+    (derived : LossyIteration m set P g r) (agrees : Agrees P g) (values : List V) (verdicts : List (ℕ × Bool)) (flagged : Option ℕ)
+    (solves : IsSolution m r values verdicts flagged)
     (well : AgreesOnAccesses P g) where
-  pub inside_holds : (inside : List (ℕ × List (Place × Bool))) (behind last : Option ℕ) → JudgesAccesses m (dropping m) g values behind inside last
+  pub inside_holds : (inside : List (ℕ × List (Place × Bool))) (behind last : Option ℕ) → JudgesAccesses m (lossy_operations m) g values behind inside last
       → (q : ℕ) (s : Site) (js : List (Place × Bool)) (n : ℕ) (place : Place) → slice_get (sites_of P) q ≡ Some s
       → Contains inside (q, js) → slice_get js n ≡ Some (place, true) → AccessesOutOfBounds P (point_of s) n → ⊥
   inside_holds inside behind last judges q s js n place site told inner (c, reaches, on, strays) =
@@ -37,9 +37,9 @@ module _ (V H : Type 0) (m : Abstraction V H) (laws : Laws m) (set : Plan) (P : 
       let (v, found, held, long) = held_there V H m laws set P good g r derived agrees values verdicts flagged solves q s c.state.store site
       (c, reaches, on, refl) in
       let here : slice_get values b.point ≡ Some v = ap (λ (k : ℕ). slice_get values k) there ∙ found in
-      let is_so : AskedInside m (dropping m) values b js j.exactness =
-      subst (λ (x : OpAtPoint). AskedInside m (dropping m) values x js j.exactness) (sym equal)
-      (subst (λ (ks : List (Place × Bool)). AskedInside m (dropping m) values a ks j.exactness) same judged) in
+      let is_so : InsideAtPoint m (lossy_operations m) values b js j.exactness =
+      subst (λ (x : OpAtPoint). InsideAtPoint m (lossy_operations m) values x js j.exactness) (sym equal)
+      (subst (λ (ks : List (Place × Bool)). InsideAtPoint m (lossy_operations m) values a ks j.exactness) same judged) in
       inside_never_stray m laws values b js j.exactness v c.state n place here held.0 held.1 is_so inner outside
 
 pub accesses_sound : (V H : Type 0) (m : Abstraction V H) → Laws m → AccessesAreSound m

@@ -8,8 +8,8 @@ use Rattle.lra_domain.specs.Abstraction.{Abstraction}
 use Rattle.lra_program.specs.Sites.{Site}
 use Rattle.lra_operations.specs.Tree.{Node}
 use Rattle.lra_operations.specs.CheckedOperations.{OpAtPoint, computing_ops}
-use Rattle.lra_flow.specs.Operations.{Operations}
-use Rattle.lra_flow.specs.Fits.{OpFits, Judges, JudgesIf}
+use Rattle.lra_analysis_spec.specs.Operations.{Operations}
+use Rattle.lra_analysis_spec.specs.Fits.{OpFits, Judges, JudgesIf}
 use Rattle.lra_report_build.specs.AnalysisResults.{AreVerdictsOn, IsComputing}
 use Rattle.lra_source.proofs.Found.{found_on, none_before, site_there}
 

@@ -11,21 +11,22 @@ use Rattle.lra_program.specs.Sites.{Site, sites_of}
 use Rattle.lra_operations.specs.Tree.{Node}
 use Rattle.lra_operations.specs.Agree.{point_of, Agrees}
 use Rattle.lra_operations.specs.CheckedOperations.{OpAtPoint, AgreesOnOverflows}
-use Rattle.lra_flow.specs.Plan.{Plan}
-use Rattle.lra_flow.specs.Pass.{Result}
-use Rattle.lra_flow.specs.Operations.{dropping}
-use Rattle.lra_flow.specs.Analysis.{Derivation, Solves}
-use Rattle.lra_flow.specs.Fits.{AskedJudged, Judges}
-use Rattle.lra_flow.proofs.FitsSound.{fitting_never_overflows}
+use Rattle.lra_analysis_spec.specs.Plan.{Plan}
+use Rattle.lra_analysis_spec.specs.Pass.{PassResult}
+use Rattle.lra_analysis_spec.specs.Operations.{lossy_operations}
+use Rattle.lra_analysis_spec.specs.Analysis.{LossyIteration, IsSolution}
+use Rattle.lra_analysis_spec.specs.Fits.{JudgedAtPoint, Judges}
+use Rattle.lra_analysis_spec.proofs.FitsSound.{fitting_never_overflows}
 use Rattle.lra_source.specs.Soundness.{FittingIsSound}
 use Rattle.lra_source.proofs.Found.{found_of, one_asked_there}
 use Rattle.lra_source.proofs.Sound.{held_there}
 
-module _ (V H : Type 0) (m : Abstraction V H) (laws : Laws m) (set : Plan) (P : Program) (good : AreGoodGlobals P.globals) (g : Node) (r : Result V)
-    (derived : Derivation m set P g r) (agrees : Agrees P g) (values : List V) (verdicts : List (ℕ × Bool)) (flagged : Option ℕ)
-    (solves : Solves m r values verdicts flagged)
+module _ (V H : Type 0) (m : Abstraction V H) (laws : Laws m) (set : Plan) (P : Program) (good : AreGoodGlobals P.globals) (g : Node) (r : PassResult V)
+    (derived : LossyIteration m set P g r) (agrees : Agrees P g) (values : List V) (verdicts : List (ℕ × Bool)) (flagged : Option ℕ)
+    (solves : IsSolution m r values verdicts flagged)
     (well : AgreesOnOverflows P g) where
-  pub fitting_holds : (fitting : List (ℕ × Bool)) (behind : Option ℕ) → Judges m (dropping m) g values flagged fitting behind → (q : ℕ) (s : Site) (so : Bool)
+  pub fitting_holds : (fitting : List (ℕ × Bool)) (behind : Option ℕ) → Judges m (lossy_operations m) g values flagged fitting behind →
+      (q : ℕ) (s : Site) (so : Bool)
       → slice_get (sites_of P) q ≡ Some s
       → Contains fitting (q, so) → so ≡ true → Overflows P (point_of s) → ⊥
   fitting_holds fitting behind judges q s so site told yes_so (c, reaches, on, over) =
@@ -36,9 +37,9 @@ module _ (V H : Type 0) (m : Abstraction V H) (laws : Laws m) (set : Plan) (P : 
       let (v, found, held, long) = held_there V H m laws set P good g r derived agrees values verdicts flagged solves q s c.state.store site
       (c, reaches, on, refl) in
       let here : slice_get values b.point ≡ Some v = ap (λ (n : ℕ). slice_get values n) there ∙ found in
-      let is_so : AskedJudged m (dropping m) values b true j.exactness =
-      subst (λ (x : OpAtPoint). AskedJudged m (dropping m) values x true j.exactness) (sym same)
-      (subst (λ (x : Bool). AskedJudged m (dropping m) values a x j.exactness) (fits ∙ yes_so) judged) in
+      let is_so : JudgedAtPoint m (lossy_operations m) values b true j.exactness =
+      subst (λ (x : OpAtPoint). JudgedAtPoint m (lossy_operations m) values x true j.exactness) (sym same)
+      (subst (λ (x : Bool). JudgedAtPoint m (lossy_operations m) values a x j.exactness) (fits ∙ yes_so) judged) in
       fitting_never_overflows m laws values b j.exactness v c.state here held.0 held.1 is_so stops
 
 pub fitting_sound : (V H : Type 0) (m : Abstraction V H) → Laws m → FittingIsSound m

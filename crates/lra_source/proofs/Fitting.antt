@@ -28,11 +28,11 @@ use Rattle.lra_operations.specs.Agree.{IsInlinedTree}
 use Rattle.lra_program.specs.WellFormed.{IsLive, IsGoodRvalue, IsGoodGiven, IsGoodStmt, AreGoodCases, AreGoodItems, IsGoodFunction, IsWellFormed}
 use Rattle.lra_program.specs.WellFormed.{Jumps, no_jumps, in_loop as in_loop_jumps, in_switch}
 use Rattle.lra_inline_sound.proofs.Lengths.{grows_all}
-use Rattle.lra_flow.specs.Live.{dims_behind, live_after}
-use Rattle.lra_change.specs.Changes.{CellFits, PlaceFits, OpFits}
+use Rattle.lra_analysis_spec.specs.Live.{live_after_op, live_after}
+use Rattle.lra_transfer.specs.Changes.{CellFits, PlaceFits, OpFitsDims}
 use Rattle.lra_program.proofs.GivenArguments.{given_width}
-use Rattle.lra_outcomes.specs.Fits.{ArmsFit, ArmsJumpWith, JumpsWith, TreeFits}
-use Rattle.lra_flow.specs.Room.{most_live}
+use Rattle.lra_pass_results.specs.Dimensions.{ArmsFit, ArmsJumpWith, JumpsWith, TreeFits}
+use Rattle.lra_analysis_spec.specs.LiveLimit.{most_live}
 
 -- how many live where a jump leads
 abbrev JumpFits : Frame → Exit → ℕ → Type 0
@@ -68,7 +68,7 @@ empty_fit = record { fits = tt; behind = refl; jumps = λ k m j. absurd j }
 point_fit : {f : Frame} {n : ℕ} (q : ℕ) → Fit f n n (point q)
 point_fit q = record { fits = tt; behind = refl; jumps = λ k m j. absurd j }
 
-act_fit : {f : Frame} {n n' : ℕ} (q : ℕ) (op : Op) → OpFits op n → dims_behind op n ≡ n' → Fit f n n' (act q op)
+act_fit : {f : Frame} {n n' : ℕ} (q : ℕ) (op : Op) → OpFitsDims op n → live_after_op op n ≡ n' → Fit f n n' (act q op)
 act_fit q op fits is = record { fits = fits; behind = is; jumps = λ k m j. absurd j }
 
 check_fit : {f : Frame} {n : ℕ} (q base : ℕ) (c : Cond) → Fit f n n (check q base c)
@@ -231,7 +231,7 @@ switch_fit f n q base e arms x = record { fits = (x.fits, λ m j. sym (same_Some
 
 -- an operation that gives arguments fits where so many more variables may live, which it adds
 abbrev AddsFitting : (List Argument → Op) → Type 0
-AddsFitting gives = (es : List Argument) (n : ℕ) → n + length es ≤ most_live → OpFits (gives es) n × (dims_behind (gives es) n ≡ n + length es)
+AddsFitting gives = (es : List Argument) (n : ℕ) → n + length es ≤ most_live → OpFitsDims (gives es) n × (live_after_op (gives es) n ≡ n + length es)
 
 -- of a call whose body is g
 module _ (f : Frame) (n r : ℕ) (x : Receiver) (gives : List Argument → Op) (es : List Argument) (adds : AddsFitting gives) (params : ℕ) (g : Node) (f' : Frame) (n' : ℕ) (i : length es ≡ params)

@@ -18,12 +18,13 @@ use Rattle.lra_operations.specs.Inlined.{as_loop, as_for, as_break, as_continue}
 use Rattle.lra_operations.specs.Inlined.{as_return, as_return_value, as_return_call, as_end, as_end_value, as_end_call, as_assert, as_assume, as_none, as_declaration, as_statement, as_fresh, as_given}
 use Rattle.lra_operations.specs.Inlined.{is_loop, as_value, as_result, is_call, InlineCall, as_array, as_write, as_write_call, InlineCases, as_switch, as_no_cases, as_labelled, as_stated}
 use Rattle.lra_operations.specs.Agree.{IsInlinedTree}
-use Rattle.lra_flow.specs.Plan.{Plan, Widening}
-use Rattle.lra_flow.specs.Operations.{Operations}
-use Rattle.lra_flow.specs.Pass.{Admission, nothing_admitted, Result, noted, jumps, behind, Through, GoesRound, Grows, Narrows, PassAmong, ArmsPassAmong}
-use Rattle.lra_flow.specs.Among.{IterationAmong}
-use Rattle.lra_flow.specs.Analysis.{Iteration}
-use Rattle.lra_iter.specs.Numbers.{ArmsAreBelow, AreBelow}
+use Rattle.lra_analysis_spec.specs.Plan.{Plan, Widening}
+use Rattle.lra_analysis_spec.specs.Operations.{Operations}
+use Rattle.lra_analysis_spec.specs.Pass.{Absorption, nothing_absorbed, PassResult, noted, jumps, jumps_caught, Transformer, LoopRoundFrom, AscendingIteration}
+use Rattle.lra_analysis_spec.specs.Pass.{DescendingIteration, PassUnder, ArmsPassUnder}
+use Rattle.lra_analysis_spec.specs.UnderInterference.{IterationUnder}
+use Rattle.lra_analysis_spec.specs.Analysis.{Iteration}
+use Rattle.lra_fixpoint.specs.Numbers.{ArmsAreBelow, AreBelow}
 
 -- the first flagged point, where there is one, is below n
 abbrev pub IsBelow : ℕ → Option ℕ → Type 0
@@ -110,35 +111,36 @@ jump_flag broken v nothing f = refl
 jump_flag continued v nothing f = refl
 jump_flag returned v nothing f = refl
 
-behind_flag : {V : Type 0} (j : Exit) (r : Result V) (v : V) (f : Option ℕ) → (behind j r v f).flag ≡ f
+behind_flag : {V : Type 0} (j : Exit) (r : PassResult V) (v : V) (f : Option ℕ) → (jumps_caught j r v f).flag ≡ f
 behind_flag broken r v f = refl
 behind_flag continued r v f = refl
 behind_flag returned r v f = refl
 
-module _ (V H : Type 0) (ops : Operations V H) (admission : Admission V) (n : ℕ) where
+module _ (V H : Type 0) (ops : Operations V H) (admission : Absorption V) (n : ℕ) where
   flag_is : (f g : Option ℕ) → f ≡ g → IsBelow n g → IsBelow n f
   flag_is f g e b = subst (λ (h : Option ℕ). IsBelow n h) (sym e) b
 
-  result_is : (r s : Result V) → r ≡ s → IsBelow n s.flag → IsBelow n r.flag
-  result_is r s e b = subst (λ (x : Result V). IsBelow n x.flag) (sym e) b
+  result_is : (r s : PassResult V) → r ≡ s → IsBelow n s.flag → IsBelow n r.flag
+  result_is r s e b = subst (λ (x : PassResult V). IsBelow n x.flag) (sym e) b
 
-  module _ (q base : ℕ) (c : Cond) (body : Through V) (l : q < n) (inside : (f : Option ℕ) (v : V) (r : Result V) → body f v r → IsBelow n f → IsBelow n r.flag) where
-    round_below : (f : Option ℕ) (v : V) (r : Result V) → GoesRound V H ops q base c body f v r → IsBelow n f → IsBelow n r.flag
-    round_below f v r (w, e, s, on, turn, is) b = subst (λ (x : Result V). IsBelow n x.flag) (sym is) (inside (noted q e f) w s turn (noted_below n q e f l b))
+  module _ (q base : ℕ) (c : Cond) (body : Transformer V) (l : q < n) (inside : (f : Option ℕ) (v : V) (r : PassResult V) → body f v r → IsBelow n f → IsBelow n r.flag) where
+    round_below : (f : Option ℕ) (v : V) (r : PassResult V) → LoopRoundFrom V H ops q base c body f v r → IsBelow n f → IsBelow n r.flag
+    round_below f v r (w, e, s, on, turn, is) b =
+        subst (λ (x : PassResult V). IsBelow n x.flag) (sym is) (inside (noted q e f) w s turn (noted_below n q e f l b))
 
-    grows_below : (widening : Widening) (left : ℕ) (f : Option ℕ) (h : H) (later : List H) (v : V) (r : Result V) → Grows V H ops q base c body widening left f h later v r → IsBelow n f → IsBelow n r.flag
+    grows_below : (widening : Widening) (left : ℕ) (f : Option ℕ) (h : H) (later : List H) (v : V) (r : PassResult V) → AscendingIteration V H ops q base c body widening left f h later v r → IsBelow n f → IsBelow n r.flag
     grows_below widening left f h [] v r ((e, valued, turn), stays) b = round_below (noted q e f) v r turn (noted_below n q e f l b)
     grows_below widening left f h (next ∷ later) v r (u, s, e, (d, valued, turn), grown, rest) b =
         grows_below widening (left - 1) (noted q e s.flag) next later v r rest
         (noted_below n q e s.flag l (round_below (noted q d f) u s turn (noted_below n q d f l b)))
 
-    narrows_below : (more : ℕ) (first u : V) (s : Result V) (v : V) (r : Result V) → Narrows V H ops q base c body more first u s v r → IsBelow n s.flag → IsBelow n r.flag
-    narrows_below zero first u s v r (same, is) b = subst (λ (x : Result V). IsBelow n x.flag) (sym is) b
+    narrows_below : (more : ℕ) (first u : V) (s : PassResult V) (v : V) (r : PassResult V) → DescendingIteration V H ops q base c body more first u s v r → IsBelow n s.flag → IsBelow n r.flag
+    narrows_below zero first u s v r (same, is) b = subst (λ (x : PassResult V). IsBelow n x.flag) (sym is) b
     narrows_below (suc more) first u s v r (next, t, e, joined, turn, rest) b =
         narrows_below more first next t v r rest (round_below (noted q e s.flag) next t turn (noted_below n q e s.flag l b))
 
   mutual
-    pub pass_below : (set : Plan) (g : Node) (f : Option ℕ) (v : V) (r : Result V) → PassAmong V H ops admission set g f v r → AreBelow n g → IsBelow n f → IsBelow n r.flag
+    pub pass_below : (set : Plan) (g : Node) (f : Option ℕ) (v : V) (r : PassResult V) → PassUnder V H ops admission set g f v r → AreBelow n g → IsBelow n f → IsBelow n r.flag
     pass_below set empty f v r is a b = result_is r _ is b
     pass_below set (probe q InterferencePoint) f v r (w, e, done, is) a b = result_is r _ is (noted_below n q e f a b)
     pass_below set (probe q (RecordWrite place)) f v r is a b = result_is r _ is b
@@ -151,9 +153,9 @@ module _ (V H : Type 0) (ops : Operations V H) (admission : Admission V) (n : �
         result_is r _ is (noted_below n q i t.flag a.0 (pass_below set y (noted q e s.flag) off t two a.2
         (noted_below n q e s.flag a.0 (pass_below set x (noted q d f) on s one a.1 (noted_below n q d f a.0 b)))))
     pass_below set (iterate q base c x) f v r (h, later, u, top, out, s, t, e, started, grown, narrowed, off, is) a b =
-        let g = grows_below q base c (PassAmong V H ops admission set x) a.0 (λ f' v' r' p k. pass_below set x f' v' r' p a.1 k) set.widening set.delay f h later u s grown b
+        let g = grows_below q base c (PassUnder V H ops admission set x) a.0 (λ f' v' r' p k. pass_below set x f' v' r' p a.1 k) set.widening set.delay f h later u s grown b
         in
-        let m = narrows_below q base c (PassAmong V H ops admission set x) a.0 (λ f' v' r' p k. pass_below set x f' v' r' p a.1 k) set.narrow v u s top t narrowed g in
+        let m = narrows_below q base c (PassUnder V H ops admission set x) a.0 (λ f' v' r' p k. pass_below set x f' v' r' p a.1 k) set.narrow v u s top t narrowed g in
         result_is r _ is (noted_below n q e t.flag a.0 m)
     pass_below set (catch q j x) f v r (w, e, s, one, joined, is) a b =
         result_is r _ is (flag_is _ (noted q e s.flag) (behind_flag j s w (noted q e s.flag)) (noted_below n q e s.flag a.0 (pass_below set x f v s one a.1 b)))
@@ -161,18 +163,18 @@ module _ (V H : Type 0) (ops : Operations V H) (admission : Admission V) (n : �
     pass_below set (select q base e arms) f v r (other, x, none, pass) a b = arms_below set q base e _ v other arms (noted q x f) None r pass a.0 a.1
         (noted_below n q x f a.0 b)
 
-    arms_below : (set : Plan) (q base : ℕ) (e : Expr) (d : Bool) (v other : V) (arms : Arms) (f : Option ℕ) (o : Option V) (r : Result V)
-        → ArmsPassAmong V H ops admission set q base e d v other arms f o r → q < n → ArmsAreBelow n arms → IsBelow n f → IsBelow n r.flag
+    arms_below : (set : Plan) (q base : ℕ) (e : Expr) (d : Bool) (v other : V) (arms : Arms) (f : Option ℕ) (o : Option V) (r : PassResult V)
+        → ArmsPassUnder V H ops admission set q base e d v other arms f o r → q < n → ArmsAreBelow n arms → IsBelow n f → IsBelow n r.flag
     arms_below set q base e d v other no_arms f o r (w, x, out, is) l a b = result_is r _ is (noted_below n q x f l b)
     arms_below set q base e d v other (entry k arms) f o r (u, w, x, y, enters, joins, rest) l a b =
         arms_below set q base e d v other arms (noted q y (noted q x f)) (Some w) r rest l a (noted_below n q y (noted q x f) l (noted_below n q x f l b))
     arms_below set q base e d v other (arm g arms) f o r (w, s, t, from, one, rest, is) l a b =
         result_is r _ is (arms_below set q base e d v other arms s.flag (Some s.normal) t rest l a.1 (pass_below set g f w s one a.0 b))
 
-  pub iteration_among_below : (set : Plan) (P : Program) (g : Node) (r : Result V) → 0 < n → AreBelow n g → IterationAmong ops admission set P g r → IsBelow n r.flag
+  pub iteration_among_below : (set : Plan) (P : Program) (g : Node) (r : PassResult V) → 0 < n → AreBelow n g → IterationUnder ops admission set P g r → IsBelow n r.flag
   iteration_among_below set P g r low below (none, first, e, universal, values, pass) =
       pass_below set g (noted 0 e None) first r pass below (noted_below n 0 e None low tt)
 
-pub iteration_below : (V H : Type 0) (ops : Operations V H) (n : ℕ) (set : Plan) (P : Program) (g : Node) (r : Result V) → 0 < n → AreBelow n g
+pub iteration_below : (V H : Type 0) (ops : Operations V H) (n : ℕ) (set : Plan) (P : Program) (g : Node) (r : PassResult V) → 0 < n → AreBelow n g
     → Iteration ops set P g r → IsBelow n r.flag
-iteration_below V H ops n = iteration_among_below V H ops nothing_admitted n
+iteration_below V H ops n = iteration_among_below V H ops nothing_absorbed n

@@ -17,10 +17,10 @@ use Rattle.lra_program.specs.Step.{State, Op, store_value, test}
 use Rattle.lra_operations.specs.Tree.{Node, empty, probe, point, act, check, seq, choose, iterate, catch, leave}
 use Rattle.lra_operations.specs.Tree.{select, Arms, no_arms, entry, arm}
 use Rattle.lra_operations.specs.CheckedOperations.{OpAtPoint, AgreesOnOps, op_where, ops_where, ops_where_in_arms, fresh_after}
-use Rattle.lra_flow.specs.Operations.{Operations}
-use Rattle.lra_flow.specs.Pass.{noted}
-use Rattle.lra_flow.specs.Judging.{Finding, answer_of, first_flagged, Finds}
-use Rattle.lra_iter.specs.Numbers.{ArmsAreBelow, AreBelow}
+use Rattle.lra_analysis_spec.specs.Operations.{Operations}
+use Rattle.lra_analysis_spec.specs.Pass.{noted}
+use Rattle.lra_analysis_spec.specs.Judging.{Finding, answer_of, first_flagged, Finds}
+use Rattle.lra_fixpoint.specs.Numbers.{ArmsAreBelow, AreBelow}
 use Rattle.lra_report_build.specs.AnalysisResults.{AreVerdictsOn}
 use Rattle.lra_source.proofs.Handing.{image_of}
 

@@ -20,18 +20,18 @@ use Rattle.lra_report.specs.Report.{Invariant}
 use Rattle.lra_report.specs.Listing.{HasWidth}
 use Rattle.lra_report.specs.declared.verdict_kinds.VerdictKind.{VerdictKind}
 use Rattle.lra_report.specs.declared.verdict_kinds.VerdictKind.TheVariants.{Access}
-use Rattle.lra_flow.specs.Plan.{Plan}
-use Rattle.lra_flow.specs.Operations.{dropping}
-use Rattle.lra_flow.specs.Pass.{Result}
-use Rattle.lra_flow.specs.Analysis.{Derivation, Solves}
-use Rattle.lra_iter.specs.Numbers.{values_in, checks_in, asserts_of, IsNumbered}
-use Rattle.lra_iter.proofs.Counting.{Found, iteration_found, value_counted, failing_counted, counted_value, counted_failing}
+use Rattle.lra_analysis_spec.specs.Plan.{Plan}
+use Rattle.lra_analysis_spec.specs.Operations.{lossy_operations}
+use Rattle.lra_analysis_spec.specs.Pass.{PassResult}
+use Rattle.lra_analysis_spec.specs.Analysis.{LossyIteration, IsSolution}
+use Rattle.lra_fixpoint.specs.Numbers.{values_in, checks_in, asserts_of, IsNumbered}
+use Rattle.lra_fixpoint.proofs.Counting.{Found, iteration_found, value_counted, failing_counted, counted_value, counted_failing}
 use Rattle.lra_report_build.specs.AnalysisResults.{IsAssertion, ReportedVerdict, reported_verdict, reported_from, reported_accesses}
 use Rattle.lra_report_states.specs.Canonical.{AreCanonicallyShown, IsCanonicalState}
 use Rattle.lra_report_states.specs.Shown.{AreShown}
 use Rattle.lra_source.proofs.Numbering.{numbered}
 use Rattle.lra_source.proofs.Flags.{IsBelow, graph_below, iteration_below}
-use Rattle.lra_iter.proofs.Widths.{values_wide}
+use Rattle.lra_fixpoint.proofs.Widths.{values_wide}
 use Rattle.lra_source.proofs.Widths.{graph_lives}
 
 -- lists --------------------------------------------------------------------------------------------------------------
@@ -124,10 +124,10 @@ at_place Q [] i x all at = absurd (none-some _ at)
 at_place Q (y ∷ ys) zero x all at = subst Q (same_Some _ _ at) all.0
 at_place Q (y ∷ ys) (suc i) x all at = at_place Q ys i x all.1 at
 
-module _ {V H : Type 0} (m : Abstraction V H) (plan : Plan) (P : Program) (g : Node) (r : Result V) (values : List V) (verdicts : List (ℕ × Bool)) (flagged : Option ℕ)
-    (graph : IsInlinedTree P g) (derived : Derivation m plan P g r) (solves : Solves m r values verdicts flagged) where
+module _ {V H : Type 0} (m : Abstraction V H) (plan : Plan) (P : Program) (g : Node) (r : PassResult V) (values : List V) (verdicts : List (ℕ × Bool)) (flagged : Option ℕ)
+    (graph : IsInlinedTree P g) (derived : LossyIteration m plan P g r) (solves : IsSolution m r values verdicts flagged) where
   counts : (q : ℕ) → Found q r.entries (values_in g q) (checks_in g q)
-  counts q = iteration_found V H (dropping m) q plan P g r derived
+  counts q = iteration_found V H (lossy_operations m) q plan P g r derived
 
   numbers : IsNumbered (sites_of P) g
   numbers = numbered P g graph
@@ -182,7 +182,7 @@ module _ {V H : Type 0} (m : Abstraction V H) (plan : Plan) (P : Program) (g : N
   flag_there q is =
       let n = length (sites_of P) in
       let all = graph.all in
-      let below = iteration_below V H (dropping m) n plan P g r (omega (arith, all)) (graph_below P g graph) derived in
+      let below = iteration_below V H (lossy_operations m) n plan P g r (omega (arith, all)) (graph_below P g graph) derived in
       subst (λ (o : Option ℕ). IsBelow n o) (sym solves.is_flagged ∙ is) below
 
   -- a value has a dimension for each variable that lives at its point

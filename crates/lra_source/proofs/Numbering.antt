@@ -18,8 +18,8 @@ use Rattle.lra_operations.specs.Inlined.{as_continue, as_return, as_return_value
 use Rattle.lra_operations.specs.Inlined.{as_fresh, as_given, is_loop, as_value, as_result, is_call, InlineCall, as_array, as_write, as_write_call}
 use Rattle.lra_operations.specs.Inlined.{main_inline_state}
 use Rattle.lra_operations.specs.Agree.{IsInlinedTree}
-use Rattle.lra_iter.specs.Numbers.{one_if, values_in, values_in_arms, checks_in, checks_in_arms, asserts_of, IsNumbered}
-use Rattle.lra_iter.proofs.Counting.{one_same, one_other}
+use Rattle.lra_fixpoint.specs.Numbers.{one_if, values_in, values_in_arms, checks_in, checks_in_arms, asserts_of, IsNumbered}
+use Rattle.lra_fixpoint.proofs.Counting.{one_same, one_other}
 
 -- c is w for a number k from a on that is below b, and 0 for another
 pub record Counts (w c a b k : ℕ) : Type 0 where

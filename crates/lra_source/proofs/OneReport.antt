@@ -37,22 +37,22 @@ use Rattle.lra_report.specs.Listing.{AreListed, Subject, subjects, AreJudged, Li
 use Rattle.lra_report_build.specs.AnalysisResults.{ReportedVerdict, reported_verdict, reported_accesses, reported_all, reported_of, state_of}
 use Rattle.lra_operations.specs.Tree.{Node}
 use Rattle.lra_operations.specs.CheckedOperations.{OpAtPoint, AgreesOnOps, AgreesOnOverflows, AgreesOnAccesses, accessing_ops, ops_where}
-use Rattle.lra_flow.specs.Operations.{defined, dropping}
-use Rattle.lra_flow.specs.Judging.{AskedTold, Finds}
-use Rattle.lra_flow.specs.Fits.{OpFits, JudgesIf}
-use Rattle.lra_flow.specs.Accesses.{OpInside, JudgesAccesses}
-use Rattle.lra_flow.proofs.OneIteration.{defined_single}
-use Rattle.lra_flow.proofs.OneJudgement.{one_asked}
-use Rattle.lra_flow.proofs.OneAccess.{one_asked_inside}
+use Rattle.lra_analysis_spec.specs.Operations.{exact_operations, lossy_operations}
+use Rattle.lra_analysis_spec.specs.Judging.{AnswerAtPoint, Finds}
+use Rattle.lra_analysis_spec.specs.Fits.{OpFits, JudgesIf}
+use Rattle.lra_analysis_spec.specs.Accesses.{OpInside, JudgesAccesses}
+use Rattle.lra_analysis_spec.proofs.OneIteration.{defined_single}
+use Rattle.lra_analysis_spec.proofs.OneJudgement.{one_asked}
+use Rattle.lra_analysis_spec.proofs.OneAccess.{one_asked_inside}
 use Rattle.std.proofs.lemmas.List.Elements.{Contains-append_cases}
 use Rattle.lra_source.proofs.Found.{found_of, none_before, one_asked_there}
 use Rattle.lra_source.proofs.Handing.{one_access, one_told}
 use Rattle.lra_source.proofs.FitsHanded.{unflagged_before}
 use Rattle.lra_front_end.specs.Stages.{OneConstants}
-use Rattle.lra_flow.specs.Plan.{plan_of}
-use Rattle.lra_flow.specs.Analysis.{Written}
-use Rattle.lra_flow.proofs.OneTree.{one_tree}
-use Rattle.lra_iter.proofs.OneSolution.{one_solution}
+use Rattle.lra_analysis_spec.specs.Plan.{plan_of}
+use Rattle.lra_analysis_spec.specs.Analysis.{ExactIteration}
+use Rattle.lra_analysis_spec.proofs.OneTree.{one_tree}
+use Rattle.lra_fixpoint.proofs.OneSolution.{one_solution}
 use Rattle.lra_source.specs.Analysed.{IsAnalysed}
 use Rattle.lra_source.specs.Answers.{Saying, AloneOrSets, OverDomain, TellsAnalysis}
 use Rattle.lra_source.specs.Claims.{OneUnflaggedReport}
@@ -175,32 +175,33 @@ module _ (vs us fs gs : List (ℕ × Bool)) (ones others : List (ℕ × List (Pl
 
 -- what is judged twice of the same values is one thing
 module _ {V H A : Type 0} (m : Abstraction V H) (asks : Op → Bool) (Q : Op → State → Type 0) (Told : Op → V → A → Exactness → Type 0)
-    (one_answer : (values : List V) (a : OpAtPoint) (x y : A) (e f : Exactness) → AskedTold (defined m) Told values a x e
-    → AskedTold (defined m) Told values a y f → x ≡ y)
+    (one_answer : (values : List V) (a : OpAtPoint) (x y : A) (e f : Exactness) → AnswerAtPoint (exact_operations m) Told values a x e
+    → AnswerAtPoint (exact_operations m) Told values a y f → x ≡ y)
     (P : Program) (g : Node) (well : AgreesOnOps asks Q P g) (values : List V) where
-  found_once : (xs ys : List (ℕ × A)) (c d : Option ℕ) → Finds (defined m) Told (ops_where asks None g) values None xs c
-      → Finds (defined m) Told (ops_where asks None g) values None ys d → AgreeBy xs ys
+  found_once : (xs ys : List (ℕ × A)) (c d : Option ℕ) → Finds (exact_operations m) Told (ops_where asks None g) values None xs c
+      → Finds (exact_operations m) Told (ops_where asks None g) values None ys d → AgreeBy xs ys
   found_once xs ys c d x y q a b i j =
       let (k, among, at, is) = found_of x.found q a (subst (λ (l : List (ℕ × A)). Contains l (q, a)) x.told i) in
       let (l, also, there, same) = found_of y.found q b (subst (λ (l : List (ℕ × A)). Contains l (q, b)) y.told j) in
       let (u, one, point, judged) = x.is_asked k among in
       let (w, two, place, other) = y.is_asked l also in
       let equal : w ≡ u = one_asked_there asks Q P g well w u two one (place ∙ there ∙ sym (point ∙ at)) in
-      let here : AskedTold (defined m) Told values u l.answer l.exactness =
-      subst (λ (z : OpAtPoint). AskedTold (defined m) Told values z l.answer l.exactness) equal other in
+      let here : AnswerAtPoint (exact_operations m) Told values u l.answer l.exactness =
+      subst (λ (z : OpAtPoint). AnswerAtPoint (exact_operations m) Told values z l.answer l.exactness) equal other in
       sym is ∙ one_answer values u k.answer l.answer k.exactness l.exactness judged here ∙ same
 
 module _ {V H : Type 0} (m : Abstraction V H) (laws : SingleLaws m) (P : Program) (g : Node) (values : List V) where
-  judged_same : AgreesOnOverflows P g → (b : Bool) (fs gs : List (ℕ × Bool)) → JudgesIf m (defined m) b g values None fs None
-      → JudgesIf m (defined m) b g values None gs None → AgreeBy fs gs
-  judged_same well true fs gs x y = found_once m op_computes OpOverflows (OpFits m (defined m)) (one_asked m (defined m) (defined_single m laws)) P g well
+  judged_same : AgreesOnOverflows P g → (b : Bool) (fs gs : List (ℕ × Bool)) → JudgesIf m (exact_operations m) b g values None fs None
+      → JudgesIf m (exact_operations m) b g values None gs None → AgreeBy fs gs
+  judged_same well true fs gs x y =
+      found_once m op_computes OpOverflows (OpFits m (exact_operations m)) (one_asked m (exact_operations m) (defined_single m laws)) P g well
       values fs gs None None x y
   judged_same well false fs gs x y = λ q a c i j. absurd (contains_none (q, a) (subst (λ (l : List (ℕ × Bool)). Contains l (q, a)) x.0 i))
 
-  accessed_same : AgreesOnAccesses P g → (ones others : List (ℕ × List (Place × Bool))) → JudgesAccesses m (defined m) g values None ones None
-      → JudgesAccesses m (defined m) g values None others None → AgreeBy ones others
-  accessed_same well ones others x y = found_once m op_accesses_any (λ op t. OpOutOfBounds op t 0) (OpInside m (defined m))
-      (one_asked_inside m (defined m) (defined_single m laws)) P g (well 0) values ones others None None x y
+  accessed_same : AgreesOnAccesses P g → (ones others : List (ℕ × List (Place × Bool))) → JudgesAccesses m (exact_operations m) g values None ones None
+      → JudgesAccesses m (exact_operations m) g values None others None → AgreeBy ones others
+  accessed_same well ones others x y = found_once m op_accesses_any (λ op t. OpOutOfBounds op t 0) (OpInside m (exact_operations m))
+      (one_asked_inside m (exact_operations m) (defined_single m laws)) P g (well 0) values ones others None None x y
 
 one_flag : (f : Option ℕ) (told : Option ℕ) → told ≡ option_map suc f → told ≡ None → f ≡ None
 one_flag None told is none = refl
@@ -210,10 +211,11 @@ one_flag (Some q) told is none = absurd (none-some _ (sym none ∙ is))
 module _ {V H : Type 0} (m : Abstraction V H) {shown : V → Invariant} {o : Options} {constants : List ℤ} {P : Program} {r : Report}
     (x : IsAnalysed m shown o constants P r) (none : x.last ≡ None) where
   pub unflagged_behind : x.behind ≡ None
-  unflagged_behind = none_before (dropping m) (OpInside m (dropping m)) (accessing_ops None x.tree) x.values x.behind x.inside x.last x.accessed none
+  unflagged_behind = none_before (lossy_operations m) (OpInside m (lossy_operations m)) (accessing_ops None x.tree) x.values x.behind x.inside x.last x.accessed
+      none
 
   pub unflagged_first : x.flagged ≡ None
-  unflagged_first = unflagged_before m (dropping m) o.fits x.tree x.values x.flagged x.fitting x.behind unflagged_behind x.judged
+  unflagged_first = unflagged_before m (lossy_operations m) o.fits x.tree x.values x.flagged x.fitting x.behind unflagged_behind x.judged
 
 -- two reports that tell the written iteration of one program show the same states, and the same of each assertion, of what
 -- fits and of each access
@@ -229,16 +231,17 @@ one_analysis {V} m laws shown o constants P r s a b e f =
     let tree : b.tree ≡ a.tree = one_tree P b.tree a.tree b.is_graph a.is_graph in
     let first_none = one_flag a.last r.flagged a.flag e in
     let second_none = one_flag b.last s.flagged b.flag f in
-    let first : Written m plan P a.tree a.result = a.written (unflagged_first m a first_none) in
-    let second : Written m plan P a.tree b.result = subst (λ (g : Node). Written m plan P g b.result) tree (b.written (unflagged_first m b second_none)) in
+    let first : ExactIteration m plan P a.tree a.result = a.written (unflagged_first m a first_none) in
+    let second : ExactIteration m plan P a.tree b.result =
+    subst (λ (g : Node). ExactIteration m plan P g b.result) tree (b.written (unflagged_first m b second_none)) in
     let one = one_solution m laws plan P a.tree a.result b.result a.values b.values a.verdicts b.verdicts a.flagged b.flagged (numbered P a.tree a.is_graph) first second a.solves b.solves in
     let fits : AgreeBy a.fitting b.fitting = judged_same m laws P a.tree a.values a.asks o.fits a.fitting b.fitting
     (a.judged_written (unflagged_behind m a first_none))
-    (subst (λ (vs : List V). JudgesIf m (defined m) o.fits a.tree vs None b.fitting None) (sym one.0)
-    (subst (λ (g : Node). JudgesIf m (defined m) o.fits g b.values None b.fitting None) tree (b.judged_written (unflagged_behind m b second_none)))) in
+    (subst (λ (vs : List V). JudgesIf m (exact_operations m) o.fits a.tree vs None b.fitting None) (sym one.0)
+    (subst (λ (g : Node). JudgesIf m (exact_operations m) o.fits g b.values None b.fitting None) tree (b.judged_written (unflagged_behind m b second_none)))) in
     let accesses : AgreeBy a.inside b.inside = accessed_same m laws P a.tree a.values a.accesses a.inside b.inside (a.accessed_written first_none)
-    (subst (λ (vs : List V). JudgesAccesses m (defined m) a.tree vs None b.inside None) (sym one.0)
-    (subst (λ (g : Node). JudgesAccesses m (defined m) g b.values None b.inside None) tree (b.accessed_written second_none))) in
+    (subst (λ (vs : List V). JudgesAccesses m (exact_operations m) a.tree vs None b.inside None) (sym one.0)
+    (subst (λ (g : Node). JudgesAccesses m (exact_operations m) g b.values None b.inside None) tree (b.accessed_written second_none))) in
     record {
       states = a.states ∙ ap (map shown) one.0 ∙ sym b.states;
       verdicts = λ k n i c d x y.

@@ -26,12 +26,12 @@ use Rattle.lra_report.specs.Listing.{Lists}
 use Rattle.lra_resolution_spec.specs.Refuse.{greatest_live, greatest_points, limit_fault}
 use Rattle.lra_domain.specs.Abstraction.{Abstraction}
 use Rattle.lra_domain.specs.Laws.{Laws}
-use Rattle.lra_flow.specs.Room.{most_live}
-use Rattle.lra_flow.specs.Plan.{Plan, plan_of}
-use Rattle.lra_outcomes.specs.Fits.{TreeFits}
-use Rattle.lra_iter.specs.Numbers.{IsNumbered}
-use Rattle.lra_iter.specs.Numbers as numbers
-use Rattle.lra_iter.specs.Solved.{IsSolved}
+use Rattle.lra_analysis_spec.specs.LiveLimit.{most_live}
+use Rattle.lra_analysis_spec.specs.Plan.{Plan, plan_of}
+use Rattle.lra_pass_results.specs.Dimensions.{TreeFits}
+use Rattle.lra_fixpoint.specs.Numbers.{IsNumbered}
+use Rattle.lra_fixpoint.specs.Numbers as numbers
+use Rattle.lra_fixpoint.specs.Solved.{IsSolved}
 use Rattle.lra_report_build.specs.AnalysisResults.{AreInvariants, AreVerdicts, AreFitting, AreAccessVerdicts, ReportedVerdict, state_of, reported_of}
 use Rattle.lra_report_build.specs.AnalysisResults.{reported_all}
 use Rattle.lra_report.specs.Spelled.{IsSpelledPart}
@@ -45,13 +45,13 @@ use Rattle.std.specs.Prelude.{All, get_or}
 use Rattle.std.proofs.lemmas.Option.{slice_get-get_or}
 use Rattle.lra_operations.specs.Agree.{IsInlinedTree}
 use Rattle.lra_operations.specs.CheckedOperations.{AgreesOnAccesses, accessing_ops, computing_ops, ops_where}
-use Rattle.lra_flow.specs.Operations.{defined, dropping, straining}
-use Rattle.lra_flow.specs.Fits.{OpFits, JudgesIf}
-use Rattle.lra_flow.specs.Accesses.{OpInside, JudgesAccesses}
-use Rattle.lra_flow.proofs.OneJudgement.{judged_written, judged_strained}
-use Rattle.lra_flow.proofs.OneAccess.{accesses_written, accesses_strained}
-use Rattle.lra_flow.proofs.OneTree.{one_tree}
-use Rattle.lra_fits.specs.Judged.{AreBelow}
+use Rattle.lra_analysis_spec.specs.Operations.{exact_operations, lossy_operations, straining_operations}
+use Rattle.lra_analysis_spec.specs.Fits.{OpFits, JudgesIf}
+use Rattle.lra_analysis_spec.specs.Accesses.{OpInside, JudgesAccesses}
+use Rattle.lra_analysis_spec.proofs.OneJudgement.{judged_written, judged_strained}
+use Rattle.lra_analysis_spec.proofs.OneAccess.{accesses_written, accesses_strained}
+use Rattle.lra_analysis_spec.proofs.OneTree.{one_tree}
+use Rattle.lra_overflow_checks.specs.Judged.{AreBelow}
 use Rattle.lra_inline_sound.proofs.CheckedOperations.{trees_agree_on_accesses, trees_agree_on_overflows}
 use Rattle.lra_inline_sound.proofs.DistinctSites.{distinct_sites}
 use Rattle.lra_source.proofs.Flags.{graph_below}
@@ -176,33 +176,35 @@ module _ {V H : Type 0} (m : Abstraction V H) (t : FileTree) (g : Node) (sites :
   accessed_handed = below_handed op_accesses_any
 
   -- what the listing asks of what is judged, by whichever tree: there is one
-  pub fitting_handed : (b : Bool) (fitting : List (ℕ × Bool)) (behind : Option ℕ) → JudgesIf m (dropping m) b g values flagged fitting behind
+  pub fitting_handed : (b : Bool) (fitting : List (ℕ × Bool)) (behind : Option ℕ) → JudgesIf m (lossy_operations m) b g values flagged fitting behind
       → (h : Node) → IsInlinedTree (resolve t) h → AreFitting b h sites fitting
   fitting_handed b fitting behind judged h also =
       subst (λ (k : Node). AreFitting b k sites fitting) (one_tree (resolve t) g h has.is_graph also) (go b judged)
     where
-      go : (c : Bool) → JudgesIf m (dropping m) c g values flagged fitting behind → AreFitting c g sites fitting
-      go true j = fitting_on m (dropping m) g values flagged fitting behind sites (values_as_many ∙ sym (ap length has.points)) j
+      go : (c : Bool) → JudgesIf m (lossy_operations m) c g values flagged fitting behind → AreFitting c g sites fitting
+      go true j = fitting_on m (lossy_operations m) g values flagged fitting behind sites (values_as_many ∙ sym (ap length has.points)) j
       go false none = none.0
 
-  pub behind_handed : (b : Bool) (fitting : List (ℕ × Bool)) (behind : Option ℕ) → JudgesIf m (dropping m) b g values flagged fitting behind
+  pub behind_handed : (b : Bool) (fitting : List (ℕ × Bool)) (behind : Option ℕ) → JudgesIf m (lossy_operations m) b g values flagged fitting behind
       → (q : ℕ) → behind ≡ Some q → q < length (sites_of (resolve t))
-  behind_handed true fitting behind j q is = flagged_below (dropping m) (OpFits m (dropping m)) (computing_ops None g) values flagged fitting behind j
+  behind_handed true fitting behind j q is =
+      flagged_below (lossy_operations m) (OpFits m (lossy_operations m)) (computing_ops None g) values flagged fitting behind j
       (length (sites_of (resolve t))) values_as_many flag_handed q is
   behind_handed false fitting behind none q is = flag_handed q (sym none.1 ∙ is)
 
-  pub inside_handed : (inside : List (ℕ × List (Place × Bool))) (behind last : Option ℕ) → JudgesAccesses m (dropping m) g values behind inside last
+  pub inside_handed : (inside : List (ℕ × List (Place × Bool))) (behind last : Option ℕ) → JudgesAccesses m (lossy_operations m) g values behind inside last
       → (h : Node) → IsInlinedTree (resolve t) h → AreAccessVerdicts h sites inside
   inside_handed inside behind last j h also =
       subst (λ (k : Node). AreAccessVerdicts k sites inside) (one_tree (resolve t) g h has.is_graph also)
-      (inside_on m (dropping m) g values behind inside last (accesses_well t g sites has 0).once sites (values_as_many ∙ sym (ap length has.points))
+      (inside_on m (lossy_operations m) g values behind inside last (accesses_well t g sites has 0).once sites (values_as_many ∙ sym (ap length has.points))
       (subst (λ (T : List Site). numbers.AreBelow (length T) g) (sym has.points) (graph_below (resolve t) g has.is_graph)) j)
 
   pub last_handed : (b : Bool) (fitting : List (ℕ × Bool)) (inside : List (ℕ × List (Place × Bool))) (behind last : Option ℕ)
-      → JudgesIf m (dropping m) b g values flagged fitting behind → JudgesAccesses m (dropping m) g values behind inside last
+      → JudgesIf m (lossy_operations m) b g values flagged fitting behind → JudgesAccesses m (lossy_operations m) g values behind inside last
       → (q : ℕ) → last ≡ Some q → q < length (sites_of (resolve t))
   last_handed b fitting inside behind last judged j q is =
-      flagged_below (dropping m) (OpInside m (dropping m)) (accessing_ops None g) values behind inside last j (length (sites_of (resolve t))) values_as_many
+      flagged_below (lossy_operations m) (OpInside m (lossy_operations m)) (accessing_ops None g) values behind inside last j (length (sites_of (resolve t)))
+      values_as_many
       (behind_handed b fitting behind judged) q is
 
 -- the report ---------------------------------------------------------------------------------------------------------
@@ -211,8 +213,8 @@ pub is_told : {V H : Type 0} (m : Abstraction V H) (shown : V → Invariant) (o 
     (values : List V) (verdicts : List (ℕ × Bool)) (flagged : Option ℕ) (fitting : List (ℕ × Bool)) (behind : Option ℕ)
     (inside : List (ℕ × List (Place × Bool))) (last : Option ℕ) (states : List Invariant) (r : Report)
     → HasInlinedTree t g sites → IsSolved m (plan_of o constants) (resolve t) g values verdicts flagged →
-    JudgesIf m (dropping m) o.fits g values flagged fitting
-    behind → JudgesAccesses m (dropping m) g values behind inside last → states ≡ map shown values → AreShown m o.domain shown values
+    JudgesIf m (lossy_operations m) o.fits g values flagged fitting
+    behind → JudgesAccesses m (lossy_operations m) g values behind inside last → states ≡ map shown values → AreShown m o.domain shown values
     → AllByRecursion (AllByRecursion IsSpelledPart) states → Laws m → AreCanonicallyShown o.domain m.dims shown values → r.options ≡ o → Lists t r → map state_of r.points ≡ states
     → map reported_of r.verdicts ≡ reported_all verdicts fitting inside → r.flagged ≡ option_map suc last → IsToldOf m shown o constants t r
 is_told m shown o constants t g sites values verdicts flagged fitting behind inside last states r has solved judging accessing are are_shown spelled laws
@@ -243,16 +245,16 @@ is_told m shown o constants t g sites values verdicts flagged fitting behind ins
         judged = judging;
         judged_written = λ none. written_if none;
         judged_strained = λ q none some.
-            subst (λ (f : Option ℕ). JudgesIf m (straining m) o.fits g values f fitting (Some q)) none
-            (subst (λ (f : Option ℕ). JudgesIf m (straining m) o.fits g values flagged fitting f) some
+            subst (λ (f : Option ℕ). JudgesIf m (straining_operations m) o.fits g values f fitting (Some q)) none
+            (subst (λ (f : Option ℕ). JudgesIf m (straining_operations m) o.fits g values flagged fitting f) some
             (judged_strained m laws o.fits g values flagged fitting behind judging));
         inside = inside;
         last = last;
         accessed = accessing;
         accessed_written = λ none. accessed_if none;
         accessed_strained = λ q none some.
-            subst (λ (f : Option ℕ). JudgesAccesses m (straining m) g values f inside (Some q)) none
-            (subst (λ (f : Option ℕ). JudgesAccesses m (straining m) g values behind inside f) some
+            subst (λ (f : Option ℕ). JudgesAccesses m (straining_operations m) g values f inside (Some q)) none
+            (subst (λ (f : Option ℕ). JudgesAccesses m (straining_operations m) g values behind inside f) some
             (accesses_strained m laws g values behind inside last accessing));
         proved = judged;
         flag = flag;
@@ -264,19 +266,20 @@ is_told m shown o constants t g sites values verdicts flagged fitting behind ins
       readable = readable t r last lists (subst (AllByRecursion (AllByRecursion IsSpelledPart)) (sym same) spelled) flag low;
     }
   where
-    written_if : behind ≡ None → JudgesIf m (defined m) o.fits g values None fitting None
+    written_if : behind ≡ None → JudgesIf m (exact_operations m) o.fits g values None fitting None
     written_if none =
         let judged_so = judged_written m laws o.fits g values flagged fitting behind none judging in
-        let first : flagged ≡ None = unflagged_before m (dropping m) o.fits g values flagged fitting behind none judging in
-        subst (λ (f : Option ℕ). JudgesIf m (defined m) o.fits g values None fitting f) none
-        (subst (λ (f : Option ℕ). JudgesIf m (defined m) o.fits g values f fitting behind) first judged_so)
+        let first : flagged ≡ None = unflagged_before m (lossy_operations m) o.fits g values flagged fitting behind none judging in
+        subst (λ (f : Option ℕ). JudgesIf m (exact_operations m) o.fits g values None fitting f) none
+        (subst (λ (f : Option ℕ). JudgesIf m (exact_operations m) o.fits g values f fitting behind) first judged_so)
 
-    accessed_if : last ≡ None → JudgesAccesses m (defined m) g values None inside None
+    accessed_if : last ≡ None → JudgesAccesses m (exact_operations m) g values None inside None
     accessed_if none =
         let accessed_so = accesses_written m laws g values behind inside last none accessing in
-        let first : behind ≡ None = none_before (dropping m) (OpInside m (dropping m)) (accessing_ops None g) values behind inside last accessing none in
-        subst (λ (f : Option ℕ). JudgesAccesses m (defined m) g values None inside f) none
-        (subst (λ (f : Option ℕ). JudgesAccesses m (defined m) g values f inside last) first accessed_so)
+        let first : behind ≡ None =
+        none_before (lossy_operations m) (OpInside m (lossy_operations m)) (accessing_ops None g) values behind inside last accessing none in
+        subst (λ (f : Option ℕ). JudgesAccesses m (exact_operations m) g values None inside f) none
+        (subst (λ (f : Option ℕ). JudgesAccesses m (exact_operations m) g values f inside last) first accessed_so)
 
     low : (q : ℕ) → last ≡ Some q → q < 2048
     low q is =
@@ -295,11 +298,11 @@ told_so told vs us fs gs ones others is one two three =
 -- it shows these values and tells these verdicts
 pub tells_solution : {V H : Type 0} (m : Abstraction V H) (shown : V → Invariant) (asked : Bool) (g : Node) (values : List V) (verdicts : List (ℕ × Bool))
     (flagged : Option ℕ) (fitting : List (ℕ × Bool)) (behind : Option ℕ) (inside : List (ℕ × List (Place × Bool))) (states : List Invariant) (r : Report)
-    → JudgesIf m (dropping m) asked g values flagged fitting behind → states ≡ map shown values → map state_of r.points ≡ states
+    → JudgesIf m (lossy_operations m) asked g values flagged fitting behind → states ≡ map shown values → map state_of r.points ≡ states
     → map reported_of r.verdicts ≡ reported_all verdicts fitting inside → TellsSolution shown asked values verdicts r
 tells_solution m shown asked g values verdicts flagged fitting behind inside states r judged are same told =
     record { states = same ∙ are; fitting = fitting; inside = inside; told = told; silent = λ off. none asked off judged }
   where
-    none : (b : Bool) → b ≡ false → JudgesIf m (dropping m) b g values flagged fitting behind → fitting ≡ []
+    none : (b : Bool) → b ≡ false → JudgesIf m (lossy_operations m) b g values flagged fitting behind → fitting ≡ []
     none true off j = absurd (let no : true ≡ false = off in cc)
     none false off j = j.0

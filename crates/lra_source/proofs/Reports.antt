@@ -29,17 +29,17 @@ use Rattle.lra_report.specs.Listing.{AreListed, Subject, subject, subjects_of, f
 use Rattle.lra_report.specs.Listing.{Lists, IsFlag, AreParts, IsReportOf}
 use Rattle.lra_program.specs.Assertions.{assertions_from}
 use Rattle.lra_resolution_spec.specs.LiveNames.{globals_named}
-use Rattle.lra_flow.specs.Plan.{plan_of}
-use Rattle.lra_flow.specs.Operations.{dropping}
-use Rattle.lra_flow.specs.Fits.{OpFits, JudgesIf}
-use Rattle.lra_flow.specs.Accesses.{OpInside}
+use Rattle.lra_analysis_spec.specs.Plan.{plan_of}
+use Rattle.lra_analysis_spec.specs.Operations.{lossy_operations}
+use Rattle.lra_analysis_spec.specs.Fits.{OpFits, JudgesIf}
+use Rattle.lra_analysis_spec.specs.Accesses.{OpInside}
 use Rattle.lra_domain.specs.Abstraction.{Abstraction}
 use Rattle.lra_domain.specs.Laws.{Laws}
-use Rattle.lra_flow.proofs.Caps.{solved_capped}
+use Rattle.lra_analysis_spec.proofs.Caps.{solved_capped}
 use Rattle.lra_report_build.specs.AnalysisResults.{ReportedVerdict, reported_verdict, reported_accesses, reported_all, reported_of}
 use Rattle.lra_source.specs.Analysed.{IsAnalysed}
 use Rattle.lra_source.proofs.Numbering.{numbered}
-use Rattle.lra_iter.proofs.Counting.{iteration_fails_once}
+use Rattle.lra_fixpoint.proofs.Counting.{iteration_fails_once}
 use Rattle.lra_source.proofs.Flags.{IsBelow, graph_below, iteration_below}
 use Rattle.lra_resolution_sound.proofs.Named.{shown_as_many}
 use Rattle.lra_source.proofs.Handing.{as_many, contained, one_access, one_told, value_dims}
@@ -100,7 +100,8 @@ module _ {V H : Type 0} (m : Abstraction V H) (laws : Laws m) (shown : V → Inv
       (point_of s) → ⊥
   asserted q s so site found holds fails =
       proved_holds V H m laws (plan_of settings constants) (resolve t) x.globals x.tree x.result x.derived agrees x.values x.verdicts x.flagged x.solves
-      (iteration_fails_once (dropping m) (plan_of settings constants) (resolve t) x.tree x.result (numbered (resolve t) x.tree x.is_graph) x.derived) q s so
+      (iteration_fails_once (lossy_operations m) (plan_of settings constants) (resolve t) x.tree x.result (numbered (resolve t) x.tree x.is_graph) x.derived) q
+      s so
       site found holds fails
 
   -- on what is computed
@@ -108,7 +109,7 @@ module _ {V H : Type 0} (m : Abstraction V H) (laws : Laws m) (shown : V → Inv
       (point_of s) → ⊥
   fitting q s so site found holds over = by settings.fits x.judged
     where
-      by : (b : Bool) → JudgesIf m (dropping m) b x.tree x.values x.flagged x.fitting x.behind → ⊥
+      by : (b : Bool) → JudgesIf m (lossy_operations m) b x.tree x.values x.flagged x.fitting x.behind → ⊥
       by true judges =
           fitting_holds V H m laws (plan_of settings constants) (resolve t) x.globals x.tree x.result x.derived agrees x.values x.verdicts x.flagged x.solves
           x.asks
@@ -221,20 +222,22 @@ module _ {V H : Type 0} (m : Abstraction V H) (laws : Laws m) (shown : V → Inv
   behind_there : (n : ℕ) → n ≡ length (sites_of (resolve t)) → IsBelow n x.flagged → IsBelow n x.behind
   behind_there n is below = by settings.fits x.judged
     where
-      by : (b : Bool) → JudgesIf m (dropping m) b x.tree x.values x.flagged x.fitting x.behind → IsBelow n x.behind
+      by : (b : Bool) → JudgesIf m (lossy_operations m) b x.tree x.values x.flagged x.fitting x.behind → IsBelow n x.behind
       by true judges = option_below n x.behind
-          (flagged_below (dropping m) (OpFits m (dropping m)) (computing_ops None x.tree) x.values x.flagged x.fitting x.behind
+          (flagged_below (lossy_operations m) (OpFits m (lossy_operations m)) (computing_ops None x.tree) x.values x.flagged x.fitting x.behind
           judges n (many_there n is) (below_option n x.flagged below))
       by false none = subst (IsBelow n) (sym none.1) below
 
   last_there : (n : ℕ) → n ≡ length (sites_of (resolve t)) → IsBelow n x.behind → IsBelow n x.last
-  last_there n is below = option_below n x.last (flagged_below (dropping m) (OpInside m (dropping m)) (accessing_ops None x.tree) x.values x.behind x.inside
+  last_there n is below =
+      option_below n x.last (flagged_below (lossy_operations m) (OpInside m (lossy_operations m)) (accessing_ops None x.tree) x.values x.behind x.inside
       x.last x.accessed n (many_there n is) (below_option n x.behind below))
 
   flag_there : IsFlag (length r.points) r.flagged
   flag_there =
       let low : 0 < length (sites_of (resolve t)) = omega (arith, x.is_graph.all) in
-      let below = iteration_below V H (dropping m) (length (sites_of (resolve t))) (plan_of settings constants) (resolve t) x.tree x.result low (graph_below (resolve t) x.tree x.is_graph) x.derived in
+      let below = iteration_below V H (lossy_operations m) (length (sites_of (resolve t))) (plan_of settings constants) (resolve t) x.tree x.result low (graph_below (resolve t) x.tree x.is_graph)
+      x.derived in
       let long : length r.points ≡ length (sites_of (resolve t)) = listed_length (globals_named t.parts) (labels_of t) 1 (sites_of (resolve t)) r.points lists.points in
       let there : IsBelow (length r.points) x.flagged = subst (λ (n : ℕ). IsBelow n x.flagged) (sym long)
       (subst (λ (o : Option ℕ). IsBelow (length (sites_of (resolve t))) o) (sym x.solves.is_flagged) below) in

@@ -17,21 +17,21 @@ use Rattle.lra_resolution_spec.specs.ShownNames.{shown_names}
 use Rattle.lra_resolution_spec.specs.LiveNames.{live_names}
 use Rattle.lra_report.specs.Listing.{Subject, access_subjects, accesses_from, computing_from, AreListed, AreJudged}
 use Rattle.lra_program.specs.Assertions.{assertions_from}
-use Rattle.lra_flow.specs.Plan.{Plan}
-use Rattle.lra_flow.specs.Pass.{failing, Result}
-use Rattle.lra_flow.specs.Analysis.{Derivation, Solves, IsUnreachable}
-use Rattle.lra_flow.proofs.Covers.{Covers, Has}
-use Rattle.lra_iter.proofs.Covering.{begun_covers}
+use Rattle.lra_analysis_spec.specs.Plan.{Plan}
+use Rattle.lra_analysis_spec.specs.Pass.{failing, PassResult}
+use Rattle.lra_analysis_spec.specs.Analysis.{LossyIteration, IsSolution, IsUnreachable}
+use Rattle.lra_analysis_spec.proofs.Covers.{Covers, Has}
+use Rattle.lra_fixpoint.proofs.Covering.{begun_covers}
 
 -- runs -----------------------------------------------------------------------------------------------------------------
 
 module _ (V H : Type 0) (m : Abstraction V H) where
-  module _ (laws : Laws m) (set : Plan) (P : Program) (good : AreGoodGlobals P.globals) (g : Node) (r : Result V) where
+  module _ (laws : Laws m) (set : Plan) (P : Program) (good : AreGoodGlobals P.globals) (g : Node) (r : PassResult V) where
     -- from the globals on, whatever is drawn, the iteration has the stores of the tree's runs
-    pub derivation_covers : Derivation m set P g r → (draws : List ℤ) → Covers m g (begun P draws) r
+    pub derivation_covers : LossyIteration m set P g r → (draws : List ℤ) → Covers m g (begun P draws) r
     derivation_covers (none, first, e, universal, values, pass) draws = begun_covers m laws set P good g none first e r universal values pass draws
 
-    module _ (derived : Derivation m set P g r) (agrees : Agrees P g) (values : List V) (verdicts : List (ℕ × Bool)) (flagged : Option ℕ) (solves : Solves m r values verdicts flagged) where
+    module _ (derived : LossyIteration m set P g r) (agrees : Agrees P g) (values : List V) (verdicts : List (ℕ × Bool)) (flagged : Option ℕ) (solves : IsSolution m r values verdicts flagged) where
       -- where a run comes to a point, the value there has its store
       pub held_there : (q : ℕ) (s : Site) (store : List ℤ) → slice_get (sites_of P) q ≡ Some s → At P (point_of s) store
           → (v : V) × (slice_get values q ≡ Some v) × Has m v store × (length store ≡ m.dims v)

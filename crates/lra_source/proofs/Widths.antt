@@ -17,8 +17,8 @@ use Rattle.lra_operations.specs.Inlined.{as_break, InlineCases, as_switch, as_no
 use Rattle.lra_operations.specs.Inlined.{as_continue, as_return, as_return_value, as_return_call, as_end, as_end_value, as_end_call, as_assert, as_assume, as_none, as_declaration, as_statement}
 use Rattle.lra_operations.specs.Inlined.{as_fresh, as_given, is_loop, as_value, as_result, is_call, InlineCall, as_array, as_write, as_write_call, loop_node, return_node, main_inline_state}
 use Rattle.lra_operations.specs.Agree.{IsInlinedTree}
-use Rattle.lra_flow.specs.Live.{dims_behind, live_after}
-use Rattle.lra_iter.specs.Lives.{ArmsHave, LiveAt, PointsHave}
+use Rattle.lra_analysis_spec.specs.Live.{live_after_op, live_after}
+use Rattle.lra_fixpoint.specs.Lives.{ArmsHave, LiveAt, PointsHave}
 
 -- trees --------------------------------------------------------------------------------------------------------------
 
@@ -42,7 +42,7 @@ module _ (T : List Site) where
   at_point : {n : ℕ} (q : ℕ) → LiveAt T q n → Lives T n n (point q)
   at_point q h = record { points = h; behind = refl }
 
-  acts : {n n' : ℕ} (q : ℕ) (op : Op) → dims_behind op n ≡ n' → Lives T n n' (act q op)
+  acts : {n n' : ℕ} (q : ℕ) (op : Op) → live_after_op op n ≡ n' → Lives T n n' (act q op)
   acts q op is = record { points = tt; behind = is }
 
   keeps : {n : ℕ} (q m : ℕ) → m ≤ n → Lives T n m (act q (truncate_to m))
@@ -51,7 +51,7 @@ module _ (T : List Site) where
   leaves : {m : ℕ} (n : ℕ) (k : Exit) → Lives T m n (leave n k)
   leaves n k = record { points = tt; behind = refl }
 
-  returns : {n : ℕ} (q : ℕ) (op : Op) (m : ℕ) → m ≤ n → dims_behind op n ≡ n → Lives T n n (return_node q op m n)
+  returns : {n : ℕ} (q : ℕ) (op : Op) (m : ℕ) → m ≤ n → live_after_op op n ≡ n → Lives T n n (return_node q op m n)
   returns {n = n} q op m low is = then_lives _ _ (acts q op is) (then_lives _ _ (keeps q m low) (leaves n returned))
 
   loops : {n : ℕ} (q base : ℕ) (c : Cond) (g h : Node) → LiveAt T q n → Lives T n n g → Lives T n n h → Lives T n n (loop_node q base c g h)
@@ -129,7 +129,7 @@ module _ (T : List Site) where
 
       lives_calls : {spot : InlineState} {r : ℕ} {x : Receiver} {gives : List Argument → Op} {c : Call} {g : Node} {q : ℕ} →
           InlineCall P T spot r x gives c g q →
-          ((es : List Argument) (n : ℕ) → dims_behind (gives es) n ≡ n + length es) → Lives T spot.live spot.live g
+          ((es : List Argument) (n : ℕ) → live_after_op (gives es) n ≡ n + length es) → Lives T spot.live spot.live g
       lives_calls (is_call {s = spot} {x = x} {gives = gives} {c = c} {fn = fn} {g = g} {n = n'} {q = r'} i j d k) adds =
           let y = result_receiver fn.result_type x in
           let given = arguments_for fn.parameters c.arguments in

@@ -10,12 +10,12 @@ use Rattle.lra_operations.specs.Agree.{IsInlinedTree}
 use Rattle.lra_operations.specs.CheckedOperations.{AgreesOnOverflows, AgreesOnAccesses}
 use Rattle.lra_report.specs.Report.{Invariant, PointReport, Report}
 use Rattle.lra_options.specs.declared.options.Options.{Options}
-use Rattle.lra_flow.specs.Plan.{plan_of}
-use Rattle.lra_flow.specs.Pass.{Result}
-use Rattle.lra_flow.specs.Analysis.{Written, Derivation, Strains, Solves}
-use Rattle.lra_flow.specs.Operations.{defined, dropping, straining}
-use Rattle.lra_flow.specs.Fits.{JudgesIf}
-use Rattle.lra_flow.specs.Accesses.{JudgesAccesses}
+use Rattle.lra_analysis_spec.specs.Plan.{plan_of}
+use Rattle.lra_analysis_spec.specs.Pass.{PassResult}
+use Rattle.lra_analysis_spec.specs.Analysis.{ExactIteration, LossyIteration, StrainsAtPoint, IsSolution}
+use Rattle.lra_analysis_spec.specs.Operations.{exact_operations, lossy_operations, straining_operations}
+use Rattle.lra_analysis_spec.specs.Fits.{JudgesIf}
+use Rattle.lra_analysis_spec.specs.Accesses.{JudgesAccesses}
 use Rattle.lra_report_build.specs.AnalysisResults.{reported_all, reported_of}
 use Rattle.lra_report_states.specs.Shown.{AreShown}
 
@@ -30,17 +30,17 @@ pub record IsAnalysed {V H : Type 0} (m : Abstraction V H) (shown : V → Invari
   pub asks : AgreesOnOverflows P tree
   -- and where an access can be outside its array
   pub accesses : AgreesOnAccesses P tree
-  pub result : Result V
+  pub result : PassResult V
   pub values : List V
   -- a verdict is unknown exactly where something is left of the value at which the assertion's condition is false
   pub verdicts : List (ℕ × Bool)
   pub flagged : Option ℕ
-  pub solves : Solves m result values verdicts flagged
+  pub solves : IsSolution m result values verdicts flagged
   -- a derivation with drops; without a flag the written iteration; the first flag is where the written iteration
   -- strains
-  pub derived : Derivation m (plan_of settings constants) P tree result
-  pub written : flagged ≡ None → Written m (plan_of settings constants) P tree result
-  pub strained : (q : ℕ) → flagged ≡ Some q → Strains m (plan_of settings constants) P tree q
+  pub derived : LossyIteration m (plan_of settings constants) P tree result
+  pub written : flagged ≡ None → ExactIteration m (plan_of settings constants) P tree result
+  pub strained : (q : ℕ) → flagged ≡ Some q → StrainsAtPoint m (plan_of settings constants) P tree q
   -- each value is shown as it is: the rows of its state mean it
   pub are_shown : AreShown m settings.domain shown values
   -- and the report tells it
@@ -49,17 +49,17 @@ pub record IsAnalysed {V H : Type 0} (m : Abstraction V H) (shown : V → Invari
   -- leaves; a first flag there is where what it leaves strains
   pub fitting : List (ℕ × Bool)
   pub behind : Option ℕ
-  pub judged : JudgesIf m (dropping m) settings.fits tree values flagged fitting behind
-  pub judged_written : behind ≡ None → JudgesIf m (defined m) settings.fits tree values None fitting None
+  pub judged : JudgesIf m (lossy_operations m) settings.fits tree values flagged fitting behind
+  pub judged_written : behind ≡ None → JudgesIf m (exact_operations m) settings.fits tree values None fitting None
   pub judged_strained : (q : ℕ) → flagged ≡ None → behind ≡ Some q →
-      JudgesIf m (straining m) settings.fits tree values None fitting (Some q)
+      JudgesIf m (straining_operations m) settings.fits tree values None fitting (Some q)
   -- which accesses lie inside their arrays, and the first flag behind all that; so, too, by what the written iteration
   -- leaves
   pub inside : List (ℕ × List (Place × Bool))
   pub last : Option ℕ
-  pub accessed : JudgesAccesses m (dropping m) tree values behind inside last
-  pub accessed_written : last ≡ None → JudgesAccesses m (defined m) tree values None inside None
+  pub accessed : JudgesAccesses m (lossy_operations m) tree values behind inside last
+  pub accessed_written : last ≡ None → JudgesAccesses m (exact_operations m) tree values None inside None
   pub accessed_strained : (q : ℕ) → behind ≡ None → last ≡ Some q →
-      JudgesAccesses m (straining m) tree values None inside (Some q)
+      JudgesAccesses m (straining_operations m) tree values None inside (Some q)
   pub proved : map reported_of r.verdicts ≡ reported_all verdicts fitting inside
   pub flag : r.flagged ≡ option_map suc last

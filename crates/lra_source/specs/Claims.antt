@@ -13,8 +13,8 @@ use Rattle.lra_program.specs.WellFormed.{IsWellFormed}
 use Rattle.lra_syntax.specs.Grammar.{Spells}
 use Rattle.lra_resolution_spec.specs.Refuse.{Accepts}
 use Rattle.lra_report.specs.Listing.{Lists, IsReportOf}
-use Rattle.lra_outcomes.specs.Fits.{TreeFits}
-use Rattle.lra_iter.specs.Numbers.{AreBelow, IsNumbered}
+use Rattle.lra_pass_results.specs.Dimensions.{TreeFits}
+use Rattle.lra_fixpoint.specs.Numbers.{AreBelow, IsNumbered}
 use Rattle.lra_domain.specs.Abstraction.{Abstraction}
 use Rattle.lra_front_end.specs.Claims.{AreFew}
 use Rattle.lra_source.specs.Analysed.{IsAnalysed}

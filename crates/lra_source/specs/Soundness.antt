@@ -9,15 +9,15 @@ use Rattle.lra_operations.specs.Tree.{Node}
 use Rattle.lra_program.specs.Run.{At, Fails}
 use Rattle.lra_program.specs.Sites.{Site, sites_of}
 use Rattle.lra_operations.specs.Agree.{IsInlinedTree, point_of, Agrees}
-use Rattle.lra_flow.specs.Plan.{Plan}
-use Rattle.lra_flow.specs.Analysis.{IsUnreachable}
-use Rattle.lra_flow.specs.Operations.{dropping}
-use Rattle.lra_flow.specs.Fits.{Judges}
-use Rattle.lra_flow.specs.Accesses.{JudgesAccesses}
+use Rattle.lra_analysis_spec.specs.Plan.{Plan}
+use Rattle.lra_analysis_spec.specs.Analysis.{IsUnreachable}
+use Rattle.lra_analysis_spec.specs.Operations.{lossy_operations}
+use Rattle.lra_analysis_spec.specs.Fits.{Judges}
+use Rattle.lra_analysis_spec.specs.Accesses.{JudgesAccesses}
 use Rattle.lra_operations.specs.CheckedOperations.{AgreesOnOverflows, AgreesOnAccesses}
 use Rattle.lra_program.specs.Accesses.{AccessesOutOfBounds}
 use Rattle.lra_program.specs.Overflow.{Overflows}
-use Rattle.lra_iter.specs.Solved.{IsSolved}
+use Rattle.lra_fixpoint.specs.Solved.{IsSolved}
 
 -- the value at a point has each store that a run brings there, no assertion that is proved fails, and no run comes
 -- where the value has no part
@@ -44,7 +44,7 @@ FittingIsSound {V} m =
     (plan : Plan) (P : Program) (tree : Node) (values : List V) (verdicts fitting : List (ℕ × Bool))
     (flagged behind : Option ℕ) → IsSolved m plan P tree values verdicts flagged → AreGoodGlobals P.globals
     → IsInlinedTree P tree → Agrees P tree → AgreesOnOverflows P tree
-    → Judges m (dropping m) tree values flagged fitting behind
+    → Judges m (lossy_operations m) tree values flagged fitting behind
     → (q : ℕ) (s : Site) → slice_get (sites_of P) q ≡ Some s → Contains fitting (q, true) → Overflows P (point_of s)
     → ⊥
 
@@ -55,6 +55,6 @@ AccessesAreSound {V} m =
     (inside : List (ℕ × List (Place × Bool))) (flagged behind last : Option ℕ)
     → IsSolved m plan P tree values verdicts flagged → AreGoodGlobals P.globals
     → IsInlinedTree P tree → Agrees P tree → AgreesOnAccesses P tree
-    → JudgesAccesses m (dropping m) tree values behind inside last
+    → JudgesAccesses m (lossy_operations m) tree values behind inside last
     → (q : ℕ) (s : Site) (js : List (Place × Bool)) (n : ℕ) (place : Place) → slice_get (sites_of P) q ≡ Some s
     → Contains inside (q, js) → slice_get js n ≡ Some (place, true) → AccessesOutOfBounds P (point_of s) n → ⊥

@@ -1,7 +1,7 @@
 //! Laws: each of these does nothing, and its contract is the theorem.
 
-ghost use Rattle.lra_flow.specs.Linear.{FormsAreRight, TestsAreRight, DiffersIsRight};
-ghost use Rattle.lra_flow.specs.Seen.{SeenIsRight};
+ghost use Rattle.lra_analysis_spec.specs.Linear.{FormsAreRight, TestsAreRight, DiffersIsRight};
+ghost use Rattle.lra_analysis_spec.specs.Linearization.{LinearizationIsRight};
 ghost use Rattle.lra_source.specs.Soundness.{SolvedAreSound, FittingIsSound, AccessesAreSound};
 ghost use Rattle.lra_source.specs.Claims.{OneAnsweredText, TreesFit, TreesAreNumbered, AnalysedAreSound};
 ghost use Rattle.lra_source.specs.Claims.{AnalysedAreReports, OneUnflaggedReport};
@@ -57,7 +57,7 @@ pub fn accesses_are_sound<D: Domain>()
 /// quotient and what it leaves; tests pass exactly where their comparisons are true.
 pub fn forms_are_right()
     ensures forms { FormsAreRight }
-    ensures seen { SeenIsRight }
+    ensures seen { LinearizationIsRight }
     ensures tests { TestsAreRight }
     ensures differs { DiffersIsRight }
 {}

@@ -7,25 +7,25 @@ ghost use Rattle.lra_resolution_spec.specs.Resolve.{resolve};
 ghost use Rattle.lra_program.specs.ProgramViews.{program_view};
 ghost use Rattle.lra_operations.specs.TreeViews.{node_view, site_view};
 ghost use Rattle.lra_operations.specs.CheckedOperations.{accessing_ops, computing_ops};
-ghost use Rattle.lra_flow.specs.Room.{most_live};
-ghost use Rattle.lra_flow.specs.Plan.{plan_of};
-ghost use Rattle.lra_flow.specs.Operations.{dropping};
-ghost use Rattle.lra_flow.specs.Fits.{JudgesIf};
-ghost use Rattle.lra_flow.specs.Accesses.{JudgesAccesses};
-ghost use Rattle.lra_fits.specs.Judged.{AreBelow};
-ghost use Rattle.lra_iter.specs.Solved.{IsSolved};
+ghost use Rattle.lra_analysis_spec.specs.LiveLimit.{most_live};
+ghost use Rattle.lra_analysis_spec.specs.Plan.{plan_of};
+ghost use Rattle.lra_analysis_spec.specs.Operations.{lossy_operations};
+ghost use Rattle.lra_analysis_spec.specs.Fits.{JudgesIf};
+ghost use Rattle.lra_analysis_spec.specs.Accesses.{JudgesAccesses};
+ghost use Rattle.lra_overflow_checks.specs.Judged.{AreBelow};
+ghost use Rattle.lra_fixpoint.specs.Solved.{IsSolved};
 ghost use Rattle.lra_report_build.specs.Views.{reported_view};
 ghost use Rattle.lra_report.specs.View.{report_of};
 ghost use Rattle.lra_front_end.specs.Stages.{HasInlinedTree};
 ghost use Rattle.lra_source.specs.Stages.{IsToldOf, TellsSolution};
 
+use lra_bounds_checks::{BoundsVerdicts, judge_accesses};
 use lra_domain::Domain as AbstractDomain;
-use lra_fits::{Fitting, judge};
+use lra_fixpoint::{Plan, Solution, analyse};
 use lra_front_end::AcceptedSource;
-use lra_inside::{Inside, judge_accesses};
-use lra_iter::{Plan, Solution, analyse};
 use lra_operations::Node;
 use lra_options::Options;
+use lra_overflow_checks::{OverflowVerdicts, judge};
 use lra_report::Report;
 use lra_report_build::{Findings, Outline, list};
 use lra_report_states::{Show, states_of};
@@ -38,17 +38,17 @@ fn judge_if<D: AbstractDomain>(
     tree: &Node,
     values: &[D],
     flagged: Option<usize>,
-) -> Result<Fitting, AllocError>
+) -> Result<OverflowVerdicts, AllocError>
     requires few { All (λ v. D.abstraction.dims v < most_live) values.now }
     requires below { AreBelow (length values.now) (computing_ops None (node_view tree.now)) }
     ensures { IfOk result
-        (λ f. JudgesIf D.abstraction (dropping D.abstraction) asked (node_view tree.now)
+        (λ f. JudgesIf D.abstraction (lossy_operations D.abstraction) asked (node_view tree.now)
         values.now flagged f.verdicts.items f.flagged) }
 {
     if asked {
         judge(alloc, tree, values, flagged)
     } else {
-        Ok(Fitting {
+        Ok(OverflowVerdicts {
             verdicts: Vec::new(alloc),
             flagged,
         })
@@ -58,8 +58,8 @@ fn judge_if<D: AbstractDomain>(
 /// What is judged of a tree's operations, beside its assertions.
 #[derive(Drop)]
 struct Judged {
-    fitting: Fitting,
-    inside: Inside,
+    fitting: OverflowVerdicts,
+    inside: BoundsVerdicts,
 }
 
 /// Which operations of a tree fit, where it is asked for, and which accesses lie inside their arrays, by the values
@@ -75,10 +75,11 @@ fn judge_solution<D: AbstractDomain>(
         (computing_ops None (node_view tree.now)) }
     requires accessing { AreBelow (length solution.now.values.items)
         (accessing_ops None (node_view tree.now)) }
-    ensures fits { IfOk result (λ j. JudgesIf D.abstraction (dropping D.abstraction) asked
+    ensures fits { IfOk result (λ j. JudgesIf D.abstraction (lossy_operations D.abstraction) asked
         (node_view tree.now) solution.now.values.items solution.now.flagged
         j.fitting.verdicts.items j.fitting.flagged) }
-    ensures accesses { IfOk result (λ j. JudgesAccesses D.abstraction (dropping D.abstraction)
+    ensures accesses { IfOk result
+        (λ j. JudgesAccesses D.abstraction (lossy_operations D.abstraction)
         (node_view tree.now) solution.now.values.items j.fitting.flagged
         (map reported_view j.inside.verdicts.items) j.inside.flagged) }
 {

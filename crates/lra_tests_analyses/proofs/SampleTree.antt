@@ -11,9 +11,9 @@ use Rattle.lra_operations.specs.Tree.{Node, point, act, check, seq, choose}
 use Rattle.lra_program.specs.Sites.{Site}
 use Rattle.lra_operations.specs.declared.tree.Site as coded
 use Rattle.lra_operations.specs.TreeViews.{site_view}
-use Rattle.lra_iter.specs.Numbers.{one_if, values_in, checks_in, asserts_of, IsNumbered}
+use Rattle.lra_fixpoint.specs.Numbers.{one_if, values_in, checks_in, asserts_of, IsNumbered}
 use Rattle.lra_tests_analyses.specs.Sample.{sample_asserts}
-use Rattle.lra_iter.proofs.Counting.{one_other}
+use Rattle.lra_fixpoint.proofs.Counting.{one_other}
 
 abbrev pub sample_tree : NumberType → Expr → Cond → Cond → Cond → Node
 sample_tree t e c d f =

@@ -10,14 +10,14 @@ use Rattle.lra_operations.specs.TreeViews.{site_view}
 use Rattle.lra_operations.specs.CheckedOperations.{OpAtPoint, accessing_ops, computing_ops}
 use Rattle.lra_program.specs.Sites.{Site}
 use Rattle.lra_program.specs.Step.{Op}
-use Rattle.lra_change.specs.Changes.{OpFits}
-use Rattle.lra_flow.specs.Live.{dims_behind}
-use Rattle.lra_flow.specs.Room.{most_live}
-use Rattle.lra_outcomes.specs.Fits.{TreeFits}
-use Rattle.lra_iter.specs.Lives.{PointsHave, AreWide}
-use Rattle.lra_iter.specs.Numbers.{one_if, values_in, checks_in, asserts_of, IsNumbered}
-use Rattle.lra_iter.proofs.Counting.{one_other}
-use Rattle.lra_fits.specs.Judged.{AreBelow}
+use Rattle.lra_transfer.specs.Changes.{OpFitsDims}
+use Rattle.lra_analysis_spec.specs.Live.{live_after_op}
+use Rattle.lra_analysis_spec.specs.LiveLimit.{most_live}
+use Rattle.lra_pass_results.specs.Dimensions.{TreeFits}
+use Rattle.lra_fixpoint.specs.Lives.{PointsHave, AreWide}
+use Rattle.lra_fixpoint.specs.Numbers.{one_if, values_in, checks_in, asserts_of, IsNumbered}
+use Rattle.lra_fixpoint.proofs.Counting.{one_other}
+use Rattle.lra_overflow_checks.specs.Judged.{AreBelow}
 use Rattle.lra_tests_analyses.specs.Steps.{accesses_tree, steps_tree, steps_sites, tree_of}
 
 one_at_most : (k : ℕ) → k < 4 → (s : Site) × (slice_get steps_sites k ≡ Some s) × (s.live ≤ 1)
@@ -27,8 +27,8 @@ one_at_most (suc (suc zero)) h = (_, refl, omega arith)
 one_at_most (suc (suc (suc zero))) h = (_, refl, omega arith)
 one_at_most (suc (suc (suc (suc k)))) h = absurd (omega (arith, h))
 
-module _ (one two : Op) (kept : dims_behind one 1 ≡ 1) (kept_too : dims_behind two (dims_behind one 1) ≡ 1) where
-  pub tree_fits : OpFits one 1 → OpFits two (dims_behind one 1) → TreeFits (tree_of one two) 0
+module _ (one two : Op) (kept : live_after_op one 1 ≡ 1) (kept_too : live_after_op two (live_after_op one 1) ≡ 1) where
+  pub tree_fits : OpFitsDims one 1 → OpFitsDims two (live_after_op one 1) → TreeFits (tree_of one two) 0
   tree_fits first second = (
     (tt, none, (omega arith, one_lives, place)),
     one_lives,
@@ -44,10 +44,10 @@ module _ (one two : Op) (kept : dims_behind one 1 ≡ 1) (kept_too : dims_behind
       place : 0 < 1
       place = omega arith
 
-      behind : dims_behind one 1 ≤ most_live
+      behind : live_after_op one 1 ≤ most_live
       behind = omega (arith, kept)
 
-      last : dims_behind two (dims_behind one 1) ≤ most_live
+      last : live_after_op two (live_after_op one 1) ≤ most_live
       last = omega (arith, kept_too)
 
   -- as many live at its points as are told

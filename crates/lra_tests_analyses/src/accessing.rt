@@ -9,10 +9,10 @@ ghost use Rattle.lra_tests_analyses.specs.Steps.{a, a_at, accesses_tree, is_insi
 
 use crate::steps::{read_x, steps};
 use lra_base::{Comparison, NumberType, Place};
+use lra_bounds_checks::{BoundsVerdicts, judge_accesses};
 use lra_box::Boxes;
 use lra_domain::Domain;
-use lra_inside::{Inside, judge_accesses};
-use lra_iter::{Plan, analyse};
+use lra_fixpoint::{Plan, analyse};
 use lra_octagon::Octagon;
 use lra_operations::{InlinedProgram, Op};
 use lra_program::{Array, Cond, Element, Expr};
@@ -83,7 +83,7 @@ fn access(alloc: Global) -> Result<InlinedProgram, AllocError>
 }
 
 /// What is judged of it, by the values of its analysis over a domain.
-fn judge_tree<D: Domain>(alloc: Global) -> Result<Inside, AllocError> {
+fn judge_tree<D: Domain>(alloc: Global) -> Result<BoundsVerdicts, AllocError> {
     let plan = Plan::of(alloc, lra_options::DEFAULT_OPTIONS, &[])?;
     let graph = access(alloc)?;
     let solution = analyse::<D>(alloc, &plan, &[], &graph)?;
@@ -91,7 +91,7 @@ fn judge_tree<D: Domain>(alloc: Global) -> Result<Inside, AllocError> {
 }
 
 /// Whether this is told, and nothing is flagged.
-fn tells(inside: &Inside, want: &[(usize, &[(Place, bool)])]) -> bool {
+fn tells(inside: &BoundsVerdicts, want: &[(usize, &[(Place, bool)])]) -> bool {
     let told = inside
         .verdicts
         .iter()

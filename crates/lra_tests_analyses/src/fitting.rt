@@ -9,10 +9,10 @@ use crate::steps::{read_x, steps};
 use lra_base::{NumberType, Operator};
 use lra_box::Boxes;
 use lra_domain::Domain;
-use lra_fits::{Fitting, judge};
-use lra_iter::{Plan, analyse};
+use lra_fixpoint::{Plan, analyse};
 use lra_octagon::Octagon;
 use lra_operations::{InlinedProgram, Op};
+use lra_overflow_checks::{OverflowVerdicts, judge};
 use lra_program::{Expr, Operation, Receiver};
 use std::alloc::{AllocError, Global};
 
@@ -41,7 +41,7 @@ fn step_both_ways(alloc: Global) -> Result<InlinedProgram, AllocError>
 }
 
 /// What is judged of it, by the values of its analysis over a domain.
-fn judge_steps<D: Domain>(alloc: Global) -> Result<Fitting, AllocError> {
+fn judge_steps<D: Domain>(alloc: Global) -> Result<OverflowVerdicts, AllocError> {
     let plan = Plan::of(alloc, lra_options::DEFAULT_OPTIONS, &[])?;
     let graph = step_both_ways(alloc)?;
     let solution = analyse::<D>(alloc, &plan, &[], &graph)?;

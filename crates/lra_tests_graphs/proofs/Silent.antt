@@ -8,14 +8,14 @@ use Rattle.lra_operations.specs.CheckedOperations.{OpAtPoint, accessing_ops}
 use Rattle.lra_operations.specs.Agree.{IsInlinedTree}
 use Rattle.lra_operations.specs.Tree.{Node}
 use Rattle.std.proofs.Common.{None}
-use Rattle.lra_doings.specs.declared.doings.Done.{Done}
-use Rattle.lra_doings.specs.Doings.{done_view, done_in}
-use Rattle.lra_doings.proofs.Filtered.{asking_filtered}
-use Rattle.lra_array.specs.declared.listing.Access.{Access}
-use Rattle.lra_array.specs.Listed.{access_view}
+use Rattle.lra_operations_list.specs.declared.tree_operations.OpRefAtPoint.{OpRefAtPoint}
+use Rattle.lra_operations_list.specs.TreeOperations.{op_at_point_view, done_in}
+use Rattle.lra_operations_list.proofs.Filtered.{asking_filtered}
+use Rattle.lra_accesses.specs.declared.listing.Access.{Access}
+use Rattle.lra_accesses.specs.Listed.{access_view}
 use Rattle.lra_report.specs.Listing.{accesses_at}
 use Rattle.lra_report_build.specs.AnalysisResults.{AreAccessVerdicts}
-use Rattle.lra_flow.proofs.OneTree.{one_tree}
+use Rattle.lra_analysis_spec.proofs.OneTree.{one_tree}
 use Rattle.lra_linear_spec.proofs.Membership.{contains_none}
 use Rattle.lra_syntax.specs.Trees.{FileTree}
 use Rattle.lra_resolution_spec.specs.Resolve.{resolve}
@@ -32,21 +32,23 @@ silent_behind [] a h e = (e, tt)
 silent_behind (x ∷ xs) a h e = (h.0, silent_behind xs a h.1 e)
 
 -- one more of what is done
-pub silent_more : (done : List Done) (d : Done) (n : ℕ) → AreSilent (map done_view (take n done)) → n < length done → d ≡ get_or done n d
-    → op_accesses (done_view d).op ≡ [] → AreSilent (map done_view (take (n + 1) done))
+pub silent_more : (done : List OpRefAtPoint) (d : OpRefAtPoint) (n : ℕ) → AreSilent (map op_at_point_view (take n done)) → n < length done → d ≡ get_or done n d
+    → op_accesses (op_at_point_view d).op ≡ [] → AreSilent (map op_at_point_view (take (n + 1) done))
 silent_more done d n silent inside read none =
-    let more = map_more done_view done n d inside ∙ ap (λ (x : Done). map done_view (take n done) ++ done_view x ∷ []) (sym read) in
-    subst AreSilent (sym more) (silent_behind (map done_view (take n done)) (done_view d) silent none)
+    let more = map_more op_at_point_view done n d inside
+    ∙ ap (λ (x : OpRefAtPoint). map op_at_point_view (take n done) ++ op_at_point_view x ∷ []) (sym read) in
+    subst AreSilent (sym more) (silent_behind (map op_at_point_view (take n done)) (op_at_point_view d) silent none)
 
 none_left : (xs : List OpAtPoint) → AreSilent xs → filter (λ (a : OpAtPoint). op_accesses_any a.op) xs ≡ []
 none_left [] h = refl
 none_left (x ∷ xs) h = rw (h.0, none_left xs h.1) refl
 
 -- nothing of a tree accesses an array where nothing of what is done in it does
-pub silent_tree : (g : Node) (done : List Done) (n : ℕ) → map done_view done ≡ done_in None g → length done ≤ n → AreSilent (map done_view (take n done))
+pub silent_tree : (g : Node) (done : List OpRefAtPoint) (n : ℕ) → map op_at_point_view done ≡ done_in None g → length done ≤ n →
+    AreSilent (map op_at_point_view (take n done))
     → (q : ℕ) → accesses_at g q ≡ []
 silent_tree g done n all whole silent q =
-    let every : AreSilent (done_in None g) = subst AreSilent (ap (map done_view) (take_all n done whole) ∙ all) silent in
+    let every : AreSilent (done_in None g) = subst AreSilent (ap (map op_at_point_view) (take_all n done whole) ∙ all) silent in
     ap (λ (xs : List OpAtPoint). flat_map (λ (a : OpAtPoint). cond (nat_eq a.point q) (op_accesses a.op) []) xs)
     (asking_filtered op_accesses_any None g ∙ none_left (done_in None g) every)
 

@@ -13,11 +13,11 @@ ghost use Rattle.lra_report.specs.Listing.{HasWidth, accesses_at};
 ghost use Rattle.lra_report_build.specs.AnalysisResults.{AreInvariants, AreVerdicts};
 
 use crate::sources::{program_of, tree_of};
-use lra_array::accesses;
+use lra_accesses::accesses;
 use lra_base::SourceError;
-use lra_doings::list_doings;
 use lra_inline::build;
 use lra_operations::{Node, Site};
+use lra_operations_list::list_operations;
 use lra_options::{DEFAULT_OPTIONS, Domain, Options};
 use lra_report::{Part, Report, text};
 use lra_report_build::{Findings, Outline, list};
@@ -92,7 +92,7 @@ fn verdicts_on(alloc: Global, sites: &[Site]) -> Result<Vec<(usize, bool)>, Allo
 fn accesses_nothing(alloc: Global, tree: &Node) -> Result<bool, AllocError>
     ensures { IfOk result (λ none. none ≡ true → (q : ℕ) → accesses_at (node_view tree.now) q ≡ []) }
 {
-    let done = list_doings(alloc, tree)?;
+    let done = list_operations(alloc, tree)?;
     'doings: for item in &done {
         if !accesses(alloc, item.doing)?.is_empty() {
             return Ok(false);

@@ -21,8 +21,8 @@ use Rattle.lra_front_end.specs.Stages.{HasConstants}
 use Rattle.lra_threads_front.specs.Claims.{IsAcceptedThreads, IsThreadTree}
 use Rattle.lra_threads_front.specs.Stages.{IsGraphOf, IsThreadGraph}
 use Rattle.lra_source.proofs.Handing.{image_of}
-use Rattle.lra_flow.specs.Opened.{opened}
-use Rattle.lra_flow.specs.Plan.{Plan}
+use Rattle.lra_analysis_spec.specs.Instrumented.{instrumented}
+use Rattle.lra_analysis_spec.specs.Plan.{Plan}
 use Rattle.lra_rounds.specs.Rounds.{AllRounds, Settled}
 use Rattle.lra_threads.specs.Found.{AreOpened, AreReady, IsFoundOf, thread_finding}
 use Rattle.lra_threads.specs.Holding.{AllHold, AreFlagged}
@@ -75,18 +75,18 @@ module _ (source : List ℕ) (t : FileTree) (accepted : AcceptsThreads Spells so
   trees_opened = go graphs others opens
     where
       go : (gs hs : List InlinedProgram) → AllZip (IsOpened (length globals)) gs hs
-          → map (λ (g : InlinedProgram). node_view g.tree) hs ≡ map (opened (length P.globals)) (map (λ (g : InlinedProgram). node_view g.tree) gs)
+          → map (λ (g : InlinedProgram). node_view g.tree) hs ≡ map (instrumented (length P.globals)) (map (λ (g : InlinedProgram). node_view g.tree) gs)
       go [] [] z = refl
       go [] (h ∷ hs) z = absurd z
       go (g ∷ gs) [] z = absurd z
       go (g ∷ gs) (h ∷ hs) z =
-          ap₂ (λ (h : Node) (hs : List Node). h ∷ hs) (z.0.0 ∙ ap (λ (n : ℕ). opened n (node_view g.tree)) long) (go gs hs z.1)
+          ap₂ (λ (h : Node) (hs : List Node). h ∷ hs) (z.0.0 ∙ ap (λ (n : ℕ). instrumented n (node_view g.tree)) long) (go gs hs z.1)
 
   -- the own tree of the k-th
-  own_tree : (k : ℕ) (h : InlinedProgram) → slice_get others k ≡ Some h → (g : Node) × (node_view h.tree ≡ opened (length P.globals) g)
+  own_tree : (k : ℕ) (h : InlinedProgram) → slice_get others k ≡ Some h → (g : Node) × (node_view h.tree ≡ instrumented (length P.globals) g)
   own_tree k h there =
       let (g, here, is_opened, more) = graph_at t accepted.names accepted.within graphs others read (length globals) long opens k h there in
-      (node_view g.tree, is_opened.0 ∙ ap (λ (n : ℕ). opened n (node_view g.tree)) long)
+      (node_view g.tree, is_opened.0 ∙ ap (λ (n : ℕ). instrumented n (node_view g.tree)) long)
 
   are_threads : AreThreads P (thread_functions t) others
   are_threads k f there =
@@ -102,7 +102,7 @@ module _ (source : List ℕ) (t : FileTree) (accepted : AcceptsThreads Spells so
           well = of'.well;
           tree = node_view g.tree;
           is_graph = of'.is_graph;
-          opens = is_opened.0 ∙ ap (λ (n : ℕ). opened n (node_view g.tree)) long;
+          opens = is_opened.0 ∙ ap (λ (n : ℕ). instrumented n (node_view g.tree)) long;
         }),
       )
 

@@ -12,14 +12,14 @@ use Rattle.lra_program.specs.Sites.{Site, sites_of}
 use Rattle.lra_operations.specs.Agree.{IsInlinedTree}
 use Rattle.lra_operations.specs.CheckedOperations.{accessing_ops}
 use Rattle.lra_operations.specs.Tree.{Node}
-use Rattle.lra_flow.specs.Accesses.{JudgesAccesses, OpInside}
-use Rattle.lra_flow.specs.Among.{admitted}
-use Rattle.lra_flow.specs.Opened.{opened}
-use Rattle.lra_flow.specs.Operations.{dropping}
-use Rattle.lra_flow.specs.Plan.{Plan}
-use Rattle.lra_iter.specs.Counts.{failing_at, values_at}
-use Rattle.lra_iter.specs.Numbers.{IsNumbered, asserts_of, values_in}
-use Rattle.lra_iter.proofs.Counting.{counted_value, failing_counted, pass_found, value_counted}
+use Rattle.lra_analysis_spec.specs.Accesses.{JudgesAccesses, OpInside}
+use Rattle.lra_analysis_spec.specs.UnderInterference.{absorbed}
+use Rattle.lra_analysis_spec.specs.Instrumented.{instrumented}
+use Rattle.lra_analysis_spec.specs.Operations.{lossy_operations}
+use Rattle.lra_analysis_spec.specs.Plan.{Plan}
+use Rattle.lra_fixpoint.specs.Counts.{failing_at, values_at}
+use Rattle.lra_fixpoint.specs.Numbers.{IsNumbered, asserts_of, values_in}
+use Rattle.lra_fixpoint.proofs.Counting.{counted_value, failing_counted, pass_found, value_counted}
 use Rattle.lra_alike.proofs.OpenedTrees.{numbered_of}
 use Rattle.lra_rounds.specs.Intervals.{Table, empty_table, next_table}
 use Rattle.lra_rounds.specs.Rounds.{AllRounds, AreFound, Finding, IsRound, Rounds, Settled, first_flag, flag_of, flag_so_far, joining_rounds, settled, unsettled}
@@ -86,12 +86,13 @@ if_flag So flag k q so is = subst (IfFlag So) is so
 
 -- what is told of accesses stands at points
 pub answers_low : (g : Node) (values : List BoxContent) (before : Option ℕ) (told : List (ℕ × List (Place × Bool))) (flag : Option ℕ)
-    → JudgesAccesses box_abstraction (dropping box_abstraction) g values before told flag → (v : ℕ × List (Place × Bool)) → Contains told v →
+    → JudgesAccesses box_abstraction (lossy_operations box_abstraction) g values before told flag → (v : ℕ × List (Place × Bool)) → Contains told v →
     v.0 < length values
 answers_low g values before told flag judged v among =
     let (j, one, at, answer) = found_of judged.found v.0 v.1 (subst (λ (l : List (ℕ × List (Place × Bool))). Contains l v) judged.told among) in
     subst (λ (q : ℕ). q < length values) at
-    (point_below (dropping box_abstraction) (OpInside box_abstraction (dropping box_abstraction)) (accessing_ops None g) values before told flag judged j one)
+    (point_below (lossy_operations box_abstraction) (OpInside box_abstraction (lossy_operations box_abstraction)) (accessing_ops None g) values before told flag
+    judged j one)
 
 -- of one thread ------------------------------------------------------------------------------------------------------
 
@@ -100,7 +101,7 @@ module _ (o : Interference BoxContent) (plan : Plan) (P Q : Program) (g : Node) 
   m = length (sites_of Q)
 
   abbrev whole : Node
-  whole = opened (length P.globals) g
+  whole = instrumented (length P.globals) g
 
   numbers : IsNumbered (sites_of Q) whole
   numbers = numbered_of (sites_of Q) (length P.globals) g (numbered Q g graph)
@@ -108,12 +109,13 @@ module _ (o : Interference BoxContent) (plan : Plan) (P Q : Program) (g : Node) 
   counts : (k : ℕ) → values_at k is.solved.result.entries ≡ values_in whole k
   counts k =
       let (none, first, e, universal, values, pass) = is.solved.derived in
-      (pass_found BoxContent _ (dropping box_abstraction) (admitted o box_abstraction) k plan whole _ first is.solved.result pass).values
+      (pass_found BoxContent _ (lossy_operations box_abstraction) (absorbed o box_abstraction) k plan whole _ first is.solved.result pass).values
 
   fails : (k : ℕ) → failing_at k is.solved.result.entries ≡ asserts_of (slice_get (sites_of Q) k)
   fails k =
       let (none, first, e, universal, values, pass) = is.solved.derived in
-      (pass_found BoxContent _ (dropping box_abstraction) (admitted o box_abstraction) k plan whole _ first is.solved.result pass).checks ∙ numbers.checks k
+      (pass_found BoxContent _ (lossy_operations box_abstraction) (absorbed o box_abstraction) k plan whole _ first is.solved.result pass).checks
+      ∙ numbers.checks k
 
   -- a value stands at a point, and each point has one
   value_point : (k : ℕ) (v : BoxContent) → slice_get (values_of f) k ≡ Some v → (s : Site) × (slice_get (sites_of Q) k ≡ Some s)
@@ -146,7 +148,7 @@ module _ (o : Interference BoxContent) (plan : Plan) (P Q : Program) (g : Node) 
   iteration_flag : (q : ℕ) → f.noted.solution.flagged ≡ Some q → q < m
   iteration_flag q flagged =
       let all = graph.all in
-      let below = iteration_among_below BoxContent _ (dropping box_abstraction) (admitted o box_abstraction) m plan P whole is.solved.result
+      let below = iteration_among_below BoxContent _ (lossy_operations box_abstraction) (absorbed o box_abstraction) m plan P whole is.solved.result
       (omega (arith, all)) (opened_below m (length P.globals) g no_values (graph_below Q g graph)) is.solved.derived in
       subst (IsBelow m) (sym is.solved.solves.is_flagged ∙ flagged) below
 
@@ -170,7 +172,7 @@ module _ (o : Interference BoxContent) (plan : Plan) (P Q : Program) (g : Node) 
 
   pub thread_flag : (q : ℕ) → flag_of_thread f ≡ Some q → q < m
   thread_flag q flagged =
-      flagged_below (dropping box_abstraction) (OpInside box_abstraction (dropping box_abstraction)) (accessing_ops None g) (values_of f)
+      flagged_below (lossy_operations box_abstraction) (OpInside box_abstraction (lossy_operations box_abstraction)) (accessing_ops None g) (values_of f)
       f.noted.solution.flagged
       (told_in f)
       (flag_of_thread f) is.accessed m many iteration_flag q flagged

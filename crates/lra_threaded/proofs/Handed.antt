@@ -13,8 +13,8 @@ use Rattle.lra_operations.specs.Tree.{Node}
 use Rattle.lra_operations.specs.TreeViews.{node_view, site_view}
 use Rattle.lra_operations.specs.declared.tree.InlinedProgram.{InlinedProgram}
 use Rattle.lra_linear_spec.proofs.Membership.{contains_head, contains_tail}
-use Rattle.lra_flow.specs.Opened.{opened}
-use Rattle.lra_inside.specs.Inside.{told_view}
+use Rattle.lra_analysis_spec.specs.Instrumented.{instrumented}
+use Rattle.lra_bounds_checks.specs.BoundsChecks.{reported_view}
 use Rattle.lra_rounds.specs.Rounds.{Settled}
 use Rattle.lra_threads.specs.Found.{sites_in, told_in, values_of, verdicts_of}
 use Rattle.lra_threads.specs.Holding.{AllHold, HoldsInRound}
@@ -50,7 +50,7 @@ of_graph P k graph g end h =
           (subst (AllByRecursion (λ (i : ℕ). i < points_in graph)) (sym h.assertions)
           (asserting_low 0 (points_in graph) (sites_in graph) (omega (arith, long))));
       inside =
-          all_viewed (λ (v : ℕ × List (Place × Bool)). v.0 < points_in graph) told_view h.found.inside.verdicts.items
+          all_viewed (λ (v : ℕ × List (Place × Bool)). v.0 < points_in graph) reported_view h.found.inside.verdicts.items
           (each_among (λ (v : ℕ × List (Place × Bool)). v.0 < points_in graph) (told_in h.found)
           (λ v among.
           let low = answers_low g (values_of h.found) before (told_in h.found) _ judged v among in
@@ -60,7 +60,7 @@ of_graph P k graph g end h =
 
 -- of each thread; its own tree is one of these
 pub of_graphs : (P : Program) (globals : List GlobalVariable) (graphs : List InlinedProgram) (end : Settled ThreadFound) → P.globals ≡ globals
-    → ((k : ℕ) (h : InlinedProgram) → slice_get graphs k ≡ Some h → (g : Node) × (node_view h.tree ≡ opened (length P.globals) g))
+    → ((k : ℕ) (h : InlinedProgram) → slice_get graphs k ≡ Some h → (g : Node) × (node_view h.tree ≡ instrumented (length P.globals) g))
     → AllHold globals graphs end → AreOfGraphs graphs end.found
 of_graphs P globals graphs end is own holds = record {
   count = holds.count;

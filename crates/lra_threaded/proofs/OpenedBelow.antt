@@ -6,10 +6,10 @@ use Rattle.lra_program.specs.Step.{Op}
 use Rattle.lra_operations.specs.declared.probes.Probe.TheVariants.{RecordWrite}
 use Rattle.lra_operations.specs.Tree.{Node, empty, probe, point, act, check, seq, choose, iterate, catch, leave}
 use Rattle.lra_operations.specs.Tree.{select, Arms, no_arms, entry, arm}
-use Rattle.lra_flow.specs.Opened.{noting_of, opened, opened_arms}
-use Rattle.lra_iter.specs.Numbers.{ArmsAreBelow, AreBelow, values_in, values_in_arms}
+use Rattle.lra_analysis_spec.specs.Instrumented.{with_recording, instrumented, instrumented_arms}
+use Rattle.lra_fixpoint.specs.Numbers.{ArmsAreBelow, AreBelow, values_in, values_in_arms}
 use Rattle.std.proofs.lemmas.Bool.{cases_lt}
-use Rattle.lra_iter.proofs.Counting.{one_same}
+use Rattle.lra_fixpoint.proofs.Counting.{one_same}
 
 module _ (m : ℕ) where
   abbrev NoValues : Node → Type 0
@@ -22,7 +22,7 @@ module _ (m : ℕ) where
   below_if true q place op low = (low, low)
   below_if false q place op low = low
 
-  below_noted : (n q : ℕ) (x : Option ℕ) (op : Op) → q < m → AreBelow m (noting_of n q x (act q op))
+  below_noted : (n q : ℕ) (x : Option ℕ) (op : Op) → q < m → AreBelow m (with_recording n q x (act q op))
   below_noted n q None op low = low
   below_noted n q (Some place) op low = below_if (nat_lt place n) q place op low
 
@@ -36,7 +36,7 @@ module _ (m : ℕ) where
   right a b none q h = let all = none q h in omega (arith, all)
 
   mutual
-    pub opened_below : (n : ℕ) (g : Node) → NoValues g → AreBelow m g → AreBelow m (opened n g)
+    pub opened_below : (n : ℕ) (g : Node) → NoValues g → AreBelow m g → AreBelow m (instrumented n g)
     opened_below n empty none low = tt
     opened_below n (point q) none low = (point_low q none, tt)
     opened_below n (probe q what) none low = low
@@ -49,7 +49,7 @@ module _ (m : ℕ) where
     opened_below n (leave k j) none low = tt
     opened_below n (select q base e arms) none low = (low.0, arms_below n arms none low.1)
 
-    arms_below : (n : ℕ) (arms : Arms) → NoArmsValues arms → ArmsAreBelow m arms → ArmsAreBelow m (opened_arms n arms)
+    arms_below : (n : ℕ) (arms : Arms) → NoArmsValues arms → ArmsAreBelow m arms → ArmsAreBelow m (instrumented_arms n arms)
     arms_below n no_arms none low = tt
     arms_below n (entry l arms) none low = arms_below n arms none low
     arms_below n (arm a arms) none low = (

@@ -17,7 +17,7 @@ use Rattle.lra_syntax.specs.Labels.{Labelled, labels_of}
 use Rattle.lra_syntax.specs.Trees.{FileTree}
 use Rattle.lra_resolution_spec.specs.LiveNames.{globals_named}
 use Rattle.lra_operations.specs.declared.tree.InlinedProgram.{InlinedProgram}
-use Rattle.lra_iter.specs.Lives.{AreWide}
+use Rattle.lra_fixpoint.specs.Lives.{AreWide}
 use Rattle.lra_report_build.specs.AnalysisResults.{AreInvariants, access_verdicts_at, state_of, verdict_at}
 use Rattle.lra_report_build.specs.Views.{reported_view}
 use Rattle.lra_report_build.specs.declared.listing.Findings.{Findings}

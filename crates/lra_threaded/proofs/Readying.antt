@@ -26,13 +26,13 @@ use Rattle.lra_operations.specs.Tree.{Node}
 use Rattle.lra_operations.specs.TreeViews.{node_view, site_view}
 use Rattle.lra_operations.specs.declared.tree.InlinedProgram.{InlinedProgram}
 use Rattle.lra_operations.specs.declared.tree.Site as declared
-use Rattle.lra_flow.specs.Opened.{opened}
-use Rattle.lra_flow.specs.Plan.{Plan}
-use Rattle.lra_flow.specs.Room.{most_live}
-use Rattle.lra_fits.specs.Judged.{AreBelow}
-use Rattle.lra_outcomes.specs.Fits.{TreeFits}
-use Rattle.lra_iter.specs.Lives.{PointsHave}
-use Rattle.lra_iter.specs.Numbers.{IsNumbered}
+use Rattle.lra_analysis_spec.specs.Instrumented.{instrumented}
+use Rattle.lra_analysis_spec.specs.Plan.{Plan}
+use Rattle.lra_analysis_spec.specs.LiveLimit.{most_live}
+use Rattle.lra_overflow_checks.specs.Judged.{AreBelow}
+use Rattle.lra_pass_results.specs.Dimensions.{TreeFits}
+use Rattle.lra_fixpoint.specs.Lives.{PointsHave}
+use Rattle.lra_fixpoint.specs.Numbers.{IsNumbered}
 use Rattle.lra_alike.proofs.OpenedTrees.{asks_opened, fits_of, numbered_of, points_of}
 use Rattle.lra_source.proofs.Fitting.{few_globals, tree_fits}
 use Rattle.lra_source.proofs.Flags.{graph_below}
@@ -112,7 +112,7 @@ module _ (P : Program) (g : InlinedProgram) (is : IsGraphOf P g) (n : ℕ) (glob
       let few = is.few k s (subst (λ (l : List Site). slice_get l k ≡ Some s) same there) in
       omega (arith, few)
 
-  accessed : (m : ℕ) → m ≡ length (sites_of P) → AreBelow m (accessing_ops None (opened n own))
+  accessed : (m : ℕ) → m ≡ length (sites_of P) → AreBelow m (accessing_ops None (instrumented n own))
   accessed m same a h =
       subst (λ (k : ℕ). a.point < k) (sym same)
       (asked_one op_accesses_any (length (sites_of P)) own None (graph_below P own is.is_graph) a

@@ -20,8 +20,8 @@ use Rattle.lra_threads_front.specs.declared.front.ThreadsFront.{ThreadsFront}
 use Rattle.lra_report_build.specs.AnalysisResults.{access_verdicts_at, verdict_at}
 use Rattle.lra_report_build.specs.Views.{reported_view}
 use Rattle.lra_report_build.specs.declared.listing.Findings.{Findings}
-use Rattle.lra_flow.specs.Opened.{opened}
-use Rattle.lra_iter.specs.Lives.{AreWide}
+use Rattle.lra_analysis_spec.specs.Instrumented.{instrumented}
+use Rattle.lra_fixpoint.specs.Lives.{AreWide}
 use Rattle.lra_threads.specs.Found.{sites_in, values_of, verdicts_of}
 use Rattle.lra_threads.specs.declared.found.ThreadFound.{ThreadFound}
 use Rattle.lra_threaded.specs.Listed.{thread_sites}
@@ -32,7 +32,7 @@ points_in graph = length graph.sites.items
 -- the same graph with what others do written into its tree
 abbrev pub IsOpened : ℕ → InlinedProgram → InlinedProgram → Type 0
 IsOpened globals graph other =
-    (node_view other.tree ≡ opened globals (node_view graph.tree)) × (other.sites ≡ graph.sites)
+    (node_view other.tree ≡ instrumented globals (node_view graph.tree)) × (other.sites ≡ graph.sites)
 
 -- the same of what is read, with each graph opened
 pub record AreThreadsOpened (front other : ThreadsFront) : Type 0 where

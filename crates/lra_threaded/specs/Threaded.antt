@@ -21,7 +21,7 @@ use Rattle.lra_report.specs.declared.verdict_kinds.VerdictKind.{VerdictKind}
 use Rattle.lra_report.specs.declared.verdict_kinds.VerdictKind.TheVariants.{Assertion, Fit, Access}
 use Rattle.lra_front_end.specs.Stages.{HasConstants}
 use Rattle.lra_threads_front.specs.Claims.{IsAcceptedThreads}
-use Rattle.lra_flow.specs.Plan.{Plan, plan_of}
+use Rattle.lra_analysis_spec.specs.Plan.{Plan, plan_of}
 use Rattle.lra_interleavings.specs.Interleavings.{AtThread, FailsThread, ThreadWritesValue, OutOfBoundsThread}
 use Rattle.lra_rounds.specs.Intervals.{empty_table}
 use Rattle.lra_rounds.specs.Rounds.{AllRounds, Settled, joining_rounds}

@@ -13,7 +13,7 @@ ghost use Rattle.lra_threaded.specs.ThreadsView.{threads_report_of};
 use crate::listing::{Outline, list};
 use crate::text::ThreadsReport;
 use lra_base::SourceError;
-use lra_iter::Plan;
+use lra_fixpoint::Plan;
 use lra_opened::opened_graph;
 use lra_operations::InlinedProgram;
 use lra_options::{Domain, Options, default_options};

@@ -9,9 +9,9 @@ use Rattle.lra_program.specs.Sites.{Site}
 use Rattle.lra_operations.specs.CheckedOperations.{OpAtPoint}
 use Rattle.lra_operations.specs.TreeViews.{site_view}
 use Rattle.lra_operations.specs.declared.tree.InlinedProgram.{InlinedProgram}
-use Rattle.lra_flow.specs.Room.{most_live}
-use Rattle.lra_iter.specs.Lives.{AreWide}
-use Rattle.lra_fits.specs.Judged.{AreBelow}
+use Rattle.lra_analysis_spec.specs.LiveLimit.{most_live}
+use Rattle.lra_fixpoint.specs.Lives.{AreWide}
+use Rattle.lra_overflow_checks.specs.Judged.{AreBelow}
 use Rattle.lra_threads.specs.Found.{sites_in}
 
 -- the place is there in a list that is as long

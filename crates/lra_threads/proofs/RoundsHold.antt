@@ -11,10 +11,10 @@ use Rattle.lra_program.specs.declared.program.GlobalVariable.{GlobalVariable}
 use Rattle.lra_operations.specs.Tree.{Node}
 use Rattle.lra_operations.specs.TreeViews.{node_view}
 use Rattle.lra_operations.specs.declared.tree.InlinedProgram.{InlinedProgram}
-use Rattle.lra_flow.specs.Analysis.{Solves}
-use Rattle.lra_flow.specs.Opened.{opened}
-use Rattle.lra_flow.specs.Plan.{Plan}
-use Rattle.lra_iter.specs.Solved.{IsSolvedAmong}
+use Rattle.lra_analysis_spec.specs.Analysis.{IsSolution}
+use Rattle.lra_analysis_spec.specs.Instrumented.{instrumented}
+use Rattle.lra_analysis_spec.specs.Plan.{Plan}
+use Rattle.lra_fixpoint.specs.Solved.{IsSolvedUnder}
 use Rattle.lra_rounds.specs.Telling.{others_of}
 use Rattle.lra_rounds.specs.Rounds.{AreFound, AllRounds, Settled}
 use Rattle.lra_rounds.proofs.FlagLemmas.{unflagged, strained, settles}
@@ -38,7 +38,7 @@ module _ (plan : Plan) (globals : List GlobalVariable) (graphs : List InlinedPro
 
   holds_in_round : (P : Program) (k : ℕ) (graph : InlinedProgram) (g : Node) (end : Settled ThreadFound)
       → AreFound (length globals) (IsAnalysedOf plan globals graphs) (length graphs) end.table end.found → P.globals ≡ globals
-      → slice_get graphs k ≡ Some graph → node_view graph.tree ≡ opened (length P.globals) g → HoldsInRound P k graph g end
+      → slice_get graphs k ≡ Some graph → node_view graph.tree ≡ instrumented (length P.globals) g → HoldsInRound P k graph g end
   holds_in_round P k graph g end are same is opens =
       let (f, there) = same_place graphs end.found k graph are.all is in
       let (one, at, analysed) = are.each k f there in
@@ -52,7 +52,7 @@ module _ (plan : Plan) (globals : List GlobalVariable) (graphs : List InlinedPro
         is_found = there;
         solved = (
           plan,
-          subst (λ (zs : List GlobalVariable). IsSolvedAmong (others_of (length zs) k end.table) box_abstraction plan P
+          subst (λ (zs : List GlobalVariable). IsSolvedUnder (others_of (length zs) k end.table) box_abstraction plan P
               (node_view graph.tree) (values_of f) (notes_of f) (verdicts_of f) f.noted.solution.flagged) (sym same) (one.solved P same),
         );
         holds = subst (λ (zs : List GlobalVariable). HoldsOf (others_of (length zs) k end.table) P g f) (sym same) (one.sound P g same opens);
@@ -81,13 +81,13 @@ module _ (plan : Plan) (globals : List GlobalVariable) (graphs : List InlinedPro
 
   module _ (P : Program) (trees : List Node) (same : P.globals ≡ globals) (opens : AreOpened (length P.globals) trees graphs) where
     as_many : length graphs ≡ length trees
-    as_many = sym (length-map graphs (λ (x : InlinedProgram). node_view x.tree)) ∙ ap length opens ∙ length-map trees (opened (length P.globals))
+    as_many = sym (length-map graphs (λ (x : InlinedProgram). node_view x.tree)) ∙ ap length opens ∙ length-map trees (instrumented (length P.globals))
 
     own_tree : (k : ℕ) (graph : InlinedProgram) → slice_get graphs k ≡ Some graph
-        → (g : Node) × (slice_get trees k ≡ Some g) × (node_view graph.tree ≡ opened (length P.globals) g)
+        → (g : Node) × (slice_get trees k ≡ Some g) × (node_view graph.tree ≡ instrumented (length P.globals) g)
     own_tree k graph is =
-        own_there (opened (length P.globals)) (slice_get trees k) (node_view graph.tree)
-        (sym (slice_get-map (opened (length P.globals)) trees k) ∙ ap (λ (gs : List Node). slice_get gs k) (sym opens)
+        own_there (instrumented (length P.globals)) (slice_get trees k) (node_view graph.tree)
+        (sym (slice_get-map (instrumented (length P.globals)) trees k) ∙ ap (λ (gs : List Node). slice_get gs k) (sym opens)
         ∙ slice_get-map (λ (x : InlinedProgram). node_view x.tree) graphs k ∙ ap (option_map (λ (x : InlinedProgram). node_view x.tree)) is)
 
     found_of : (k : ℕ) (o : Interference BoxContent) (f : ThreadFound) → IsAnalysedOf plan globals graphs k o f → IsFoundOf plan P trees k o f
@@ -96,7 +96,7 @@ module _ (plan : Plan) (globals : List GlobalVariable) (graphs : List InlinedPro
           g,
           at,
           record {
-            solved = subst (λ (h : Node). IsSolvedAmong o box_abstraction plan P h (values_of f) (notes_of f) (verdicts_of f) f.noted.solution.flagged)
+            solved = subst (λ (h : Node). IsSolvedUnder o box_abstraction plan P h (values_of f) (notes_of f) (verdicts_of f) f.noted.solution.flagged)
                 tree (one.solved P same);
             accessed = judged_own (length P.globals) g (node_view graph.tree) (values_of f) f.noted.solution.flagged (flag_of_thread f)
                 (told_in f) tree one.accessed;
@@ -122,7 +122,7 @@ module _ (plan : Plan) (P : Program) (trees : List Node) where
         record {
           result = one.solved.result;
           written = one.solved.written first;
-          solves = subst (λ (q : Option ℕ). Solves box_abstraction one.solved.result (values_of f) (verdicts_of f) q) first one.solved.solves;
+          solves = subst (λ (q : Option ℕ). IsSolution box_abstraction one.solved.result (values_of f) (verdicts_of f) q) first one.solved.solves;
           noted = one.solved.noted;
           accessed = accessed_written g (values_of f) f.noted.solution.flagged (flag_of_thread f) (told_in f) one.accessed none;
         },
@@ -140,7 +140,7 @@ module _ (plan : Plan) (P : Program) (trees : List Node) where
         written = one.solved.written behind.0;
         values = values_of f;
         verdicts = verdicts_of f;
-        solves = subst (λ (p : Option ℕ). Solves box_abstraction one.solved.result (values_of f) (verdicts_of f) p) behind.0 one.solved.solves;
+        solves = subst (λ (p : Option ℕ). IsSolution box_abstraction one.solved.result (values_of f) (verdicts_of f) p) behind.0 one.solved.solves;
         inside = told_in f;
         judged = behind.1;
       })

@@ -3,7 +3,7 @@ use Rattle.std.proofs.Common.{◌≡◌, ◌∙◌, ◌+◌, ◌≤◌, ◌<◌,
 use Rattle.std.proofs.Common.{ap, sym, subst, arith}
 use Rattle.lra_box.specs.Content.{BoxContent}
 use Rattle.lra_box.specs.Tables.{bound_at}
-use Rattle.lra_iter.specs.declared.tables.Note.{Note}
+use Rattle.lra_fixpoint.specs.declared.tables.Note.{Note}
 use Rattle.lra_rounds.specs.declared.growth.Growth.TheVariants.{Join}
 use Rattle.lra_rounds.specs.Intervals.{Row, grown_option, no_values, updated}
 use Rattle.lra_rounds.specs.Telling.{taken_all, written_by}

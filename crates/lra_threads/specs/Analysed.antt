@@ -9,12 +9,12 @@ use Rattle.lra_program.specs.declared.program.GlobalVariable.{GlobalVariable}
 use Rattle.lra_operations.specs.Tree.{Node}
 use Rattle.lra_operations.specs.TreeViews.{node_view}
 use Rattle.lra_operations.specs.declared.tree.InlinedProgram.{InlinedProgram}
-use Rattle.lra_flow.specs.Accesses.{JudgesAccesses}
-use Rattle.lra_flow.specs.Opened.{opened}
-use Rattle.lra_flow.specs.Operations.{dropping}
-use Rattle.lra_flow.specs.Plan.{Plan}
-use Rattle.lra_iter.specs.Lives.{AreWide, NotesHave}
-use Rattle.lra_iter.specs.Solved.{IsSolvedAmong}
+use Rattle.lra_analysis_spec.specs.Accesses.{JudgesAccesses}
+use Rattle.lra_analysis_spec.specs.Instrumented.{instrumented}
+use Rattle.lra_analysis_spec.specs.Operations.{lossy_operations}
+use Rattle.lra_analysis_spec.specs.Plan.{Plan}
+use Rattle.lra_fixpoint.specs.Lives.{AreWide, NotesHave}
+use Rattle.lra_fixpoint.specs.Solved.{IsSolvedUnder}
 use Rattle.lra_threads.specs.declared.found.ThreadFound.{ThreadFound}
 use Rattle.lra_threads.specs.Found.{sites_in, values_of, verdicts_of, notes_of, told_in, flag_of_thread, HoldsOf}
 
@@ -24,15 +24,16 @@ use Rattle.lra_threads.specs.Found.{sites_in, values_of, verdicts_of, notes_of, 
 pub record IsAnalysed (plan : Plan) (globals : List GlobalVariable) (graph : InlinedProgram)
     (o : Interference BoxContent)
     (f : ThreadFound) : Type 0 where
-  pub solved : (P : Program) → P.globals ≡ globals → IsSolvedAmong o box_abstraction plan P (node_view graph.tree)
+  pub solved : (P : Program) → P.globals ≡ globals → IsSolvedUnder o box_abstraction plan P (node_view graph.tree)
       (values_of f) (notes_of f) (verdicts_of f) f.noted.solution.flagged
-  pub sound : (P : Program) (g : Node) → P.globals ≡ globals → node_view graph.tree ≡ opened (length P.globals) g →
+  pub sound : (P : Program) (g : Node) → P.globals ≡ globals →
+      node_view graph.tree ≡ instrumented (length P.globals) g →
       HoldsOf o P g f
   pub wide : AreWide box_abstraction (sites_in graph) (values_of f)
   pub notes : NotesHave box_abstraction (notes_of f)
   pub points : length (values_of f) ≡ length graph.sites.items
   pub assertions : map (λ v. v.0) (verdicts_of f) ≡ map (λ a. a.0) (assertions_from 0 (sites_in graph))
-  pub accessed : JudgesAccesses box_abstraction (dropping box_abstraction) (node_view graph.tree) (values_of f)
+  pub accessed : JudgesAccesses box_abstraction (lossy_operations box_abstraction) (node_view graph.tree) (values_of f)
       f.noted.solution.flagged (told_in f) (flag_of_thread f)
 
 -- of the k-th thread

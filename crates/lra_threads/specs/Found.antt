@@ -13,23 +13,23 @@ use Rattle.lra_operations.specs.CheckedOperations.{accessing_ops}
 use Rattle.lra_operations.specs.Tree.{Node}
 use Rattle.lra_operations.specs.TreeViews.{node_view, site_view}
 use Rattle.lra_operations.specs.declared.tree.InlinedProgram.{InlinedProgram}
-use Rattle.lra_flow.specs.Accesses.{JudgesAccesses}
-use Rattle.lra_flow.specs.Analysis.{Solves}
-use Rattle.lra_flow.specs.Among.{WrittenAmong, StrainsAmong}
-use Rattle.lra_flow.specs.Opened.{opened}
-use Rattle.lra_flow.specs.Operations.{defined, dropping, straining}
-use Rattle.lra_flow.specs.Pass.{given, Result}
-use Rattle.lra_flow.specs.Plan.{Plan}
-use Rattle.lra_flow.specs.Room.{most_live}
-use Rattle.lra_outcomes.specs.Fits.{TreeFits}
-use Rattle.lra_iter.specs.Numbers.{IsNumbered}
-use Rattle.lra_iter.specs.Lives.{PointsHave}
-use Rattle.lra_iter.specs.Solved.{IsSolvedAmong}
-use Rattle.lra_iter.specs.Among.{HoldsAmong}
-use Rattle.lra_iter.specs.Tables.{note_view}
-use Rattle.lra_iter.specs.declared.tables.Note.{Note}
-use Rattle.lra_fits.specs.Judged.{AreBelow}
-use Rattle.lra_inside.specs.Inside.{told_view}
+use Rattle.lra_analysis_spec.specs.Accesses.{JudgesAccesses}
+use Rattle.lra_analysis_spec.specs.Analysis.{IsSolution}
+use Rattle.lra_analysis_spec.specs.UnderInterference.{ExactIterationUnder, StrainsUnder}
+use Rattle.lra_analysis_spec.specs.Instrumented.{instrumented}
+use Rattle.lra_analysis_spec.specs.Operations.{exact_operations, lossy_operations, straining_operations}
+use Rattle.lra_analysis_spec.specs.Pass.{recorded, PassResult}
+use Rattle.lra_analysis_spec.specs.Plan.{Plan}
+use Rattle.lra_analysis_spec.specs.LiveLimit.{most_live}
+use Rattle.lra_pass_results.specs.Dimensions.{TreeFits}
+use Rattle.lra_fixpoint.specs.Numbers.{IsNumbered}
+use Rattle.lra_fixpoint.specs.Lives.{PointsHave}
+use Rattle.lra_fixpoint.specs.Solved.{IsSolvedUnder}
+use Rattle.lra_fixpoint.specs.UnderInterference.{HoldsUnder}
+use Rattle.lra_fixpoint.specs.Tables.{note_view}
+use Rattle.lra_fixpoint.specs.declared.tables.Note.{Note}
+use Rattle.lra_overflow_checks.specs.Judged.{AreBelow}
+use Rattle.lra_bounds_checks.specs.BoundsChecks.{reported_view}
 use Rattle.lra_rounds.specs.Rounds.{Finding}
 use Rattle.lra_threads.specs.declared.found.ThreadFound.{ThreadFound}
 
@@ -52,7 +52,8 @@ pub record AreReady (plan : Plan) (globals : List GlobalVariable) (graphs : List
 
 -- each graph's tree is one of these, the threads' own trees, opened
 abbrev pub AreOpened : ℕ → List Node → List InlinedProgram → Type 0
-AreOpened globals trees graphs = map (λ (x : InlinedProgram). node_view x.tree) graphs ≡ map (opened globals) trees
+AreOpened globals trees graphs =
+    map (λ (x : InlinedProgram). node_view x.tree) graphs ≡ map (instrumented globals) trees
 
 -- what is found of a thread -----------------------------------------------------------------------------------------
 
@@ -68,7 +69,7 @@ notes_of f = map note_view f.noted.notes.items
 
 -- what is told of accesses, point by point
 abbrev pub told_in : ThreadFound → List (ℕ × List (Place × Bool))
-told_in f = map told_view f.inside.verdicts.items
+told_in f = map reported_view f.inside.verdicts.items
 
 -- the first flag: of the iteration, before those of accesses
 abbrev pub flag_of_thread : ThreadFound → Option ℕ
@@ -86,13 +87,14 @@ thread_finding = record { notes = gifts_in; flag = flag_of_thread }
 
 -- it holds in all runs of this tree among these others
 abbrev pub HoldsOf : Interference BoxContent → Program → Node → ThreadFound → Type 0
-HoldsOf o P g f = HoldsAmong o box_abstraction P g (values_of f) (notes_of f) (verdicts_of f)
+HoldsOf o P g f = HoldsUnder o box_abstraction P g (values_of f) (notes_of f) (verdicts_of f)
 
 -- The iteration over the opened tree, and what is judged of the accesses of this tree by the values that it leaves.
 pub record IsFound (o : Interference BoxContent) (plan : Plan) (P : Program) (g : Node) (f : ThreadFound) : Type 0 where
-  pub solved : IsSolvedAmong o box_abstraction plan P (opened (length P.globals) g) (values_of f) (notes_of f)
+  pub solved : IsSolvedUnder o box_abstraction plan P (instrumented (length P.globals) g) (values_of f) (notes_of f)
       (verdicts_of f) f.noted.solution.flagged
-  pub accessed : JudgesAccesses box_abstraction (dropping box_abstraction) g (values_of f) f.noted.solution.flagged
+  pub accessed : JudgesAccesses box_abstraction (lossy_operations box_abstraction) g (values_of f)
+      f.noted.solution.flagged
       (told_in f) (flag_of_thread f)
 
 -- of the k-th thread, of which this is its own tree
@@ -104,27 +106,28 @@ IsFoundOf plan P trees k o f = (g : Node) × (slice_get trees k ≡ Some g) × I
 -- what is found is that of the written iteration, and of accesses judged by what it leaves
 pub record IsWritten (o : Interference BoxContent) (plan : Plan) (P : Program) (g : Node) (f : ThreadFound) : Type 0
   where
-    pub result : Result BoxContent
-    pub written : WrittenAmong o box_abstraction plan P (opened (length P.globals) g) result
-    pub solves : Solves box_abstraction result (values_of f) (verdicts_of f) None
+    pub result : PassResult BoxContent
+    pub written : ExactIterationUnder o box_abstraction plan P (instrumented (length P.globals) g) result
+    pub solves : IsSolution box_abstraction result (values_of f) (verdicts_of f) None
     pub noted : (q place : ℕ) (v : BoxContent) →
-        Contains (notes_of f) (q, place, v) ↔ Contains result.entries (given q place v)
-    pub accessed : JudgesAccesses box_abstraction (defined box_abstraction) g (values_of f) None (told_in f) None
+        Contains (notes_of f) (q, place, v) ↔ Contains result.entries (recorded q place v)
+    pub accessed : JudgesAccesses box_abstraction (exact_operations box_abstraction) g (values_of f) None (told_in f)
+        None
 
 abbrev pub IsWrittenOf : Plan → Program → List Node → ℕ → Interference BoxContent → ThreadFound → Type 0
 IsWrittenOf plan P trees k o f = (g : Node) × (slice_get trees k ≡ Some g) × IsWritten o plan P g f
 
 -- an access that is judged by what the written iteration leaves strains at the point q
 pub record StrainsInAccess (o : Interference BoxContent) (plan : Plan) (P : Program) (g : Node) (q : ℕ) : Type 0 where
-  pub result : Result BoxContent
-  pub written : WrittenAmong o box_abstraction plan P (opened (length P.globals) g) result
+  pub result : PassResult BoxContent
+  pub written : ExactIterationUnder o box_abstraction plan P (instrumented (length P.globals) g) result
   pub values : List BoxContent
   pub verdicts : List (ℕ × Bool)
-  pub solves : Solves box_abstraction result values verdicts None
+  pub solves : IsSolution box_abstraction result values verdicts None
   pub inside : List (ℕ × List (Place × Bool))
-  pub judged : JudgesAccesses box_abstraction (straining box_abstraction) g values None inside (Some q)
+  pub judged : JudgesAccesses box_abstraction (straining_operations box_abstraction) g values None inside (Some q)
 
 -- the written iteration over the k-th thread strains there, or judging its accesses behind it
 abbrev pub StrainsAt : Plan → Program → List Node → ℕ → Interference BoxContent → ℕ → Type 0
 StrainsAt plan P trees k o q = (g : Node) × (slice_get trees k ≡ Some g) ×
-    (StrainsAmong o box_abstraction plan P (opened (length P.globals) g) q ⊎ StrainsInAccess o plan P g q)
+    (StrainsUnder o box_abstraction plan P (instrumented (length P.globals) g) q ⊎ StrainsInAccess o plan P g q)

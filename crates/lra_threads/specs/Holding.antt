@@ -6,13 +6,13 @@ use Rattle.lra_program.specs.declared.program.GlobalVariable.{GlobalVariable}
 use Rattle.lra_operations.specs.Tree.{Node}
 use Rattle.lra_operations.specs.TreeViews.{node_view}
 use Rattle.lra_operations.specs.declared.tree.InlinedProgram.{InlinedProgram}
-use Rattle.lra_flow.specs.Accesses.{JudgesAccesses}
-use Rattle.lra_flow.specs.Opened.{opened}
-use Rattle.lra_flow.specs.Operations.{dropping}
-use Rattle.lra_flow.specs.Plan.{Plan}
+use Rattle.lra_analysis_spec.specs.Accesses.{JudgesAccesses}
+use Rattle.lra_analysis_spec.specs.Instrumented.{instrumented}
+use Rattle.lra_analysis_spec.specs.Operations.{lossy_operations}
+use Rattle.lra_analysis_spec.specs.Plan.{Plan}
 use Rattle.lra_box.specs.Abstraction.{box_abstraction}
-use Rattle.lra_iter.specs.Lives.{AreWide, NotesHave}
-use Rattle.lra_iter.specs.Solved.{IsSolvedAmong}
+use Rattle.lra_fixpoint.specs.Lives.{AreWide, NotesHave}
+use Rattle.lra_fixpoint.specs.Solved.{IsSolvedUnder}
 use Rattle.lra_rounds.specs.Intervals as intervals
 use Rattle.lra_rounds.specs.Intervals.{TableWithin, empty_table}
 use Rattle.lra_rounds.specs.Telling.{others_of}
@@ -30,7 +30,7 @@ pub record HoldsInRound (P : Program) (k : ℕ) (graph : InlinedProgram) (g : No
   where
     pub found : ThreadFound
     pub is_found : slice_get end.found k ≡ Some found
-    pub solved : (plan : Plan) × IsSolvedAmong (others_of (length P.globals) k end.table) box_abstraction plan P
+    pub solved : (plan : Plan) × IsSolvedUnder (others_of (length P.globals) k end.table) box_abstraction plan P
         (node_view graph.tree) (values_of found) (notes_of found) (verdicts_of found) found.noted.solution.flagged
     pub holds : HoldsOf (others_of (length P.globals) k end.table) P g found
     pub wide : AreWide box_abstraction (sites_in graph) (values_of found)
@@ -38,7 +38,7 @@ pub record HoldsInRound (P : Program) (k : ℕ) (graph : InlinedProgram) (g : No
     pub points : length (values_of found) ≡ length (sites_in graph)
     pub assertions : map (λ v. v.0) (verdicts_of found) ≡ map (λ a. a.0) (assertions_from 0 (sites_in graph))
     pub inside : (before : Option ℕ)
-        × JudgesAccesses box_abstraction (dropping box_abstraction) g (values_of found) before
+        × JudgesAccesses box_abstraction (lossy_operations box_abstraction) g (values_of found) before
         (told_in found) (flag_of_thread found)
 
 -- the round that settles: nothing is written that isn't in the table, which has an interval for each thread and global;
@@ -50,7 +50,7 @@ pub record AllHold (globals : List GlobalVariable) (graphs : List InlinedProgram
     pub table : length end.table ≡ length graphs
     pub wide : intervals.AreWide (length globals) end.table
     pub each : (P : Program) (k : ℕ) (graph : InlinedProgram) (g : Node) → P.globals ≡ globals →
-        slice_get graphs k ≡ Some graph → node_view graph.tree ≡ opened (length P.globals) g →
+        slice_get graphs k ≡ Some graph → node_view graph.tree ≡ instrumented (length P.globals) g →
         HoldsInRound P k graph g end
 
 -- Without a flag all rounds are those of the written iterations and of accesses judged by what these leave. A first

@@ -10,8 +10,8 @@ ghost use Rattle.lra_threads.specs.Analysed.{IsAnalysedOf};
 ghost use Rattle.lra_threads.specs.Holding.{AllHold, AreFlagged};
 
 use crate::found::ThreadFound;
-use lra_inside::judge_accesses;
-use lra_iter::{Plan, analyse_with};
+use lra_bounds_checks::judge_accesses;
+use lra_fixpoint::{Plan, analyse_with};
 use lra_operations::InlinedProgram;
 use lra_program::GlobalVariable;
 use lra_rounds::{Intervals, SettledRound, Threads, settle};

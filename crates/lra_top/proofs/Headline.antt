@@ -9,9 +9,9 @@ use Rattle.lra_options.specs.declared.options.Domain.TheVariants.{Poly}
 use Rattle.lra_options.specs.declared.options.Options.{Options}
 use Rattle.lra_domain.specs.Abstraction.{Abstraction}
 use Rattle.lra_program.specs.Program.{Program}
-use Rattle.lra_flow.specs.Analysis.{Solves}
-use Rattle.lra_flow.specs.Operations.{dropping}
-use Rattle.lra_flow.specs.Fits.{Judges, JudgesIf}
+use Rattle.lra_analysis_spec.specs.Analysis.{IsSolution}
+use Rattle.lra_analysis_spec.specs.Operations.{lossy_operations}
+use Rattle.lra_analysis_spec.specs.Fits.{Judges, JudgesIf}
 use Rattle.lra_operations.specs.Tree.{Node}
 use Rattle.lra_report_build.specs.AnalysisResults.{reported_all, reported_of}
 use Rattle.lra_source.proofs.OneReport.{unflagged_behind, unflagged_first}
@@ -71,7 +71,7 @@ tells_written m shown o constants P r free x =
       written = x.written none;
       values = x.values;
       verdicts = x.verdicts;
-      solves = subst (λ (f : Option ℕ). Solves m x.result x.values x.verdicts f) none x.solves;
+      solves = subst (λ (f : Option ℕ). IsSolution m x.result x.values x.verdicts f) none x.solves;
       states = x.states;
       are_shown = x.are_shown;
       fitting = x.fitting;
@@ -129,14 +129,14 @@ tells_accesses o bytes r a = record {
 judges_so : {V H : Type 0} (m : Abstraction V H) (b : Bool) (g : Node) (values : List V) (flagged : Option ℕ) (fitting : List (ℕ × Bool)) (behind : Option ℕ) →
     b ≡
     true
-    → JudgesIf m (dropping m) b g values flagged fitting behind → Judges m (dropping m) g values flagged fitting behind
+    → JudgesIf m (lossy_operations m) b g values flagged fitting behind → Judges m (lossy_operations m) g values flagged fitting behind
 judges_so m true g values flagged fitting behind is j = j
 judges_so m false g values flagged fitting behind is j = absurd (let wrong : ⊥ = cc in wrong)
 
 judges_none : {V H : Type 0} (m : Abstraction V H) (b : Bool) (g : Node) (values : List V) (flagged : Option ℕ) (fitting : List (ℕ × Bool)) (behind : Option ℕ)
     → b
     ≡ false
-    → JudgesIf m (dropping m) b g values flagged fitting behind → fitting ≡ []
+    → JudgesIf m (lossy_operations m) b g values flagged fitting behind → fitting ≡ []
 judges_none m true g values flagged fitting behind is j = absurd (let wrong : ⊥ = cc in wrong)
 judges_none m false g values flagged fitting behind is j = j.0
 

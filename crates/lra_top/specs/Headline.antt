@@ -19,12 +19,12 @@ use Rattle.lra_operations.specs.Agree.{IsInlinedTree, point_of}
 use Rattle.lra_linear_spec.specs.Descriptions.{LinearRow, Con}
 use Rattle.lra_domain.specs.Abstraction.{Abstraction}
 use Rattle.lra_front_end.specs.Stages.{HasConstants}
-use Rattle.lra_flow.specs.Plan.{plan_of}
-use Rattle.lra_flow.specs.Pass.{Result}
-use Rattle.lra_flow.specs.Analysis.{Written, Solves}
-use Rattle.lra_flow.specs.Operations.{defined, dropping}
-use Rattle.lra_flow.specs.Fits.{Judges, JudgesIf}
-use Rattle.lra_flow.specs.Accesses.{JudgesAccesses}
+use Rattle.lra_analysis_spec.specs.Plan.{plan_of}
+use Rattle.lra_analysis_spec.specs.Pass.{PassResult}
+use Rattle.lra_analysis_spec.specs.Analysis.{ExactIteration, IsSolution}
+use Rattle.lra_analysis_spec.specs.Operations.{exact_operations, lossy_operations}
+use Rattle.lra_analysis_spec.specs.Fits.{Judges, JudgesIf}
+use Rattle.lra_analysis_spec.specs.Accesses.{JudgesAccesses}
 use Rattle.lra_report.specs.Report.{Invariant, PointReport, Report, IsRight, IsSound}
 use Rattle.lra_report.specs.Parts.{HasSamePoints}
 use Rattle.lra_report.specs.ReportText.{unknown_count}
@@ -87,17 +87,17 @@ pub record TellsWritten {V H : Type 0} (m : Abstraction V H) (shown : V → Inva
     (P : Program) (r : Report) : Type 0 where
   pub tree : Node
   pub is_graph : IsInlinedTree P tree
-  pub result : Result V
-  pub written : Written m (plan_of o constants) P tree result
+  pub result : PassResult V
+  pub written : ExactIteration m (plan_of o constants) P tree result
   pub values : List V
   pub verdicts : List (ℕ × Bool)
-  pub solves : Solves m result values verdicts None
+  pub solves : IsSolution m result values verdicts None
   pub states : map (λ (p : PointReport). p.state) r.points ≡ map shown values
   pub are_shown : AreShown m o.domain shown values
   pub fitting : List (ℕ × Bool)
-  pub judged : JudgesIf m (defined m) o.fits tree values None fitting None
+  pub judged : JudgesIf m (exact_operations m) o.fits tree values None fitting None
   pub inside : List (ℕ × List (Place × Bool))
-  pub accessed : JudgesAccesses m (defined m) tree values None inside None
+  pub accessed : JudgesAccesses m (exact_operations m) tree values None inside None
   pub proved : map reported_of r.verdicts ≡ reported_all verdicts fitting inside
 
 -- where nothing is flagged, every value is the written iteration's, by the source's own constants
@@ -123,7 +123,7 @@ pub record TellsAccessing {V H : Type 0} (m : Abstraction V H) (shown : V → In
   pub behind : Option ℕ
   pub inside : List (ℕ × List (Place × Bool))
   pub last : Option ℕ
-  pub accessed : JudgesAccesses m (dropping m) tree values behind inside last
+  pub accessed : JudgesAccesses m (lossy_operations m) tree values behind inside last
   pub told : map reported_of r.verdicts ≡ reported_all verdicts fitting inside
   pub flag : r.flagged ≡ option_map suc last
 
@@ -140,7 +140,7 @@ pub record TellsFitting {V H : Type 0} (m : Abstraction V H) (shown : V → Inva
     (r : Report) : Type 0 where
   pub beside : TellsAccessing m shown o P r
   pub flagged : Option ℕ
-  pub judged : Judges m (dropping m) beside.tree beside.values flagged beside.fitting beside.behind
+  pub judged : Judges m (lossy_operations m) beside.tree beside.values flagged beside.fitting beside.behind
 
 -- and where all of it fits no run stops there by a number; where it isn't asked for nothing is told of it
 pub record TellsFits (o : Options) (bytes : List ℕ) (r : Report) : Type 0 where

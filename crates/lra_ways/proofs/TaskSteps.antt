@@ -24,7 +24,7 @@ use Rattle.lra_operations.specs.declared.probes.Probe.{Probe}
 use Rattle.lra_operations.specs.declared.tree.Node.{the_lemmas as node_lemmas, Node-F, out-Node, roll-Node, roll-out-Node}
 use Rattle.lra_operations.specs.declared.tree.Node.TheVariants as at
 use Rattle.lra_operations.proofs.ArmViews.{entry_view, tree_view}
-use Rattle.lra_forms.proofs.TreeViews.{select_view, seq_view}
+use Rattle.lra_linearize.proofs.TreeViews.{select_view, seq_view}
 use Rattle.lra_ways.specs.Labels.{labels_in}
 use Rattle.lra_ways.specs.Ways.{Step, goes_in}
 use Rattle.lra_ways.specs.Stretches.{AreWays, Stretch, from_labels, labelled, nothing_done, past_all, selected, sequenced, stretches, stretches_of}

@@ -6,7 +6,7 @@ use Rattle.lra_program.specs.Step.{State}
 use Rattle.lra_operations.specs.TracesAgree.{KeepsWidth}
 use Rattle.lra_rounds.specs.Intervals.{Row, Table}
 use Rattle.lra_rounds.specs.Telling.{MayGive, told_to, others_of, as_long}
-use Rattle.lra_among.specs.CoversAmong.{MayBecome}
+use Rattle.lra_interference_sound.specs.CoversUnder.{MayBecome}
 use Rattle.lra_interleavings.specs.ThreadModular.{RepeatedWrites, none, more, OthersWrite, AreAllowed}
 use Rattle.lra_woven.specs.Written.{HasNumber, HasWritten}
 use Rattle.lra_woven.proofs.TellsAll.{told_has}

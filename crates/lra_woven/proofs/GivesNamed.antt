@@ -8,7 +8,7 @@ use Rattle.lra_program.specs.Traces.{Trace}
 use Rattle.lra_operations.specs.Tree.{Node, empty, probe, point, act, check, seq, choose, iterate, catch, leave, select, Arms, no_arms, entry, arm}
 use Rattle.lra_operations.specs.Traces.{to_end, RunsUpTo, TrailRounds}
 use Rattle.lra_operations.proofs.TraceUses.{renamed, goes_named}
-use Rattle.lra_flow.specs.Opened as opened
+use Rattle.lra_analysis_spec.specs.Instrumented as opened
 
 -- past a loop's point and its test; and once round it
 abbrev tested : ℕ → ℕ → Cond → Node
@@ -22,10 +22,10 @@ module _ {A B : Type 0} (f : A → B) (name : ℕ → A) (may : State → State 
   R g a b = RunsUpTo (λ q. f (name q)) may g a to_end b
 
   abbrev Given : Node → Trace B → ℕ → ℕ → Trace B → Type 0
-  Given g a p x b = opened.Gives (λ q. f (name q)) may g a p x b
+  Given g a p x b = opened.WritesVariable (λ q. f (name q)) may g a p x b
 
   abbrev GivenArms : CaseLabel → Bool → Arms → Trace B → ℕ → ℕ → Trace B → Type 0
-  GivenArms l met arms a p x b = opened.ArmsGive (λ q. f (name q)) may l met arms a p x b
+  GivenArms l met arms a p x b = opened.ArmsWriteVariable (λ q. f (name q)) may l met arms a p x b
 
   -- the trail in the points' own names
   abbrev Named : (Trace A → Type 0) → Trace B → Type 0
@@ -41,7 +41,7 @@ module _ {A B : Type 0} (f : A → B) (name : ℕ → A) (may : State → State 
       (e, (d, r', o'), j)
 
   mutual
-    pub gives_named : (g : Node) (a : Trace A) (p x : ℕ) (b : Trace B) → Given g (renamed f a) p x b → Named (λ d. opened.Gives name may g a p x d) b
+    pub gives_named : (g : Node) (a : Trace A) (p x : ℕ) (b : Trace B) → Given g (renamed f a) p x b → Named (λ d. opened.WritesVariable name may g a p x d) b
     gives_named empty a p x b y = absurd y
     gives_named (point q) a p x b y = absurd y
     gives_named (probe here what) a p x b y = absurd y
@@ -75,7 +75,7 @@ module _ {A B : Type 0} (f : A → B) (name : ℕ → A) (may : State → State 
         (v, (l, d, (s, refl), y'), j)
 
     arms_named : (l : CaseLabel) (met : Bool) (arms : Arms) (a : Trace A) (p x : ℕ) (b : Trace B) → GivenArms l met arms (renamed f a) p x b
-        → Named (λ d. opened.ArmsGive name may l met arms a p x d) b
+        → Named (λ d. opened.ArmsWriteVariable name may l met arms a p x d) b
     arms_named l met no_arms a p x b y = absurd y
     arms_named l met (entry k arms) a p x b y = arms_named l (met || is_same_case l k) arms a p x b y
     arms_named l false (arm g arms) a p x b y = arms_named l false arms a p x b y

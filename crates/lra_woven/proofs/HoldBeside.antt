@@ -25,11 +25,11 @@ use Rattle.lra_inline_sound.proofs.Agreement.{traces_agree}
 use Rattle.lra_inline_sound.proofs.CheckedOperations.{trees_agree_on_accesses}
 use Rattle.lra_inline_sound.proofs.NextOperations.{strays}
 use Rattle.lra_inline_sound.proofs.DistinctSites.{distinct_sites}
-use Rattle.lra_flow.specs.Analysis.{IsUnreachable}
+use Rattle.lra_analysis_spec.specs.Analysis.{IsUnreachable}
 use Rattle.lra_rounds.specs.Telling.{others_of}
 use Rattle.lra_rounds.specs.Rounds.{Settled}
-use Rattle.lra_iter.specs.Among.{begins, GoesAmong}
-use Rattle.lra_iter.specs.Tables.{note_view}
+use Rattle.lra_fixpoint.specs.UnderInterference.{begins, RunsUnder}
+use Rattle.lra_fixpoint.specs.Tables.{note_view}
 use Rattle.lra_interleavings.specs.Interleavings.{thread_program, AtThread, FailsThread, OutOfBoundsThread}
 use Rattle.lra_interleavings.specs.ThreadModular.{NextOpIsThere, IsThreadModular}
 use Rattle.lra_gifts.specs.GiftsAgree.{TreeGives, TreesGiveWithin}
@@ -114,7 +114,7 @@ module _ (P : Program) (fs : List Function) (graphs : List InlinedProgram) (end 
 
     -- a run of the tree, by the numbers of points
     abbrev Followed : List ℤ → Stop → Trace Point → Type 0
-    Followed draws z a = (d : Trace ℕ) × GoesAmong (beside k) own t.tree draws z d × (a ≡ renamed (point_at (sites_of own)) d)
+    Followed draws z a = (d : Trace ℕ) × RunsUnder (beside k) own t.tree draws z d × (a ≡ renamed (point_at (sites_of own)) d)
 
     followed : (draws : List ℤ) (z : Stop) (a : Trace Point) → TreeRunsUpTo (may k) own t.tree draws z a → Followed draws z a
     followed draws z a goes = goes_named (point_at (sites_of own)) (λ n. n) (may k) t.tree (begins own draws) (stopped z) a goes
@@ -133,7 +133,7 @@ module _ (P : Program) (fs : List Function) (graphs : List InlinedProgram) (end 
 
     -- what becomes of where a run stands
     abbrev Stands : State → Type 0
-    Stands u = (draws : List ℤ) × (d : Trace ℕ) × GoesAmong (beside k) own t.tree draws (to_point q) d × may k d.state u
+    Stands u = (draws : List ℤ) × (d : Trace ℕ) × RunsUnder (beside k) own t.tree draws (to_point q) d × may k d.state u
 
     stands_by : (h : Function) (draws : List ℤ) (a : Trace Point) (u : State) → slice_get fs k ≡ Some h
         → Arrives (may k) (thread_program P h) draws (point_of s) a → may k a.state u → Stands u

@@ -11,11 +11,11 @@ use Rattle.lra_program.specs.Step.{State}
 use Rattle.lra_program.specs.Accesses.{op_accesses_any, OpOutOfBounds}
 use Rattle.lra_operations.specs.Tree.{Node}
 use Rattle.lra_operations.specs.CheckedOperations.{OpAtPoint, accessing_ops, HoldsAtPoint, AreOncePerPoint}
-use Rattle.lra_flow.specs.Operations.{dropping}
-use Rattle.lra_flow.specs.Accesses.{AskedInside, JudgesAccesses}
-use Rattle.lra_flow.specs.Judging.{answer_of}
-use Rattle.lra_flow.proofs.AccessesSound.{inside_never_stray}
-use Rattle.lra_flow.proofs.Covers.{Has}
+use Rattle.lra_analysis_spec.specs.Operations.{lossy_operations}
+use Rattle.lra_analysis_spec.specs.Accesses.{InsideAtPoint, JudgesAccesses}
+use Rattle.lra_analysis_spec.specs.Judging.{answer_of}
+use Rattle.lra_analysis_spec.proofs.AccessesSound.{inside_never_stray}
+use Rattle.lra_analysis_spec.proofs.Covers.{Has}
 
 -- what is told of accesses
 abbrev Told : Type 0
@@ -31,7 +31,7 @@ module _ (g : Node) (once : AreOncePerPoint op_accesses_any g) where
       same_Some a b (sym at ∙ ap (λ (n : ℕ). slice_get all n) (once x.0 y.0 a b at there same) ∙ there)
 
   pub inside_holds : {V H : Type 0} (m : Abstraction V H) → Laws m → (values : List V) (before : Option ℕ) (told : List (ℕ × Told)) (flagged : Option ℕ)
-      → JudgesAccesses m (dropping m) g values before told flagged → (q : ℕ) (js : Told) (n : ℕ) (place : Place)
+      → JudgesAccesses m (lossy_operations m) g values before told flagged → (q : ℕ) (js : Told) (n : ℕ) (place : Place)
       → Contains told (q, js) → slice_get js n ≡ Some (place, true)
       → (b : OpAtPoint) (v : V) (s : State) → Contains (accessing_ops None g) b → b.point ≡ q → slice_get values q ≡ Some v → Has m v s.store
       → HoldsAtPoint (λ op t. OpOutOfBounds op t n) b s → ⊥
@@ -40,7 +40,7 @@ module _ (g : Node) (once : AreOncePerPoint op_accesses_any g) where
       let (a, own, point, judged) = judges.is_asked j one in
       let same : a ≡ b = one_accessed a b own among (point ∙ ap (λ (p : ℕ × Told). p.0) is ∙ sym there) in
       let here : slice_get values b.point ≡ Some v = ap (λ (k : ℕ). slice_get values k) there ∙ found in
-      let so : AskedInside m (dropping m) values b js j.exactness =
-      subst (λ (x : OpAtPoint). AskedInside m (dropping m) values x js j.exactness) same
-      (subst (λ (ks : Told). AskedInside m (dropping m) values a ks j.exactness) (ap (λ (p : ℕ × Told). p.1) is) judged) in
+      let so : InsideAtPoint m (lossy_operations m) values b js j.exactness =
+      subst (λ (x : OpAtPoint). InsideAtPoint m (lossy_operations m) values x js j.exactness) same
+      (subst (λ (ks : Told). InsideAtPoint m (lossy_operations m) values a ks j.exactness) (ap (λ (p : ℕ × Told). p.1) is) judged) in
       inside_never_stray m laws values b js j.exactness v s n place here held.0 held.1 so inner outside

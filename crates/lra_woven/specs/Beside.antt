@@ -10,8 +10,8 @@ use Rattle.lra_operations.specs.Tree.{Node}
 use Rattle.lra_operations.specs.TreeViews.{node_view}
 use Rattle.lra_operations.specs.declared.tree.InlinedProgram.{InlinedProgram}
 use Rattle.lra_operations.specs.Agree.{IsInlinedTree, point_of}
-use Rattle.lra_flow.specs.Analysis.{IsUnreachable}
-use Rattle.lra_flow.specs.Opened.{opened}
+use Rattle.lra_analysis_spec.specs.Analysis.{IsUnreachable}
+use Rattle.lra_analysis_spec.specs.Instrumented.{instrumented}
 use Rattle.lra_box.specs.Content.{BoxContent}
 use Rattle.lra_box.specs.Abstraction.{box_abstraction}
 use Rattle.lra_rounds.specs.Rounds.{Settled}
@@ -53,7 +53,7 @@ pub record IsThread (P : Program) (f : Function) (graph : InlinedProgram) : Type
   pub well : IsWellFormed (thread_program P f)
   pub tree : Node
   pub is_graph : IsInlinedTree (thread_program P f) tree
-  pub opens : node_view graph.tree ≡ opened (length P.globals) tree
+  pub opens : node_view graph.tree ≡ instrumented (length P.globals) tree
 
 -- a graph for each function
 abbrev pub AreThreads : Program → List Function → List InlinedProgram → Type 0

@@ -6,7 +6,7 @@ use Rattle.lra_operations.specs.declared.tree.Parts.TheVariants as parts
 use Rattle.lra_operations.specs.TreeViews.{node_view}
 use Rattle.lra_operations.specs.Parts.{whole_of}
 use Rattle.lra_operations.specs.Sizes.{whole_size}
-use Rattle.lra_flow.specs.Opened.{opened}
+use Rattle.lra_analysis_spec.specs.Instrumented.{instrumented}
 use Rattle.lra_opened.specs.declared.places.Place.TheVariants.{First, Body, Catch}
 use Rattle.lra_opened.specs.Opening.{around}
 use Rattle.lra_opened.proofs.OpenPlaces.{leaf_leads, parts_lead, select_leads}
@@ -43,7 +43,7 @@ returns-in-Choose c =
     let place = First c.in-Choose.point c.in-Choose.base c.in-Choose.condition c.in-Choose.no in
     parts_lead c.open_in.result n c.args.places.now.items c.open_in.new.places.items
     (parts.Choose c.in-Choose.point c.in-Choose.base c.in-Choose.condition c.in-Choose.yes c.in-Choose.no) c.args.tree _ _
-    (ap whole_of (sym c.in-Choose.is) ∙ c.into_parts.ensures) (ap (λ (x : Node). around n place (opened n (node_view x))) c.into_inner.ensures)
+    (ap whole_of (sym c.in-Choose.is) ∙ c.into_parts.ensures) (ap (λ (x : Node). around n place (instrumented n (node_view x))) c.into_inner.ensures)
     (omega (arith, ap whole_size c.into_inner.ensures)) (c.open_in.ensures n)
 
 pub returns-in-Iterate : goal.returns-in-Iterate
@@ -52,7 +52,8 @@ returns-in-Iterate c =
     let place = Body c.in-Iterate.point c.in-Iterate.base c.in-Iterate.condition in
     parts_lead c.open_in-in-Iterate.result n c.args.places.now.items c.open_in-in-Iterate.new.places.items
     (parts.Iterate c.in-Iterate.point c.in-Iterate.base c.in-Iterate.condition c.in-Iterate.body) c.args.tree _ _
-    (ap whole_of (sym c.in-Iterate.is) ∙ c.into_parts.ensures) (ap (λ (x : Node). around n place (opened n (node_view x))) c.into_inner-in-Iterate.ensures)
+    (ap whole_of (sym c.in-Iterate.is) ∙ c.into_parts.ensures)
+    (ap (λ (x : Node). around n place (instrumented n (node_view x))) c.into_inner-in-Iterate.ensures)
     (omega (arith, ap whole_size c.into_inner-in-Iterate.ensures)) (c.open_in-in-Iterate.ensures n)
 
 pub returns-in-Catch : goal.returns-in-Catch
@@ -61,7 +62,7 @@ returns-in-Catch c =
     let place = Catch c.in-Catch.point c.in-Catch.exit in
     parts_lead c.open_in-in-Catch.result n c.args.places.now.items c.open_in-in-Catch.new.places.items
     (parts.Catch c.in-Catch.point c.in-Catch.exit c.in-Catch.body) c.args.tree _ _
-    (ap whole_of (sym c.in-Catch.is) ∙ c.into_parts.ensures) (ap (λ (x : Node). around n place (opened n (node_view x))) c.into_inner-in-Catch.ensures)
+    (ap whole_of (sym c.in-Catch.is) ∙ c.into_parts.ensures) (ap (λ (x : Node). around n place (instrumented n (node_view x))) c.into_inner-in-Catch.ensures)
     (omega (arith, ap whole_size c.into_inner-in-Catch.ensures)) (c.open_in-in-Catch.ensures n)
 
 pub returns-in-Select : goal.returns-in-Select

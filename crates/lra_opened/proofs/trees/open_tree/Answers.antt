@@ -1,13 +1,13 @@
 -- Goals of `open_tree`: what is next, in the places that are open, becomes the whole tree.
 use Rattle.std.proofs.Common.{◌∙◌, ap, subst}
 use Rattle.lra_operations.specs.TreeViews.{node_view}
-use Rattle.lra_flow.specs.Opened.{opened}
+use Rattle.lra_analysis_spec.specs.Instrumented.{instrumented}
 use Rattle.lra_opened.specs.Opening.{all_around}
 use Rattle.lra_opened.specs.StepsLeft.{Reaches}
 use Rattle.lra_opened.proofs.trees.open_tree.Goals as goal
 
 pub steps-init : goal.steps-init
-steps-init c = ap (λ ps. all_around c.args.globals ps (opened c.args.globals (node_view c.args.tree))) c.new-places.ensures.items
+steps-init c = ap (λ ps. all_around c.args.globals ps (instrumented c.args.globals (node_view c.args.tree))) c.new-places.ensures.items
 
 pub steps-preserved : goal.steps-preserved
 steps-preserved c =

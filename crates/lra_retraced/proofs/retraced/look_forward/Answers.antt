@@ -2,7 +2,7 @@
 use Rattle.std.proofs.Common.{map}
 use Rattle.lra_syntax.specs.Views.{tree_view}
 use Rattle.lra_operations.specs.TreeViews.{node_view, site_view}
-use Rattle.lra_inside.specs.Inside.{told_view}
+use Rattle.lra_bounds_checks.specs.BoundsChecks.{reported_view}
 use Rattle.lra_poly_domain.specs.Laws.{polyhedron_laws}
 use Rattle.lra_poly_domain.specs.Abstraction.{polyhedron_abstraction}
 use Rattle.lra_source.proofs.ReportSteps.{accessed_handed, few_dims}
@@ -30,7 +30,7 @@ returns-clause-forward c =
     let solution = c.in_ok-solution.solution in
     is_forward (tree_view c.args.front.now.tree) (node_view c.args.front.now.graph.tree) (map site_view c.args.front.now.graph.sites.items) c.requires.graph
     c.args.front.now.constants.items solution.values.items solution.verdicts.items solution.flagged c.in_ok-solution.ensures
-    (map told_view c.in_ok-inside.inside.verdicts.items) c.in_ok-inside.inside.flagged (rw c.deref.ensures.value at c.in_ok-inside.ensures)
+    (map reported_view c.in_ok-inside.inside.verdicts.items) c.in_ok-inside.inside.flagged (rw c.deref.ensures.value at c.in_ok-inside.ensures)
 
 pub returns-clause-wide : goal.returns-clause-wide
 returns-clause-wide c =
@@ -44,4 +44,4 @@ returns-clause-flag c = λ q is.
     listed_number c.args.front.now.graph.sites.items q
     (flag_there (tree_view c.args.front.now.tree) (node_view c.args.front.now.graph.tree) (map site_view c.args.front.now.graph.sites.items) c.requires.graph
     c.args.front.now.constants.items solution.values.items solution.verdicts.items solution.flagged c.in_ok-solution.ensures
-    (map told_view c.in_ok-inside.inside.verdicts.items) c.in_ok-inside.inside.flagged (rw c.deref.ensures.value at c.in_ok-inside.ensures) q is)
+    (map reported_view c.in_ok-inside.inside.verdicts.items) c.in_ok-inside.inside.flagged (rw c.deref.ensures.value at c.in_ok-inside.ensures) q is)

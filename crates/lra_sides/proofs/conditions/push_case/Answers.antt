@@ -1,6 +1,6 @@
 -- Goals of `push_case`: the end stands where it stood.
 use Rattle.lra_domain.specs.Changes.{actions_of}
-use Rattle.lra_flow.specs.MovesOf.{in_turn}
+use Rattle.lra_analysis_spec.specs.MovesOf.{in_turn}
 use Rattle.lra_sides.proofs.TableSteps.{within}
 use Rattle.lra_sides.proofs.GuardSteps.{still_in, case_has}
 use Rattle.lra_sides.proofs.conditions.push_case.Goals as goal

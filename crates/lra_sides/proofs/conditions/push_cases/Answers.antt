@@ -2,7 +2,7 @@
 use Rattle.lra_domain.specs.Actions.{remove_last}
 use Rattle.lra_domain.specs.Changes.{action_of, actions_of}
 use Rattle.lra_domain.specs.Moves.{make, first_then}
-use Rattle.lra_flow.specs.MovesOf.{first_case, in_turn, second_case}
+use Rattle.lra_analysis_spec.specs.MovesOf.{first_case, in_turn, second_case}
 use Rattle.lra_sides.specs.Tables.{moves_at}
 use Rattle.lra_sides.proofs.TableSteps.{within}
 use Rattle.lra_sides.proofs.GuardSteps.{cases_have, grows_on, grows_to}

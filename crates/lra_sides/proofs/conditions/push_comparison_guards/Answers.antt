@@ -1,6 +1,6 @@
 -- Goals of `push_comparison_guards`: what is seen of the difference fits.
 use Rattle.std.proofs.Common.{refl}
-use Rattle.lra_change.proofs.ChangeSteps.{difference_fits}
+use Rattle.lra_transfer.proofs.ChangeSteps.{difference_fits}
 use Rattle.lra_program.specs.ProgramViews.{expr_view}
 use Rattle.lra_sides.proofs.conditions.push_comparison_guards.Goals as goal
 

@@ -1,4 +1,4 @@
-use Rattle.lra_forms.proofs.CondSizes.{cond_size, chain_size}
+use Rattle.lra_linearize.proofs.CondSizes.{cond_size, chain_size}
 use Rattle.std.proofs.Common.{◌+◌, ◌*◌, length}
 use Rattle.lra_sides.specs.Tables.{Grows, IsTable}
 use Rattle.lra_sides.proofs.ChainSteps.{IsJoinedBack}

@@ -1,6 +1,6 @@
 -- Goals of `push_number`: the comparison of what is seen with the number.
 use Rattle.std.proofs.Common.{refl}
-use Rattle.lra_change.proofs.ChangeSteps.{number_fits}
+use Rattle.lra_transfer.proofs.ChangeSteps.{number_fits}
 use Rattle.lra_sides.proofs.LabelSteps.{number_has}
 use Rattle.lra_base.specs.OperatorViews.{comparison_view}
 use Rattle.lra_sides.proofs.selections.push_number.Goals as goal

@@ -1,7 +1,7 @@
 -- Goals of `analyse_over`: the report of a source over a domain that shows its values as the options name it, or
 -- its one refusal.
 use Rattle.std.proofs.Common.{ap, ◌∙◌}
-use Rattle.lra_flow.specs.Plan.{plan_of}
+use Rattle.lra_analysis_spec.specs.Plan.{plan_of}
 use Rattle.lra_syntax.specs.Views.{tree_view}
 use Rattle.lra_report.specs.View.{report_of}
 use Rattle.lra_source.proofs.StageSteps.{is_answered}

@@ -3,7 +3,7 @@ use Rattle.std.proofs.Common.{◌≡◌, map, length, ap, ◌∙◌, arith}
 use Rattle.std.proofs.lemmas.List.{length-map}
 use Rattle.lra_syntax.specs.Views.{tree_view}
 use Rattle.lra_operations.specs.TreeViews.{node_view, site_view}
-use Rattle.lra_flow.specs.Plan.{plan_of}
+use Rattle.lra_analysis_spec.specs.Plan.{plan_of}
 use Rattle.lra_report.specs.View.{report_of}
 use Rattle.lra_report_build.specs.Views.{reported_view}
 use Rattle.lra_source.proofs.ReportSteps.{few_points, tells_solution}

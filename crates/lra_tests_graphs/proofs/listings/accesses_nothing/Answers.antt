@@ -2,7 +2,7 @@
 use Rattle.std.proofs.Common.{◌≡◌, ◌∙◌, length, map, ap, arith}
 use Rattle.std.proofs.lemmas.Grind.{common_steps}
 use Rattle.lra_operations.specs.TreeViews.{node_view}
-use Rattle.lra_doings.specs.Doings.{done_view}
+use Rattle.lra_operations_list.specs.TreeOperations.{op_at_point_view}
 use Rattle.lra_tests_graphs.proofs.Silent.{silent_more, silent_tree, none_listed}
 use Rattle.lra_tests_graphs.proofs.listings.accesses_nothing.Goals as goal
 
@@ -20,4 +20,4 @@ doings-preserved c =
 pub returns : goal.returns
 returns c e q =
     silent_tree (node_view c.args.tree.now) c.deref-item-items.result.now c.doings.item-index
-    (ap (map done_view) c.deref-item-items.ensures.value ∙ c.in_ok-done.ensures) c.doings-test.false c.doings.invariant q
+    (ap (map op_at_point_view) c.deref-item-items.ensures.value ∙ c.in_ok-done.ensures) c.doings-test.false c.doings.invariant q

@@ -4,7 +4,7 @@ use Rattle.std.specs.List.{AllZip}
 use Rattle.lra_syntax.specs.Views.{tree_view}
 use Rattle.lra_options.specs.declared.options.Options.{Options}
 use Rattle.lra_threads_front.specs.Stages.{IsThreadGraph}
-use Rattle.lra_flow.specs.Plan.{plan_of}
+use Rattle.lra_analysis_spec.specs.Plan.{plan_of}
 use Rattle.lra_threaded.proofs.threaded.threads_source.Goals as goal
 
 pub report_threads-requires-clause-planned : goal.report_threads-requires-clause-planned

@@ -1,7 +1,7 @@
 -- Goals of `next`: the next value of the point.
 use Rattle.std.proofs.Common.{◌<◌, ◌≤◌, ◌^◌, None, Option, arith, get_or, length, subst, sym, ◌∙◌}
 use Rattle.std.proofs.lemmas.Option.{slice_get-get_or}
-use Rattle.lra_flow.specs.Pass.{RunsFrom}
+use Rattle.lra_analysis_spec.specs.Pass.{RunsFrom}
 use Rattle.lra_paths.specs.declared.sources.Source.{Source}
 use Rattle.lra_back.specs.Operations.{dropping}
 use Rattle.lra_back.specs.GoingBack.{ComesFromAll}

@@ -1,7 +1,7 @@
 -- Goals of `write`: note by note.
 use Rattle.std.proofs.Common.{◌∙◌, List, ap, length, map, refl}
 use Rattle.lra_box.specs.Content.{BoxContent}
-use Rattle.lra_iter.specs.declared.tables.Note.{Note}
+use Rattle.lra_fixpoint.specs.declared.tables.Note.{Note}
 use Rattle.lra_rounds.specs.Telling.{written_by}
 use Rattle.lra_threads.specs.Found.{gift_in}
 use Rattle.lra_threads.proofs.WrittenRows.{none_taken, taken_next, taken_last}

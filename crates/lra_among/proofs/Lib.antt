@@ -1,2 +1,0 @@
--- What a pass among others covers.
-pub mod AmongSound

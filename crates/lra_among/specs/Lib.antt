@@ -1,2 +1,0 @@
--- What a pass among others owes to runs.
-pub mod CoversAmong

@@ -1,0 +1,2 @@
+mod BoundsSteps
+mod ShownSteps

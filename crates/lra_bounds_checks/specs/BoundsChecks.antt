@@ -1,0 +1,29 @@
+-- What is told of accesses behind others, as the definitions have it.
+use Rattle.std.specs.Prelude.{◌≡◌, ℕ, List, Bool, Option, None, Some, Vec, length, ⊤}
+use Rattle.std.specs.declared.alloc.Global.{Global}
+use Rattle.lra_linear_forms.specs.declared.test.Test.{Test}
+use Rattle.lra_domain.specs.Abstraction.{Abstraction}
+use Rattle.lra_domain.specs.declared.Exactness.{Exactness}
+use Rattle.lra_base.specs.declared.refusals.Place.{Place}
+use Rattle.lra_program.specs.Program.{Element}
+use Rattle.lra_program.specs.Step.{Op}
+use Rattle.lra_analysis_spec.specs.Accesses.{EachJudged, OpInside}
+use Rattle.lra_analysis_spec.specs.Operations.{lossy_operations}
+use Rattle.lra_overflow_checks.specs.Judged.{HasAnswers}
+
+-- a point with what is told of its accesses
+abbrev pub reported_view : ℕ × Vec (Place × Bool) Global → ℕ × List (Place × Bool)
+reported_view v = (v.0, v.1.items)
+
+-- a coefficient for each of so many variables
+abbrev pub AreWide : ℕ → Option (Test × Test) → Type 0
+AreWide n None = ⊤
+AreWide n (Some tests) = (length tests.0.expr.coefficients ≡ n) × (length tests.1.expr.coefficients ≡ n)
+
+module _ {V H : Type 0} (m : Abstraction V H) where
+  -- what is told of each access, and of those of an operation, came behind the others
+  abbrev pub IsEachTold : V → ℕ → List Element → List (Place × Bool) → Exactness → List (Place × Bool) → Type 0
+  IsEachTold v base xs old e new = HasAnswers (λ js. EachJudged m (lossy_operations m) v base xs js e) old new
+
+  abbrev pub IsOpTold : Op → V → List (Place × Bool) → Exactness → List (Place × Bool) → Type 0
+  IsOpTold op v old e new = HasAnswers (λ js. OpInside m (lossy_operations m) op v js e) old new

@@ -1,2 +1,0 @@
-pub mod Doings
-pub mod Due

@@ -1,0 +1,18 @@
+-- Goals of `catch_breaks`: `break` comes out here.
+use Rattle.std.proofs.Common.{ap, ◌∙◌}
+use Rattle.lra_operations.specs.Tree.{broken}
+use Rattle.lra_analysis_spec.specs.Operations.{lossy_operations}
+use Rattle.lra_analysis_spec.specs.Pass.{AreJoined, jumps_caught}
+use Rattle.lra_pass_results.specs.Outcome.{outcome_view}
+use Rattle.lra_fixpoint.proofs.catches.catch_breaks.Goals as goal
+
+pub returns-clause-caught : goal.returns-clause-caught
+returns-clause-caught g c =
+    let inner = c.args.inner in
+    let joined : AreJoined (lossy_operations g.D.Domain.abstraction) inner.normal inner.found.breaks.items c.in_ok-exactness.exactness c.join_all.new.value =
+    rw (c.as_slice.ensures.value, c.take_breaks-jumps.ensures.taken) at c.in_ok-exactness.ensures.joined in (
+      c.join_all.new.value,
+      c.in_ok-exactness.exactness,
+      joined,
+      c.take_breaks-jumps.ensures.left inner.normal c.join_all.new.value inner.flag c.note.result ∙ ap (λ f. jumps_caught broken (outcome_view inner) c.join_all.new.value f) c.note.ensures,
+    )

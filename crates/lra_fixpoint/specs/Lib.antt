@@ -1,0 +1,7 @@
+pub mod Lives
+pub mod Numbers
+pub mod Counts
+pub mod Tables
+pub mod Solved
+pub mod Sound
+pub mod UnderInterference

@@ -1,0 +1,41 @@
+-- Single definitions of the iteration on small boxes.
+use Rattle.std.proofs.Common.{[], None, Some, refl, inl, inr, ◌^◌, ◌-◌, arith}
+use Rattle.std.proofs.lemmas.Int.{ints}
+use Rattle.lra_domain.specs.declared.Exactness.TheVariants.{Exact, Flagged}
+use Rattle.lra_base.specs.declared.number_types.NumberType.TheVariants.{Int, Long}
+use Rattle.lra_program.proofs.RunExamples.{long_variable}
+use Rattle.lra_program.specs.Receivers.{variable_at}
+use Rattle.lra_program.specs.Program.{local, Expr, literal, read, binary}
+use Rattle.lra_base.specs.Operators.{plus}
+use Rattle.lra_program.specs.Step.{store_value, truncate_to}
+use Rattle.lra_operations.specs.Tree.{broken, act, seq, leave}
+use Rattle.lra_box.specs.Content.{BoxContent}
+use Rattle.lra_box.specs.Abstraction.{box_abstraction}
+use Rattle.lra_analysis_spec.specs.Operations.{straining_operations}
+use Rattle.lra_analysis_spec.specs.Pass.{goes_on, jumps, Pass}
+use Rattle.lra_fixpoint_examples.proofs.LoopExamples.{boxes, one, between, at_least, narrowed}
+use Rattle.lra_fixpoint_examples.proofs.NestedExamples.{two, nowhere}
+
+abbrev i : Expr
+i = read (long_variable (local 0))
+
+-- a `break` in a block with a variable of its own goes out without it; behind the `break` it still lives
+cut_break : Pass BoxContent BoxContent boxes (narrowed 1) (seq (act 6 (truncate_to 1)) (leave 2 broken)) None (two (between 0 3) (between 1 1)) (jumps broken (one (between 0 3)) nowhere None)
+cut_break = (
+  goes_on [] (one (between 0 3)) None,
+  jumps broken (one (between 0 3)) nowhere None,
+  (one (between 0 3), Exact, (refl, record { table = refl; extremes = tt }), refl),
+  (nowhere, refl, refl),
+  refl,
+)
+
+-- i = i + 1 of i in 0..2^127 - 1 strains: the new bound would pass the range
+strained_example : Pass BoxContent BoxContent (straining_operations box_abstraction) (narrowed 1) (act 5 (store_value 0 (variable_at 0 Long) (binary plus i (literal Int 1)))) None
+    (one (between 0 (2 ^ 127 - 1)))
+    (goes_on [] (one (at_least 1)) (Some 5))
+strained_example = (
+  one (at_least 1),
+  Flagged,
+  (λ h. cc, λ h. inr (inr (inl (λ k. omega (arith, ints, k))))),
+  refl,
+)

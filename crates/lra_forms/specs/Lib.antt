@@ -1,4 +1,0 @@
-pub mod Forms
-pub mod Conditions
-pub mod Given
-pub mod Thresholds

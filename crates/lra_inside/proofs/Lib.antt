@@ -1,2 +1,0 @@
-mod InsideSteps
-mod ShownSteps

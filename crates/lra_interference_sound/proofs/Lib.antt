@@ -1,0 +1,2 @@
+-- What a pass among others covers.
+pub mod SoundUnder

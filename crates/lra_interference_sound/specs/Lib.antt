@@ -1,0 +1,2 @@
+-- What a pass among others owes to runs.
+pub mod CoversUnder

@@ -1,7 +1,0 @@
-pub mod Lives
-pub mod Numbers
-pub mod Counts
-pub mod Tables
-pub mod Solved
-pub mod Sound
-pub mod Among

@@ -1,0 +1,16 @@
+use Rattle.std.proofs.Common.{◌≡◌, ◌++◌, length, map}
+use Rattle.std.specs.Prelude.{neg_ℤ}
+use Rattle.std.specs.List.{All}
+use Rattle.lra_linear_spec.specs.Range.{InRange}
+use Rattle.lra_analysis_spec.specs.Thresholds.{row_against}
+use Rattle.lra_linearize.proofs.thresholds.row_against.Given as goal
+
+-- the numbers that are there and those of what is left are the row, and all are in the range
+abbrev pub invariant-loop-coefficient : goal.invariant-loop-coefficient
+invariant-loop-coefficient l = record {
+  items : l.numbers.items ++ map neg_ℤ l.left ≡ row_against l.form l.more;
+  range : All InRange l.numbers.items;
+}
+
+abbrev pub decreases-loop-coefficient : goal.decreases-loop-coefficient
+decreases-loop-coefficient l = length l.left

@@ -1,0 +1,4 @@
+pub mod Forms
+pub mod Conditions
+pub mod GuardThresholds
+pub mod Thresholds

@@ -1,0 +1,2 @@
+pub mod TreeOperations
+pub mod Due

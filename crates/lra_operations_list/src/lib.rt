@@ -1,0 +1,8 @@
+//! What is done in a program's tree of operations, each with its point, whatever is asked of it then.
+#![tactic(auto)]
+
+mod tree_operations;
+mod trees;
+
+pub use tree_operations::{OpRef, OpRefAtPoint};
+pub use trees::list_operations;

@@ -1,6 +1,0 @@
-use Rattle.std.proofs.Common.{drop}
-use Rattle.lra_outcomes.proofs.Joining.{JoinLoop}
-use Rattle.lra_outcomes.proofs.outcome.join_all.Given as goal
-
-abbrev pub invariant-others : goal.invariant-others
-invariant-others g l = JoinLoop g.D.Domain.abstraction l.fn.value l.others (drop l.other-index l.others) l.exactness l.value

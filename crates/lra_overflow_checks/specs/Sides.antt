@@ -1,0 +1,12 @@
+-- What operators and signs make of forms, where these are there.
+use Rattle.std.specs.Prelude.{Option, negsuc}
+use Rattle.lra_linear_forms.specs.Form.{Form}
+use Rattle.lra_base.specs.Operators.{Operator}
+use Rattle.lra_program.specs.Value.{◌>>=◌}
+use Rattle.lra_analysis_spec.specs.Linear.{operator_form, scaled}
+
+abbrev pub between_sides : Operator → Option Form → Option Form → Option Form
+between_sides op left right = left >>= λ f. right >>= λ g. operator_form op f g
+
+abbrev pub with_other_sign : Option Form → Option Form
+with_other_sign inner = inner >>= λ f. scaled (negsuc 0) f

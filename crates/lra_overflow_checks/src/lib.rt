@@ -1,0 +1,15 @@
+//! What is asked of the operations of a program's tree, each answered by the value at its point, for any domain; and
+//! which operations can't stop a run by a number.
+#![tactic(auto)]
+
+mod answers;
+mod computes;
+mod conditions;
+mod expressions;
+mod judgements;
+mod operations;
+mod questions;
+
+pub use conditions::{Leaf, Surroundings, judge_condition};
+pub use judgements::{OverflowVerdicts, judge};
+pub use questions::{Found, Question, Verdict, find};

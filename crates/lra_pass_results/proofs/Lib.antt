@@ -1,0 +1,10 @@
+pub mod PassSteps
+pub mod PassRows
+pub mod Again
+pub mod CachedLoops
+pub mod AnyInterference
+mod Joining
+mod Copying
+mod LeafSteps
+mod FlatRows
+mod GivenLoops

@@ -1,0 +1,7 @@
+pub mod Dimensions
+pub mod Outcome
+pub mod LoopCache
+pub mod Steps
+pub mod TreeForms
+pub mod Heads
+pub mod Flat

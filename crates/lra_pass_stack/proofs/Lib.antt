@@ -1,0 +1,5 @@
+mod OpenRows
+pub mod RowLeaves
+pub mod OpenFrames
+mod SelectFrames
+pub mod SelectSteps

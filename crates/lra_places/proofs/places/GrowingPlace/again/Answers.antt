@@ -1,6 +1,0 @@
--- Goals of `again`: the place of a loop whose head grows is boxed.
-use Rattle.std.proofs.Common.{refl}
-use Rattle.lra_places.proofs.places.GrowingPlace.again.Goals as goal
-
-pub returns : goal.returns
-returns g c = (c.in_ok-place.place, c.in_ok-boxed.boxed, refl, c.in_ok-boxed.ensures.ok, c.in_ok-place.ensures.ok)

@@ -1,6 +1,0 @@
--- Goals of `opens`: the place of a loop that is narrowed is boxed.
-use Rattle.std.proofs.Common.{refl}
-use Rattle.lra_places.proofs.places.NarrowingPlace.opens.Goals as goal
-
-pub returns : goal.returns
-returns g c = (c.in_ok-place.place, refl, c.in_ok-place.ensures.ok)

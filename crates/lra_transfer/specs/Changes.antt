@@ -1,0 +1,49 @@
+-- Changes of values, in the derivation with drops.
+use Rattle.std.specs.Prelude.{◌≡◌, ℕ, ◌+◌, ◌<◌, ◌≤◌, ⊤, length, Option, None, Some}
+use Rattle.lra_domain.specs.Actions.{Action, dims_after}
+use Rattle.lra_domain.specs.Changes.{CanBeMade}
+use Rattle.lra_domain.specs.declared.Exactness.{Exactness}
+use Rattle.lra_domain.specs.Abstraction.{Abstraction}
+use Rattle.lra_program.specs.Step.{Op, append, fill, store_value, store_element, havoc, push, push_for, truncate_to}
+use Rattle.lra_program.specs.Step.{test}
+use Rattle.lra_program.specs.declared.receivers.Cell.{Cell}
+use Rattle.lra_program.specs.declared.receivers.Cell.TheVariants.{Variable, Waiting}
+use Rattle.lra_program.specs.declared.receivers.Target.{Target}
+use Rattle.lra_analysis_spec.specs.Operations.{lossy_operations}
+use Rattle.lra_domain.specs.Moves.{Moves}
+use Rattle.lra_analysis_spec.specs.Moves.{AreMade}
+use Rattle.lra_analysis_spec.specs.Pass.{OpTransfer}
+use Rattle.lra_analysis_spec.specs.LiveLimit.{most_live}
+
+-- the moves lead from the first value to the second one, with this exactness
+abbrev pub Does : {V H : Type 0} → Abstraction V H → Moves → V → Exactness → V → Type 0
+Does m moves v e w = AreMade (lossy_operations m) moves v e w
+
+-- and so does a least change
+abbrev pub OpTransfersTo : {V H : Type 0} → Abstraction V H → Op → V → Exactness → V → Type 0
+OpTransfersTo m op v e w = OpTransfer (lossy_operations m) op v e w
+
+-- an action that can be made of a value of so many dimensions, and leaves as many
+abbrev pub Stays : Action → ℕ → Type 0
+Stays step n = CanBeMade step n × (dims_after step n ≡ n)
+
+-- where a variable is set, it is one of so many
+abbrev pub CellFits : Cell → ℕ → Type 0
+CellFits (Variable x) n = x < n
+CellFits (Waiting p) n = ⊤
+
+abbrev pub PlaceFits : Option Target → ℕ → Type 0
+PlaceFits None n = ⊤
+PlaceFits (Some t) n = CellFits t.cell n
+
+-- the change can be made of a store of so many variables, and leaves no more than may live
+abbrev pub OpFitsDims : Op → ℕ → Type 0
+OpFitsDims (append t) n = n < most_live
+OpFitsDims (fill a) n = ⊤
+OpFitsDims (store_value base x e) n = PlaceFits x.target n
+OpFitsDims (store_element base x e) n = ⊤
+OpFitsDims (havoc x) n = PlaceFits x.target n
+OpFitsDims (push base given) n = n + length given ≤ most_live
+OpFitsDims (push_for base x given) n = n + length given ≤ most_live
+OpFitsDims (truncate_to k) n = ⊤
+OpFitsDims (test base c wanted) n = ⊤
