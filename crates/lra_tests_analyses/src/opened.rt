@@ -1,10 +1,10 @@
 //! A small tree, opened.
 
 use lra_base::NumberType;
-use lra_opened::open_tree;
 use lra_operations::forms::put_in_turn;
 use lra_operations::{Node, Op, Probe};
 use lra_program::Receiver;
+use lra_threads_instrument::instrument_tree;
 use std::alloc::{AllocError, Global};
 
 /// The variable at the place gets any value.
@@ -16,7 +16,7 @@ fn give(place: usize) -> Node {
 fn opened(alloc: Global) -> Result<Node, AllocError> {
     let gifts = put_in_turn(alloc, give(0), give(1))?;
     let tree = put_in_turn(alloc, Node::Point(1), gifts)?;
-    open_tree(alloc, 1, tree)
+    instrument_tree(alloc, 1, tree)
 }
 
 /// Whether the tree begins with one in which others act before the point.

@@ -18,16 +18,16 @@ use Rattle.lra_operations.specs.Tree.{Node}
 use Rattle.lra_operations.specs.TreeViews.{node_view, site_view}
 use Rattle.lra_operations.specs.declared.tree.InlinedProgram.{InlinedProgram}
 use Rattle.lra_front_end.specs.Stages.{HasConstants}
-use Rattle.lra_threads_front.specs.Claims.{IsAcceptedThreads, IsThreadTree}
-use Rattle.lra_threads_front.specs.Stages.{IsGraphOf, IsThreadGraph}
+use Rattle.lra_threads_front_end.specs.Claims.{IsAcceptedThreads, IsThreadTree}
+use Rattle.lra_threads_front_end.specs.Stages.{IsInlinedOf, IsThreadInlined}
 use Rattle.lra_source.proofs.Handing.{image_of}
 use Rattle.lra_analysis_spec.specs.Instrumented.{instrumented}
 use Rattle.lra_analysis_spec.specs.Plan.{Plan}
-use Rattle.lra_rounds.specs.Rounds.{AllRounds, Settled}
-use Rattle.lra_threads.specs.Found.{AreOpened, AreReady, IsFoundOf, thread_finding}
-use Rattle.lra_threads.specs.Holding.{AllHold, AreFlagged}
-use Rattle.lra_threads.specs.declared.found.ThreadFound.{ThreadFound}
-use Rattle.lra_woven.specs.Beside.{AreThreads, IsThread, ThreadsHold}
+use Rattle.lra_threads_fixpoint.specs.Rounds.{AllRounds, ThreadsFixpoint}
+use Rattle.lra_threads_analysis.specs.Found.{AreInstrumented, AreReady, IsThreadResultOf, thread_finding}
+use Rattle.lra_threads_analysis.specs.Holding.{AllHold, AreFlagged}
+use Rattle.lra_threads_analysis.specs.declared.found.ThreadResult.{ThreadResult}
+use Rattle.lra_threads_sound.specs.Interleaved.{AreThreads, IsThread, ThreadsHold}
 use Rattle.lra_threaded.specs.Listed.{ShowsThreads, thread_place}
 use Rattle.lra_threaded.specs.Stages.{AreGraphsOf, AreOfGraphs, IsFlagIn, IsOpened}
 use Rattle.lra_threaded.specs.Threaded.{IsThreadsOf, shared_program, thread_functions, threads_plan}
@@ -43,7 +43,7 @@ pub globals_seen : (t : FileTree) (p : declared.Program) (globals : List GlobalV
 globals_seen t p globals is same = same ∙ ap (λ (P : Program). P.globals) is
 
 module _ (source : List ℕ) (t : FileTree) (accepted : AcceptsThreads Spells source t) (graphs others : List InlinedProgram)
-    (read : AllZip (IsThreadGraph t) (thread_places t) graphs) (globals : List GlobalVariable) (is : globals ≡ (shared_program t).globals)
+    (read : AllZip (IsThreadInlined t) (thread_places t) graphs) (globals : List GlobalVariable) (is : globals ≡ (shared_program t).globals)
     (opens : AllZip (IsOpened (length globals)) graphs others) where
   abbrev P : Program
   P = shared_program t
@@ -59,7 +59,7 @@ module _ (source : List ℕ) (t : FileTree) (accepted : AcceptsThreads Spells so
     tree = t;
     accepted = accepted;
     operations = trees;
-    are_graphs = zip_viewed (IsThreadGraph t) (IsThreadTree t) (λ (g : InlinedProgram). node_view g.tree) (thread_places t) graphs
+    are_graphs = zip_viewed (IsThreadInlined t) (IsThreadTree t) (λ (g : InlinedProgram). node_view g.tree) (thread_places t) graphs
         (λ place g of. (of.is_graph, of.agrees)) read;
   }
 
@@ -71,7 +71,7 @@ module _ (source : List ℕ) (t : FileTree) (accepted : AcceptsThreads Spells so
       are_ready t accepted.names accepted.within graphs others read (length globals) long opens plan globals
       (subst (λ (q : Plan). 1 ≤ q.parts) (sym planned) (omega arith)) is refl
 
-  trees_opened : AreOpened (length P.globals) trees others
+  trees_opened : AreInstrumented (length P.globals) trees others
   trees_opened = go graphs others opens
     where
       go : (gs hs : List InlinedProgram) → AllZip (IsOpened (length globals)) gs hs
@@ -95,7 +95,7 @@ module _ (source : List ℕ) (t : FileTree) (accepted : AcceptsThreads Spells so
       let (h, here) = element_at others k (let low = slice_get_within (thread_places t) k place at in omega (arith, low, many)) in
       let (g, own, is_opened, (place', at', of)) = graph_at t accepted.names accepted.within graphs others read (length globals) long opens k h here in
       let one : place' ≡ place = same_Some place' place (sym at' ∙ at) in
-      let of' : IsGraphOf (thread_program t place) g = subst (λ (p : ℕ). IsGraphOf (thread_program t p) g) one of in (
+      let of' : IsInlinedOf (thread_program t place) g = subst (λ (p : ℕ). IsInlinedOf (thread_program t p) g) one of in (
         h,
         here,
         subst (λ (e : Function). IsThread P e h) same (record {
@@ -106,10 +106,10 @@ module _ (source : List ℕ) (t : FileTree) (accepted : AcceptsThreads Spells so
         }),
       )
 
-  module _ (plan : Plan) (end : Settled ThreadFound)
-      (rounds : (Q : Program) (ts : List Node) → Q.globals ≡ globals → AreOpened (length Q.globals) ts others →
-      AllRounds thread_finding (length Q.globals) (IsFoundOf plan Q ts) (length ts) end)
-      (flags : (Q : Program) (ts : List Node) → Q.globals ≡ globals → AreOpened (length Q.globals) ts others → AreFlagged plan Q ts end)
+  module _ (plan : Plan) (end : ThreadsFixpoint ThreadResult)
+      (rounds : (Q : Program) (ts : List Node) → Q.globals ≡ globals → AreInstrumented (length Q.globals) ts others →
+      AllRounds thread_finding (length Q.globals) (IsThreadResultOf plan Q ts) (length ts) end)
+      (flags : (Q : Program) (ts : List Node) → Q.globals ≡ globals → AreInstrumented (length Q.globals) ts others → AreFlagged plan Q ts end)
       (all : AllHold globals others end) where
     pub found_handed : AreOfGraphs others end.found
     found_handed = of_graphs P globals others end (sym is) own_tree all
@@ -120,7 +120,7 @@ module _ (source : List ℕ) (t : FileTree) (accepted : AcceptsThreads Spells so
         let (g, there, low) =
         flag_there plan P trees (λ j. thread_program t (thread_place t j)) graph_there end (rounds P trees (sym is) trees_opened) k q flagged in
         let (g', here, same) = image_of (λ (x : InlinedProgram). node_view x.tree) graphs k g there in
-        let (place, at, of) = zip_at (IsThreadGraph t) (thread_places t) graphs k g' read here in
+        let (place, at, of) = zip_at (IsThreadInlined t) (thread_places t) graphs k g' read here in
         let many = (graphs_handed).count in
         let (h, own) = element_at others k (let within = slice_get_within (thread_places t) k place at in omega (arith, within, many)) in
         let points = (graphs_handed).sites k h own in
@@ -131,7 +131,7 @@ module _ (source : List ℕ) (t : FileTree) (accepted : AcceptsThreads Spells so
         graph_there : (j : ℕ) (g : Node) → slice_get trees j ≡ Some g → IsInlinedTree (thread_program t (thread_place t j)) g
         graph_there j g there =
             let (g', here, same) = image_of (λ (x : InlinedProgram). node_view x.tree) graphs j g there in
-            let (place, at, of) = zip_at (IsThreadGraph t) (thread_places t) graphs j g' read here in
+            let (place, at, of) = zip_at (IsThreadInlined t) (thread_places t) graphs j g' read here in
             subst (λ (p : ℕ). IsInlinedTree (thread_program t p) g) (sym (get_or_from_slice_get (thread_places t) j place 0 at))
             (subst (IsInlinedTree (thread_program t place)) same of.is_graph)
 
@@ -144,7 +144,7 @@ module _ (source : List ℕ) (t : FileTree) (accepted : AcceptsThreads Spells so
       constants = constants;
       own = own;
       end = end;
-      rounds = subst (λ (q : Plan). AllRounds thread_finding (length P.globals) (IsFoundOf q P trees) (length trees) end) planned
+      rounds = subst (λ (q : Plan). AllRounds thread_finding (length P.globals) (IsThreadResultOf q P trees) (length trees) end) planned
           (rounds P trees (sym is) trees_opened);
       flags = subst (λ (q : Plan). AreFlagged q P trees end) planned (flags P trees (sym is) trees_opened);
       holds = hold P (thread_functions t) others end are_threads (subst (λ (gs : List GlobalVariable). AllHold gs others end) is all);

@@ -15,10 +15,10 @@ use Rattle.lra_operations.specs.declared.tree.InlinedProgram.{InlinedProgram}
 use Rattle.lra_linear_spec.proofs.Membership.{contains_head, contains_tail}
 use Rattle.lra_analysis_spec.specs.Instrumented.{instrumented}
 use Rattle.lra_bounds_checks.specs.BoundsChecks.{reported_view}
-use Rattle.lra_rounds.specs.Rounds.{Settled}
-use Rattle.lra_threads.specs.Found.{sites_in, told_in, values_of, verdicts_of}
-use Rattle.lra_threads.specs.Holding.{AllHold, HoldsInRound}
-use Rattle.lra_threads.specs.declared.found.ThreadFound.{ThreadFound}
+use Rattle.lra_threads_fixpoint.specs.Rounds.{ThreadsFixpoint}
+use Rattle.lra_threads_analysis.specs.Found.{sites_in, access_verdicts_of, thread_values, verdicts_of}
+use Rattle.lra_threads_analysis.specs.Holding.{AllHold, HoldsInRound}
+use Rattle.lra_threads_analysis.specs.declared.found.ThreadResult.{ThreadResult}
 use Rattle.lra_threaded.specs.Stages.{AreOfGraphs, IsOfGraph, points_in}
 use Rattle.lra_threaded.proofs.FlaggedPoints.{answers_low}
 use Rattle.lra_threaded.proofs.Following.{all_viewed}
@@ -37,7 +37,7 @@ each_among : {A : Type 0} (P : A → Type 0) (xs : List A) → ((x : A) → Cont
 each_among P [] each = tt
 each_among P (x ∷ xs) each = (each x (contains_head x xs), each_among P xs (λ y among. each y (contains_tail x y xs among)))
 
-pub of_graph : (P : Program) (k : ℕ) (graph : InlinedProgram) (g : Node) (end : Settled ThreadFound) (h : HoldsInRound P k graph g end) →
+pub of_graph : (P : Program) (k : ℕ) (graph : InlinedProgram) (g : Node) (end : ThreadsFixpoint ThreadResult) (h : HoldsInRound P k graph g end) →
     IsOfGraph graph h.found
 of_graph P k graph g end h =
     let long : length (sites_in graph) ≡ points_in graph = length-map graph.sites.items site_view in
@@ -51,15 +51,15 @@ of_graph P k graph g end h =
           (asserting_low 0 (points_in graph) (sites_in graph) (omega (arith, long))));
       inside =
           all_viewed (λ (v : ℕ × List (Place × Bool)). v.0 < points_in graph) reported_view h.found.inside.verdicts.items
-          (each_among (λ (v : ℕ × List (Place × Bool)). v.0 < points_in graph) (told_in h.found)
+          (each_among (λ (v : ℕ × List (Place × Bool)). v.0 < points_in graph) (access_verdicts_of h.found)
           (λ v among.
-          let low = answers_low g (values_of h.found) before (told_in h.found) _ judged v among in
+          let low = answers_low g (thread_values h.found) before (access_verdicts_of h.found) _ judged v among in
           let many = h.points in
           omega (arith, low, many, long)));
     }
 
 -- of each thread; its own tree is one of these
-pub of_graphs : (P : Program) (globals : List GlobalVariable) (graphs : List InlinedProgram) (end : Settled ThreadFound) → P.globals ≡ globals
+pub of_graphs : (P : Program) (globals : List GlobalVariable) (graphs : List InlinedProgram) (end : ThreadsFixpoint ThreadResult) → P.globals ≡ globals
     → ((k : ℕ) (h : InlinedProgram) → slice_get graphs k ≡ Some h → (g : Node) × (node_view h.tree ≡ instrumented (length P.globals) g))
     → AllHold globals graphs end → AreOfGraphs graphs end.found
 of_graphs P globals graphs end is own holds = record {

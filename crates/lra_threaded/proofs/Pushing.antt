@@ -23,8 +23,8 @@ use Rattle.lra_report_build.specs.Views.{reported_view}
 use Rattle.lra_report_build.specs.declared.listing.Findings.{Findings}
 use Rattle.lra_report_states.specs.Shown.{AreShown, shown_state}
 use Rattle.lra_source.proofs.Handing.{image_of}
-use Rattle.lra_threads.specs.Found.{sites_in, values_of}
-use Rattle.lra_threads.specs.declared.found.ThreadFound.{ThreadFound}
+use Rattle.lra_threads_analysis.specs.Found.{sites_in, thread_values}
+use Rattle.lra_threads_analysis.specs.declared.found.ThreadResult.{ThreadResult}
 use Rattle.lra_threaded.specs.Listed.{AreListedAlone, ShowsPoints, one_by_one, points_before, points_told}
 use Rattle.lra_threaded.specs.Stages.{AreGraphsOf, judged_alone, points_in}
 use Rattle.lra_threaded.proofs.PointNumbers.{before_same, few_points}
@@ -89,15 +89,15 @@ both_more So xs ys x y many each last j a b one two = elim (last_cases xs x j a 
 ]
 
 -- the points of one thread more
-pub shows_more : (t : FileTree) (found : List ThreadFound) (k : ℕ) (one : ThreadFound) (points more ps : List PointReport)
+pub shows_more : (t : FileTree) (found : List ThreadResult) (k : ℕ) (one : ThreadResult) (points more ps : List PointReport)
     → ShowsPoints t (take k found) points → k < length found → one ≡ get_or found k one → AreListedAlone t k one ps
     → more ≡ points ++ points_told t k ps → ShowsPoints t (take (k + 1) found) more
 shows_more t found k one points more ps shows low is alone same =
     let long : length (take k found) ≡ k = length-take-le k found (omega (arith, low)) in
     let many : length shows.alone ≡ length (take k found) = shows.as_many in
     let longer : take (k + 1) found ≡ take k found ++ one ∷ [] =
-    ap (λ (n : ℕ). take n found) (add-one k) ∙ take-suc found k one low ∙ ap (λ (z : ThreadFound). take k found ++ z ∷ []) (sym is) in
-    subst (λ (fs : List ThreadFound). ShowsPoints t fs more) (sym longer) (record {
+    ap (λ (n : ℕ). take n found) (add-one k) ∙ take-suc found k one low ∙ ap (λ (z : ThreadResult). take k found ++ z ∷ []) (sym is) in
+    subst (λ (fs : List ThreadResult). ShowsPoints t fs more) (sym longer) (record {
       alone = shows.alone ++ ps ∷ [];
       as_many = length-append shows.alone (ps ∷ []) ∙ (let both = length-append (take k found) (one ∷ []) in omega (arith, many, both));
       are_listed = both_more (AreListedAlone t) (take k found) shows.alone one ps many shows.are_listed
@@ -115,9 +115,9 @@ if_ok A B so (Err e) a = tt
 module _ (t : FileTree) (graphs : List InlinedProgram) (are : AreGraphsOf t graphs) (k : ℕ) (graph : InlinedProgram) (there : slice_get graphs k ≡ Some graph)
   where
     -- the points of a thread as they are listed alone
-    pub listed_alone : (found : ThreadFound) (names : List (List ℕ)) (ls : List Labelled) (sites : List Site) (points : List PointReport) (states : List Invariant)
+    pub listed_alone : (found : ThreadResult) (names : List (List ℕ)) (ls : List Labelled) (sites : List Site) (points : List PointReport) (states : List Invariant)
         → names ≡ globals_named t.parts → ls ≡ labels_of t → sites ≡ sites_in graph → AreListed names ls 1 sites points → map state_of points ≡ states
-        → states ≡ map (shown_state box_abstraction) (values_of found) → AreShown box_abstraction Box (shown_state box_abstraction) (values_of found)
+        → states ≡ map (shown_state box_abstraction) (thread_values found) → AreShown box_abstraction Box (shown_state box_abstraction) (thread_values found)
         → AreListedAlone t k found points
     listed_alone found names ls sites points states named labelled same listed stated shown are_shown = record {
       listed = subst (λ (ss : List Site). AreListed (globals_named t.parts) (labels_of t) 1 ss points) (same ∙ are.sites k graph there)

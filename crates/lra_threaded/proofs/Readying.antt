@@ -33,15 +33,15 @@ use Rattle.lra_overflow_checks.specs.Judged.{AreBelow}
 use Rattle.lra_pass_results.specs.Dimensions.{TreeFits}
 use Rattle.lra_fixpoint.specs.Lives.{PointsHave}
 use Rattle.lra_fixpoint.specs.Numbers.{IsNumbered}
-use Rattle.lra_alike.proofs.OpenedTrees.{asks_opened, fits_of, numbered_of, points_of}
+use Rattle.lra_threads_instrument_sound.proofs.InstrumentedTrees.{asks_opened, fits_of, numbered_of, points_of}
 use Rattle.lra_source.proofs.Fitting.{few_globals, tree_fits}
 use Rattle.lra_source.proofs.Flags.{graph_below}
 use Rattle.lra_source.proofs.Found.{asked_one}
 use Rattle.lra_source.proofs.Numbering.{numbered}
 use Rattle.lra_source.proofs.ReportSteps.{few_behind}
 use Rattle.lra_source.proofs.Widths.{graph_lives}
-use Rattle.lra_threads_front.specs.Stages.{IsGraphOf, IsThreadGraph}
-use Rattle.lra_threads.specs.Found.{AreReady, IsReady, sites_in as points_of_graph}
+use Rattle.lra_threads_front_end.specs.Stages.{IsInlinedOf, IsThreadInlined}
+use Rattle.lra_threads_analysis.specs.Found.{AreReady, IsReady, sites_in as points_of_graph}
 use Rattle.lra_threaded.specs.Stages.{AreGraphsOf, IsOpened, points_in}
 use Rattle.lra_threaded.specs.Listed.{thread_sites}
 use Rattle.lra_threaded.specs.Threaded.{shared_program}
@@ -92,7 +92,7 @@ some_thread t clean =
 pub same_globals : (t : FileTree) (place : ℕ) → (thread_program t place).globals ≡ (shared_program t).globals
 same_globals t place = refl
 
-module _ (P : Program) (g : InlinedProgram) (is : IsGraphOf P g) (n : ℕ) (globals : n ≡ length P.globals) where
+module _ (P : Program) (g : InlinedProgram) (is : IsInlinedOf P g) (n : ℕ) (globals : n ≡ length P.globals) where
   abbrev own : Node
   own = node_view g.tree
 
@@ -162,18 +162,18 @@ zip_sums f h (x ∷ xs) (y ∷ ys) same =
 
 -- read and opened
 module _ (t : FileTree) (clean : thread_faults t ≡ []) (within : limit_fault (labels_of t) 0 (thread_events t) ≡ None) (graphs others : List InlinedProgram)
-    (read : AllZip (IsThreadGraph t) (thread_places t) graphs) (n : ℕ) (globals : n ≡ length (shared_program t).globals)
+    (read : AllZip (IsThreadInlined t) (thread_places t) graphs) (n : ℕ) (globals : n ≡ length (shared_program t).globals)
     (are : AllZip (IsOpened n) graphs others) where
   -- the k-th
   pub graph_at : (k : ℕ) (h : InlinedProgram) → slice_get others k ≡ Some h
-      → (g : InlinedProgram) × (slice_get graphs k ≡ Some g) × IsOpened n g h × ((place : ℕ) × (slice_get (thread_places t) k ≡ Some place) × IsGraphOf (thread_program t place) g)
+      → (g : InlinedProgram) × (slice_get graphs k ≡ Some g) × IsOpened n g h × ((place : ℕ) × (slice_get (thread_places t) k ≡ Some place) × IsInlinedOf (thread_program t place) g)
   graph_at k h there =
       let (g, here, is) = zip_at (IsOpened n) graphs others k h are there in
-      let (place, at, of) = zip_at (IsThreadGraph t) (thread_places t) graphs k g read here in
+      let (place, at, of) = zip_at (IsThreadInlined t) (thread_places t) graphs k g read here in
       (g, here, is, (place, at, of))
 
   many : length others ≡ length (thread_places t)
-  many = sym (zip_long (IsOpened n) graphs others are) ∙ sym (zip_long (IsThreadGraph t) (thread_places t) graphs read)
+  many = sym (zip_long (IsOpened n) graphs others are) ∙ sym (zip_long (IsThreadInlined t) (thread_places t) graphs read)
 
   points_at : (k : ℕ) (h : InlinedProgram) → slice_get others k ≡ Some h → points_of_graph h ≡ thread_sites t k
   points_at k h there =

@@ -30,12 +30,12 @@ use Rattle.lra_report_build.specs.AnalysisResults.{access_verdicts, access_verdi
 use Rattle.lra_report_states.specs.Shown.{shown_state}
 use Rattle.lra_source.proofs.Handing.{contained, image_of}
 use Rattle.lra_interleavings.specs.Interleavings.{AtThread, FailsThread, ThreadWritesValue, OutOfBoundsThread}
-use Rattle.lra_rounds.specs.Rounds.{Settled}
-use Rattle.lra_rounds.specs.Telling.{interval_at, others_of}
-use Rattle.lra_threads.specs.Found.{IsFoundOf, thread_finding, told_in, values_of, verdicts_of}
-use Rattle.lra_threads.specs.declared.found.ThreadFound.{ThreadFound}
-use Rattle.lra_woven.specs.Beside.{HoldsBeside}
-use Rattle.lra_threads_front.specs.Claims.{IsThreadTree}
+use Rattle.lra_threads_fixpoint.specs.Rounds.{ThreadsFixpoint}
+use Rattle.lra_threads_fixpoint.specs.Interference.{interval_at, threads_interference}
+use Rattle.lra_threads_analysis.specs.Found.{IsThreadResultOf, thread_finding, access_verdicts_of, thread_values, verdicts_of}
+use Rattle.lra_threads_analysis.specs.declared.found.ThreadResult.{ThreadResult}
+use Rattle.lra_threads_sound.specs.Interleaved.{HoldsInterleaved}
+use Rattle.lra_threads_front_end.specs.Claims.{IsThreadTree}
 use Rattle.lra_threaded.specs.Listed.{AreListedAlone, ShowsPoints, accesses_alone, assertions_alone, number_in}
 use Rattle.lra_threaded.specs.Listed.{point_in_thread, points_before, points_told, one_by_one, thread_place, thread_sites, verdict_in_thread, verdicts_told}
 use Rattle.lra_threaded.specs.Listed.{write_told, writes_told}
@@ -88,7 +88,7 @@ before_by_turn t k few = sums_by_turn t 0 (thread_places t) (λ i low. ap (threa
 
 -- points -------------------------------------------------------------------------------------------------------------
 
-module _ (t : FileTree) (end : Settled ThreadFound) (holds : HoldsBeside (shared_program t) (thread_functions t) end) where
+module _ (t : FileTree) (end : ThreadsFixpoint ThreadResult) (holds : HoldsInterleaved (shared_program t) (thread_functions t) end) where
   function_at : (k : ℕ) → k < length (thread_places t) → slice_get (thread_functions t) k ≡ Some (function_or (slice_get (resolved_functions t) (thread_place t k)))
   function_at k low =
       let (place, there) = element_at (thread_places t) k low in
@@ -97,15 +97,15 @@ module _ (t : FileTree) (end : Settled ThreadFound) (holds : HoldsBeside (shared
       ∙ ap (λ (p : ℕ). Some (function_or (slice_get (resolved_functions t) p))) (sym (get_or_from_slice_get (thread_places t) k place 0 there))
 
   -- the state that is shown of a thread alone
-  alone_holds : (k q : ℕ) (s : Site) (found : ThreadFound) (v : BoxContent) (ps : List PointReport) (p : PointReport) (store : List ℤ)
-      → AreListedAlone t k found ps → slice_get (values_of found) q ≡ Some v → slice_get ps q ≡ Some p → box_abstraction.gamma v store →
+  alone_holds : (k q : ℕ) (s : Site) (found : ThreadResult) (v : BoxContent) (ps : List PointReport) (p : PointReport) (store : List ℤ)
+      → AreListedAlone t k found ps → slice_get (thread_values found) q ≡ Some v → slice_get ps q ≡ Some p → box_abstraction.gamma v store →
       InvariantHolds p.state store
   alone_holds k q s found v ps p store alone value there has =
       let state : Some p.state ≡ Some (shown_state box_abstraction v) =
       sym (slice_get-map state_of ps q ∙ ap (option_map state_of) there) ∙ ap (λ (l : List Invariant). slice_get l q) alone.states
-      ∙ slice_get-map (shown_state box_abstraction) (values_of found) q ∙ ap (option_map (shown_state box_abstraction)) value in
+      ∙ slice_get-map (shown_state box_abstraction) (thread_values found) q ∙ ap (option_map (shown_state box_abstraction)) value in
       subst (λ (x : Invariant). InvariantHolds x store) (sym (same_Some p.state (shown_state box_abstraction v) state))
-      ((alone.are_shown v (contained (values_of found) q v value)).holds store has)
+      ((alone.are_shown v (contained (thread_values found) q v value)).holds store has)
 
   pub points_hold : (points : List PointReport) → length end.found ≡ length (thread_places t) → ShowsPoints t end.found points → (k q : ℕ) (s : Site) (x : PointReport)
       (store : List ℤ) → IsPointOf t k q s
@@ -176,25 +176,25 @@ module _ (delay narrow : ℕ) (source : List ℕ) (r : ThreadsReport) (x : IsThr
 
   pub many_found : length x.end.found ≡ length (thread_places t)
   many_found =
-      (all_end_found thread_finding (length P.globals) (length x.program.operations) (IsFoundOf (threads_plan delay narrow x.constants) P x.program.operations) x.end
+      (all_end_found thread_finding (length P.globals) (length x.program.operations) (IsThreadResultOf (threads_plan delay narrow x.constants) P x.program.operations) x.end
       x.rounds).all ∙ sym (zip_long (IsThreadTree t) (thread_places t) x.program.operations x.program.are_graphs)
 
-  module _ (j : ℕ) (found : ThreadFound) (there : slice_get x.end.found j ≡ Some found) where
-    is_found : IsFoundOf (threads_plan delay narrow x.constants) P x.program.operations j (others_of (length P.globals) j x.end.table) found
+  module _ (j : ℕ) (found : ThreadResult) (there : slice_get x.end.found j ≡ Some found) where
+    is_found : IsThreadResultOf (threads_plan delay narrow x.constants) P x.program.operations j (threads_interference (length P.globals) j x.end.table) found
     is_found =
-        (all_end_found thread_finding (length P.globals) (length x.program.operations) (IsFoundOf (threads_plan delay narrow x.constants) P x.program.operations) x.end
+        (all_end_found thread_finding (length P.globals) (length x.program.operations) (IsThreadResultOf (threads_plan delay narrow x.constants) P x.program.operations) x.end
         x.rounds).each j found there
 
     verdict_inside : (q : ℕ) (b : Bool) → Contains (verdicts_of found) (q, b) → q < length (thread_sites t j)
     verdict_inside q b =
         let (g, at, is) = is_found in
-        verdict_low (others_of (length P.globals) j x.end.table) (threads_plan delay narrow x.constants) P (thread_program t (thread_place t j)) g
+        verdict_low (threads_interference (length P.globals) j x.end.table) (threads_plan delay narrow x.constants) P (thread_program t (thread_place t j)) g
         (tree_at j g at).1 found is q b
 
-    told_inside : (q : ℕ) (js : List (Place × Bool)) → Contains (told_in found) (q, js) → q < length (thread_sites t j)
+    told_inside : (q : ℕ) (js : List (Place × Bool)) → Contains (access_verdicts_of found) (q, js) → q < length (thread_sites t j)
     told_inside q js =
         let (g, at, is) = is_found in
-        told_low (others_of (length P.globals) j x.end.table) (threads_plan delay narrow x.constants) P (thread_program t (thread_place t j)) g
+        told_low (threads_interference (length P.globals) j x.end.table) (threads_plan delay narrow x.constants) P (thread_program t (thread_place t j)) g
         (tree_at j g at).1 found is q js
 
     -- a number tells its thread and point
@@ -215,14 +215,15 @@ module _ (delay narrow : ℕ) (source : List ℕ) (r : ThreadsReport) (x : IsThr
         (subst (λ (n : ℕ). slice_get x.end.found n ≡ Some found) own.0 there)
         (subst (λ (n : ℕ). Contains (verdicts_of found) (n, true)) own.1 (subst (λ (c : Bool). Contains (verdicts_of found) (p, c)) proved listed))
 
-    access_right : (p n : ℕ) (js : List (Place × Bool)) (place : Place) (b : Bool) → Contains (told_in found) (p, js) → slice_get js n ≡ Some (place, b)
+    access_right : (p n : ℕ) (js : List (Place × Bool)) (place : Place) (b : Bool) → Contains (access_verdicts_of found) (p, js) →
+        slice_get js n ≡ Some (place, b)
         → (k q : ℕ) (s : Site) → IsPointOf t k q s
         → points_before t j + suc p ≡ number_in t k q → IsTrue b → OutOfBoundsThread P fs k (point_of s) n → ⊥
     access_right p n js place b listed here k q s is same inside =
         let own = own_number p k q s (told_inside p js listed) is same in
         x.holds.inside k q (function_or (slice_get (resolved_functions t) (thread_place t k))) s found js n place (function_at t x.end x.holds k is.is_thread)
         is.is_point (subst (λ (m : ℕ). slice_get x.end.found m ≡ Some found) own.0 there)
-        (subst (λ (m : ℕ). Contains (told_in found) (m, js)) own.1 listed) (subst (λ (c : Bool). slice_get js n ≡ Some (place, c)) inside here)
+        (subst (λ (m : ℕ). Contains (access_verdicts_of found) (m, js)) own.1 listed) (subst (λ (c : Bool). slice_get js n ≡ Some (place, c)) inside here)
 
   -- what is said of a verdict at a point
   abbrev IsRightAt : ℕ → ℕ → Site → Verdict → Type 0
@@ -258,7 +259,7 @@ module _ (delay narrow : ℕ) (source : List ℕ) (r : ThreadsReport) (x : IsThr
   accessed_right k q s v is accessed =
       let (j, found, there, told) = first_from (verdicts_told t accesses_alone) x.end.found v accessed in
       let (u, one, same) = map_from (verdict_in_thread (points_before t j) (suc j)) (accesses_alone t j found) v told in
-      let (w, among, part) = flat_from (access_verdicts_at (labels_of t) (thread_sites t j)) (told_in found) u one in
+      let (w, among, part) = flat_from (access_verdicts_at (labels_of t) (thread_sites t j)) (access_verdicts_of found) u one in
       let (n, i, here, so) = access_from (labels_of t) (suc w.0) (site_at (thread_sites t j) w.0) 0 w.1 u part in
       told_right j u v Access w.0 n i.1 k q s same (sym (ap (λ (y : Verdict). y.kind) so)) (sym (ap (λ (y : Verdict). y.number) so))
       (sym (ap (λ (y : Verdict). y.which) so) ∙ from_nought n) (sym (ap (λ (y : Verdict). y.holds) so))

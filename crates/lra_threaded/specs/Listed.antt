@@ -17,11 +17,11 @@ use Rattle.lra_report.specs.Report.{PointReport, Verdict}
 use Rattle.lra_report.specs.declared.verdict_kinds.VerdictKind.TheVariants.{Assertion}
 use Rattle.lra_report_build.specs.AnalysisResults.{access_verdicts_at, state_of, verdict_at}
 use Rattle.lra_report_states.specs.Shown.{AreShown, shown_state}
-use Rattle.lra_rounds.specs.Intervals.{Row, Table}
-use Rattle.lra_rounds.specs.Telling.{interval_at}
-use Rattle.lra_rounds.specs.Rounds.{Settled}
-use Rattle.lra_threads.specs.Found.{told_in, values_of, verdicts_of}
-use Rattle.lra_threads.specs.declared.found.ThreadFound.{ThreadFound}
+use Rattle.lra_threads_fixpoint.specs.Intervals.{IntervalRow, IntervalTable}
+use Rattle.lra_threads_fixpoint.specs.Interference.{interval_at}
+use Rattle.lra_threads_fixpoint.specs.Rounds.{ThreadsFixpoint}
+use Rattle.lra_threads_analysis.specs.Found.{access_verdicts_of, thread_values, verdicts_of}
+use Rattle.lra_threads_analysis.specs.declared.found.ThreadResult.{ThreadResult}
 use Rattle.lra_threaded.specs.ThreadsText.{ThreadsReport, Writes}
 
 -- what is told of each of these, the one behind the other; the first of them is the k-th
@@ -49,16 +49,16 @@ number_in t k q = points_before t k + suc q
 
 -- so what was found of the k-th thread is listed as that of its program alone: each point with the state that shows the
 -- value there
-pub record AreListedAlone (t : FileTree) (k : ℕ) (found : ThreadFound) (points : List PointReport) : Type 0 where
+pub record AreListedAlone (t : FileTree) (k : ℕ) (found : ThreadResult) (points : List PointReport) : Type 0 where
   pub listed : AreListed (globals_named t.parts) (labels_of t) 1 (thread_sites t k) points
-  pub states : map state_of points ≡ map (shown_state box_abstraction) (values_of found)
-  pub are_shown : AreShown box_abstraction Box (shown_state box_abstraction) (values_of found)
+  pub states : map state_of points ≡ map (shown_state box_abstraction) (thread_values found)
+  pub are_shown : AreShown box_abstraction Box (shown_state box_abstraction) (thread_values found)
 
-abbrev pub assertions_alone : FileTree → ℕ → ThreadFound → List Verdict
+abbrev pub assertions_alone : FileTree → ℕ → ThreadResult → List Verdict
 assertions_alone t k found = map (verdict_at (labels_of t) (thread_sites t k) Assertion) (verdicts_of found)
 
-abbrev pub accesses_alone : FileTree → ℕ → ThreadFound → List Verdict
-accesses_alone t k found = flat_map (access_verdicts_at (labels_of t) (thread_sites t k)) (told_in found)
+abbrev pub accesses_alone : FileTree → ℕ → ThreadResult → List Verdict
+accesses_alone t k found = flat_map (access_verdicts_at (labels_of t) (thread_sites t k)) (access_verdicts_of found)
 
 -- the k-th thread gives the global of this name values of this interval; none where no gift to it was found
 abbrev pub write_told : ℕ → List ℕ → Option Interval → List Writes
@@ -66,7 +66,7 @@ write_told k name None = []
 write_told k name (Some i) = record { thread = suc k; name = name; low = i.low; high = i.high } ∷ []
 
 -- global by global
-abbrev pub writes_told : List (List ℕ) → ℕ → Row → List Writes
+abbrev pub writes_told : List (List ℕ) → ℕ → IntervalRow → List Writes
 writes_told names k row = one_by_one (λ x name. write_told k name (interval_at x row)) 0 names
 
 -- one thread behind the other --------------------------------------------------------------------------------------
@@ -85,31 +85,31 @@ verdict_in_thread before thread v = record v { number = before + v.number; path 
 abbrev pub points_told : FileTree → ℕ → List PointReport → List PointReport
 points_told t k points = map (point_in_thread (points_before t k) (suc k)) points
 
-abbrev pub verdicts_told : FileTree → (FileTree → ℕ → ThreadFound → List Verdict) → ℕ → ThreadFound → List Verdict
+abbrev pub verdicts_told : FileTree → (FileTree → ℕ → ThreadResult → List Verdict) → ℕ → ThreadResult → List Verdict
 verdicts_told t alone k found = map (verdict_in_thread (points_before t k) (suc k)) (alone t k found)
 
 -- reports ----------------------------------------------------------------------------------------------------------
 
 -- the points of all threads are listed, each thread's as those of its program alone and then behind those of the
 -- threads before it
-pub record ShowsPoints (t : FileTree) (found : List ThreadFound) (points : List PointReport) : Type 0 where
+pub record ShowsPoints (t : FileTree) (found : List ThreadResult) (points : List PointReport) : Type 0 where
   pub alone : List (List PointReport)
   pub as_many : length alone ≡ length found
-  pub are_listed : (k : ℕ) (one : ThreadFound) (ps : List PointReport) → slice_get found k ≡ Some one →
+  pub are_listed : (k : ℕ) (one : ThreadResult) (ps : List PointReport) → slice_get found k ≡ Some one →
       slice_get alone k ≡ Some ps → AreListedAlone t k one ps
   pub all : points ≡ one_by_one (points_told t) 0 alone
 
 -- of all their assertions, and then of all their accesses
-abbrev pub all_verdicts : FileTree → List ThreadFound → List Verdict
+abbrev pub all_verdicts : FileTree → List ThreadResult → List Verdict
 all_verdicts t found = one_by_one (verdicts_told t assertions_alone) 0 found ++
     one_by_one (verdicts_told t accesses_alone) 0 found
 
-abbrev pub all_writes : FileTree → Table → List Writes
+abbrev pub all_writes : FileTree → IntervalTable → List Writes
 all_writes t table = one_by_one (writes_told (globals_named t.parts)) 0 table
 
 -- what rounds end with, shown of the threads of a source with this tree: their points, what is judged of them, the
 -- settled intervals, and the first flagged point
-pub record ShowsThreads (t : FileTree) (end : Settled ThreadFound) (r : ThreadsReport) : Type 0 where
+pub record ShowsThreads (t : FileTree) (end : ThreadsFixpoint ThreadResult) (r : ThreadsReport) : Type 0 where
   pub count : r.count ≡ length (thread_places t)
   pub points : ShowsPoints t end.found r.points
   pub verdicts : r.verdicts ≡ all_verdicts t end.found

@@ -15,15 +15,15 @@ use Rattle.lra_operations.specs.declared.tree.InlinedProgram.{InlinedProgram}
 use Rattle.lra_report.specs.Report.{Verdict}
 use Rattle.lra_report.specs.declared.verdict_kinds.VerdictKind.TheVariants.{Assertion, Fit}
 use Rattle.lra_front_end.specs.Stages.{HasConstants}
-use Rattle.lra_threads_front.specs.Stages.{IsThreadGraph}
-use Rattle.lra_threads_front.specs.declared.front.ThreadsFront.{ThreadsFront}
+use Rattle.lra_threads_front_end.specs.Stages.{IsThreadInlined}
+use Rattle.lra_threads_front_end.specs.declared.front.AcceptedThreads.{AcceptedThreads}
 use Rattle.lra_report_build.specs.AnalysisResults.{access_verdicts_at, verdict_at}
 use Rattle.lra_report_build.specs.Views.{reported_view}
 use Rattle.lra_report_build.specs.declared.listing.Findings.{Findings}
 use Rattle.lra_analysis_spec.specs.Instrumented.{instrumented}
 use Rattle.lra_fixpoint.specs.Lives.{AreWide}
-use Rattle.lra_threads.specs.Found.{sites_in, values_of, verdicts_of}
-use Rattle.lra_threads.specs.declared.found.ThreadFound.{ThreadFound}
+use Rattle.lra_threads_analysis.specs.Found.{sites_in, thread_values, verdicts_of}
+use Rattle.lra_threads_analysis.specs.declared.found.ThreadResult.{ThreadResult}
 use Rattle.lra_threaded.specs.Listed.{thread_sites}
 
 abbrev pub points_in : InlinedProgram → ℕ
@@ -35,18 +35,18 @@ IsOpened globals graph other =
     (node_view other.tree ≡ instrumented globals (node_view graph.tree)) × (other.sites ≡ graph.sites)
 
 -- the same of what is read, with each graph opened
-pub record AreThreadsOpened (front other : ThreadsFront) : Type 0 where
+pub record AreThreadsOpened (front other : AcceptedThreads) : Type 0 where
   pub rest : front ≡ record other { graphs = front.graphs }
   pub graphs : AllZip (IsOpened (length other.resolution.program.globals.items)) front.graphs.items other.graphs.items
 
 -- all that the rounds and the report take from what is read of a source
-pub record IsReadOf (source : List ℕ) (front : ThreadsFront) : Type 0 where
+pub record IsReadOf (source : List ℕ) (front : AcceptedThreads) : Type 0 where
   pub accepted : AcceptsThreads Spells source (tree_view front.tree)
   pub constants : HasConstants source front.constants.items
   pub program : program_view front.resolution.program
       ≡ thread_program (tree_view front.tree) front.resolution.program.main
   pub labels : front.resolution.labels.labels ≡ labels_of (tree_view front.tree)
-  pub graphs : AllZip (IsThreadGraph (tree_view front.tree)) (thread_places (tree_view front.tree)) front.graphs.items
+  pub graphs : AllZip (IsThreadInlined (tree_view front.tree)) (thread_places (tree_view front.tree)) front.graphs.items
 
 -- the graphs have the points of a source's threads, no more in all than a report may have
 pub record AreGraphsOf (t : FileTree) (graphs : List InlinedProgram) : Type 0 where
@@ -55,16 +55,16 @@ pub record AreGraphsOf (t : FileTree) (graphs : List InlinedProgram) : Type 0 wh
   pub few : sum_by points_in graphs ≤ greatest_points
 
 -- a value for each point, as wide as what lives there, and what is judged stands at points
-pub record IsOfGraph (graph : InlinedProgram) (found : ThreadFound) : Type 0 where
-  pub wide : AreWide box_abstraction (sites_in graph) (values_of found)
-  pub points : length (values_of found) ≡ length (sites_in graph)
+pub record IsOfGraph (graph : InlinedProgram) (found : ThreadResult) : Type 0 where
+  pub wide : AreWide box_abstraction (sites_in graph) (thread_values found)
+  pub points : length (thread_values found) ≡ length (sites_in graph)
   pub assertions : All (λ v. v.0 < points_in graph) (verdicts_of found)
   pub inside : All (λ v. v.0 < points_in graph) found.inside.verdicts.items
 
 -- of each thread
-pub record AreOfGraphs (graphs : List InlinedProgram) (found : List ThreadFound) : Type 0 where
+pub record AreOfGraphs (graphs : List InlinedProgram) (found : List ThreadResult) : Type 0 where
   pub count : length found ≡ length graphs
-  pub each : (k : ℕ) (graph : InlinedProgram) (one : ThreadFound) → slice_get graphs k ≡ Some graph →
+  pub each : (k : ℕ) (graph : InlinedProgram) (one : ThreadResult) → slice_get graphs k ≡ Some graph →
       slice_get found k ≡ Some one → IsOfGraph graph one
 
 -- verdicts on a thread, as it is listed alone, stand at its points

@@ -20,16 +20,16 @@ use Rattle.lra_report.specs.Report.{PointReport, Verdict, InvariantHolds}
 use Rattle.lra_report.specs.declared.verdict_kinds.VerdictKind.{VerdictKind}
 use Rattle.lra_report.specs.declared.verdict_kinds.VerdictKind.TheVariants.{Assertion, Fit, Access}
 use Rattle.lra_front_end.specs.Stages.{HasConstants}
-use Rattle.lra_threads_front.specs.Claims.{IsAcceptedThreads}
+use Rattle.lra_threads_front_end.specs.Claims.{IsAcceptedThreads}
 use Rattle.lra_analysis_spec.specs.Plan.{Plan, plan_of}
 use Rattle.lra_interleavings.specs.Interleavings.{AtThread, FailsThread, ThreadWritesValue, OutOfBoundsThread}
-use Rattle.lra_rounds.specs.Intervals.{empty_table}
-use Rattle.lra_rounds.specs.Rounds.{AllRounds, Settled, joining_rounds}
-use Rattle.lra_rounds.specs.Flags.{ComesToStrain}
-use Rattle.lra_threads.specs.Found.{IsFoundOf, IsWrittenOf, StrainsAt, thread_finding}
-use Rattle.lra_threads.specs.Holding.{AreFlagged}
-use Rattle.lra_threads.specs.declared.found.ThreadFound.{ThreadFound}
-use Rattle.lra_woven.specs.Beside.{HoldsBeside}
+use Rattle.lra_threads_fixpoint.specs.Intervals.{empty_table}
+use Rattle.lra_threads_fixpoint.specs.Rounds.{AllRounds, ThreadsFixpoint, joining_rounds}
+use Rattle.lra_threads_fixpoint.specs.Flags.{ComesToStrain}
+use Rattle.lra_threads_analysis.specs.Found.{IsThreadResultOf, IsExactResultOf, StrainsAt, thread_finding}
+use Rattle.lra_threads_analysis.specs.Holding.{AreFlagged}
+use Rattle.lra_threads_analysis.specs.declared.found.ThreadResult.{ThreadResult}
+use Rattle.lra_threads_sound.specs.Interleaved.{HoldsInterleaved}
 use Rattle.lra_threaded.specs.ThreadsText.{ThreadsReport, Writes}
 use Rattle.lra_threaded.specs.Listed.{ShowsThreads, number_in, points_before, thread_place, thread_sites}
 
@@ -60,12 +60,12 @@ pub record IsThreadsOf (delay narrow : ℕ) (source : List ℕ) (r : ThreadsRepo
   pub program : IsAcceptedThreads source
   pub constants : List ℤ
   pub own : HasConstants source constants
-  pub end : Settled ThreadFound
+  pub end : ThreadsFixpoint ThreadResult
   pub rounds : AllRounds thread_finding (length (shared_program program.tree).globals)
-      (IsFoundOf (threads_plan delay narrow constants) (shared_program program.tree) program.operations)
+      (IsThreadResultOf (threads_plan delay narrow constants) (shared_program program.tree) program.operations)
       (length program.operations) end
   pub flags : AreFlagged (threads_plan delay narrow constants) (shared_program program.tree) program.operations end
-  pub holds : HoldsBeside (shared_program program.tree) (thread_functions program.tree) end
+  pub holds : HoldsInterleaved (shared_program program.tree) (thread_functions program.tree) end
   pub shows : ShowsThreads program.tree end r
 
 -- claims -----------------------------------------------------------------------------------------------------------
@@ -109,9 +109,9 @@ pub record HoldsInInterleavings (t : FileTree) (r : ThreadsReport) : Type 0 wher
 -- what is shown is what the written rounds end with: in them each operation of an iteration and of what is judged of
 -- accesses gives its defined result
 pub record AreDefinedThreads (plan : Plan) (t : FileTree) (trees : List Node) (r : ThreadsReport) : Type 0 where
-  pub end : Settled ThreadFound
+  pub end : ThreadsFixpoint ThreadResult
   pub rounds : AllRounds thread_finding (length (shared_program t).globals)
-      (IsWrittenOf plan (shared_program t) trees) (length trees) end
+      (IsExactResultOf plan (shared_program t) trees) (length trees) end
   pub shows : ShowsThreads t end r
 
 -- the number is that of a thread's point, of which an operation strains; all before it is exact: round by round, in a
@@ -123,7 +123,7 @@ pub record StrainsAtNumber (plan : Plan) (t : FileTree) (trees : List Node) (num
   pub is_point : IsPointOf t thread point site
   pub is_number : number ≡ number_in t thread point
   pub strains : ComesToStrain thread_finding (length (shared_program t).globals)
-      (IsWrittenOf plan (shared_program t) trees) (StrainsAt plan (shared_program t) trees) (length trees)
+      (IsExactResultOf plan (shared_program t) trees) (StrainsAt plan (shared_program t) trees) (length trees)
       joining_rounds (empty_table (length trees) (length (shared_program t).globals)) thread point
 
 abbrev pub ThreadsAreSound : Type 0

@@ -12,8 +12,8 @@ ghost use Rattle.lra_report.specs.View.{point_report_of, verdict_of};
 ghost use Rattle.lra_report.specs.declared.verdict_kinds.VerdictKind.TheVariants.{Assertion, Fit};
 ghost use Rattle.lra_report_build.specs.AnalysisResults.{access_verdicts_at, verdict_at};
 ghost use Rattle.lra_report_build.specs.Views.{reported_view};
-ghost use Rattle.lra_rounds.specs.Found.{settled_view};
-ghost use Rattle.lra_rounds.specs.Telling.{interval_at};
+ghost use Rattle.lra_threads_fixpoint.specs.Found.{fixpoint_view};
+ghost use Rattle.lra_threads_fixpoint.specs.Interference.{interval_at};
 ghost use Rattle.lra_threaded.specs.Listed.{accesses_alone, all_verdicts, all_writes, assertions_alone};
 ghost use Rattle.lra_threaded.specs.Listed.{number_in, point_in_thread, points_before, points_told};
 ghost use Rattle.lra_threaded.specs.Listed.{one_by_one, thread_path, thread_sites};
@@ -30,10 +30,10 @@ use lra_report::{PointReport, Verdict};
 use lra_report_build::{Findings, list_points, list_verdicts, names_of_globals, number_of};
 use lra_report_states::states_of;
 use lra_resolution_spec::Labels;
-use lra_rounds::{Intervals, SettledRound};
 use lra_row_text::Names;
 use lra_syntax::TranslationUnit;
-use lra_threads::ThreadFound;
+use lra_threads_analysis::ThreadResult;
+use lra_threads_fixpoint::{FixpointRound, Intervals};
 use std::alloc::{AllocError, Global};
 
 /// What a report lists of threads: their source's tree, the table of its labels, and the graph of each of them.
@@ -147,7 +147,7 @@ fn push_thread(
     outline: &Outline<'_>,
     globals: &Names,
     k: usize,
-    found: &ThreadFound,
+    found: &ThreadResult,
     listed: &mut Vec<PointReport>,
 ) -> Result<(), AllocError>
     requires graphs { AreGraphsOf (tree_view outline.now.tree.now) outline.now.graphs.now }
@@ -172,7 +172,7 @@ fn list_threads(
     alloc: Global,
     outline: &Outline<'_>,
     globals: &Names,
-    found: &[ThreadFound],
+    found: &[ThreadResult],
 ) -> Result<Vec<PointReport>, AllocError>
     requires graphs { AreGraphsOf (tree_view outline.now.tree.now) outline.now.graphs.now }
     requires labels { outline.now.labels.now.labels ≡ labels_of (tree_view outline.now.tree.now) }
@@ -245,7 +245,7 @@ fn push_judged(
 fn push_assertions(
     alloc: Global,
     outline: &Outline<'_>,
-    found: &[ThreadFound],
+    found: &[ThreadResult],
     listed: &mut Vec<Verdict>,
 ) -> Result<(), AllocError>
     requires graphs { AreGraphsOf (tree_view outline.now.tree.now) outline.now.graphs.now }
@@ -271,7 +271,7 @@ fn push_assertions(
 fn push_accesses(
     alloc: Global,
     outline: &Outline<'_>,
-    found: &[ThreadFound],
+    found: &[ThreadResult],
     listed: &mut Vec<Verdict>,
 ) -> Result<(), AllocError>
     requires graphs { AreGraphsOf (tree_view outline.now.tree.now) outline.now.graphs.now }
@@ -297,7 +297,7 @@ fn push_accesses(
 fn list_judged(
     alloc: Global,
     outline: &Outline<'_>,
-    found: &[ThreadFound],
+    found: &[ThreadResult],
 ) -> Result<Vec<Verdict>, AllocError>
     requires graphs { AreGraphsOf (tree_view outline.now.tree.now) outline.now.graphs.now }
     requires labels { outline.now.labels.now.labels ≡ labels_of (tree_view outline.now.tree.now) }
@@ -397,7 +397,7 @@ pub fn list(
     outline: &Outline<'_>,
     delay: u32,
     narrow: u32,
-    end: &SettledRound<ThreadFound>,
+    end: &FixpointRound<ThreadResult>,
 ) -> Result<ThreadsReport, AllocError>
     requires graphs { AreGraphsOf (tree_view outline.now.tree.now) outline.now.graphs.now }
     requires labels { outline.now.labels.now.labels ≡ labels_of (tree_view outline.now.tree.now) }
@@ -405,7 +405,7 @@ pub fn list(
     requires table { length end.now.table.items ≡ length outline.now.graphs.now }
     requires flag { (k q : ℕ) → end.now.flag ≡ Some (k, q) → IsFlagIn outline.now.graphs.now (k, q) }
     ensures shows { IfOk result (λ r. ShowsThreads (tree_view outline.now.tree.now)
-        (settled_view end.now) (threads_report_of r)) }
+        (fixpoint_view end.now) (threads_report_of r)) }
     ensures delay { IfOk result (λ r. r.delay ≡ delay) }
     ensures narrow { IfOk result (λ r. r.narrow ≡ narrow) }
 {

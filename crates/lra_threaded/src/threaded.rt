@@ -14,12 +14,12 @@ use crate::listing::{Outline, list};
 use crate::text::ThreadsReport;
 use lra_base::SourceError;
 use lra_fixpoint::Plan;
-use lra_opened::opened_graph;
 use lra_operations::InlinedProgram;
 use lra_options::{Domain, Options, default_options};
-use lra_threads::analyse_threads;
-use lra_threads_front::{ThreadsFront, read_threads};
-use lra_woven::threads_hold;
+use lra_threads_analysis::analyse_threads;
+use lra_threads_front_end::{AcceptedThreads, read_threads};
+use lra_threads_instrument::instrument_program;
+use lra_threads_sound::threads_hold;
 use std::alloc::{AllocError, Global};
 use std::mem;
 
@@ -45,13 +45,13 @@ fn open_graphs(
 {
     let mut opened = Vec::new(alloc);
     'graphs: for graph in graphs {
-        opened.push(opened_graph(alloc, globals, graph)?)?;
+        opened.push(instrument_program(alloc, globals, graph)?)?;
     }
     Ok(opened)
 }
 
 /// What was read, with what others do written into the trees.
-fn open_threads(alloc: Global, front: ThreadsFront) -> Result<ThreadsFront, AllocError>
+fn open_threads(alloc: Global, front: AcceptedThreads) -> Result<AcceptedThreads, AllocError>
     ensures { IfOk result (λ f. AreThreadsOpened front f) }
 {
     let mut front = front;
@@ -67,7 +67,7 @@ fn report_threads(
     plan: &Plan,
     delay: u32,
     narrow: u32,
-    front: ThreadsFront,
+    front: AcceptedThreads,
 ) -> Result<ThreadsReport, AllocError>
     requires planned { plan.now ≡ threaded.threads_plan delay narrow front.constants.items }
     requires read { (source : List ℕ) × IsReadOf source front }

@@ -2,8 +2,8 @@
 use Rattle.std.proofs.Common.{ℕ, List, length, subst, inl, inr}
 use Rattle.std.specs.Prelude.{Option}
 use Rattle.std.specs.Io.KnownBytes.{Appends}
-use Rattle.lra_rounds.proofs.FlagLemmas.{settles}
-use Rattle.lra_threads.specs.Found.{IsFoundOf, thread_finding}
+use Rattle.lra_threads_fixpoint.proofs.FlagLemmas.{settles}
+use Rattle.lra_threads_analysis.specs.Found.{IsThreadResultOf, thread_finding}
 use Rattle.lra_threaded.specs.Threaded.{shared_program, threads_plan}
 use Rattle.lra_threaded.proofs.Sound.{threads_sound}
 use Rattle.lra_threaded.proofs.Strained.{unflagged_defined, flagged_strain}
@@ -28,7 +28,7 @@ module _ (delay narrow : ℕ) where
     accepted = d.deserved.program.accepted;
     holds = threads_sound delay narrow bytes d.report d.deserved;
     found = (settles thread_finding (length (shared_program d.deserved.program.tree).globals)
-        (IsFoundOf (threads_plan delay narrow d.deserved.constants) (shared_program d.deserved.program.tree) d.deserved.program.operations)
+        (IsThreadResultOf (threads_plan delay narrow d.deserved.constants) (shared_program d.deserved.program.tree) d.deserved.program.operations)
         (length d.deserved.program.operations) d.deserved.end d.deserved.rounds).0;
     is_defined = unflagged_defined delay narrow bytes d.report d.deserved;
     strains = flagged_strain delay narrow bytes d.report d.deserved;

@@ -44,8 +44,8 @@ use Rattle.lra_report_states.specs.Shown.{AreShown}
 use Rattle.lra_threaded.specs.ThreadsText.{ThreadsReport, threads_text}
 use Rattle.lra_threaded.specs.Threaded.{AreDefinedThreads, HoldsInInterleavings, IsThreadsOf, StrainsAtNumber}
 use Rattle.lra_threaded.specs.Threaded.{shared_program, threads_plan}
-use Rattle.lra_rounds.specs.Rounds.{AreFound}
-use Rattle.lra_threads.specs.Found.{IsFoundOf}
+use Rattle.lra_threads_fixpoint.specs.Rounds.{AreThreadResults}
+use Rattle.lra_threads_analysis.specs.Found.{IsThreadResultOf}
 use Rattle.lra_words.specs.Chosen.{default_options}
 use Rattle.lra_answers.specs.declared.status.Status.{Status}
 use Rattle.lra_answers.specs.declared.status.Status.TheVariants.{Proved}
@@ -247,8 +247,8 @@ pub record WritesThreads (delay narrow : ℕ) (left held_old held_new : Option (
   pub deserved : IsThreadsOf delay narrow bytes report
   pub accepted : AcceptsThreads Spells bytes deserved.program.tree
   pub holds : HoldsInInterleavings deserved.program.tree report
-  pub found : AreFound (length (shared_program deserved.program.tree).globals)
-      (IsFoundOf (threads_plan delay narrow deserved.constants) (shared_program deserved.program.tree)
+  pub found : AreThreadResults (length (shared_program deserved.program.tree).globals)
+      (IsThreadResultOf (threads_plan delay narrow deserved.constants) (shared_program deserved.program.tree)
       deserved.program.operations) (length deserved.program.operations) deserved.end.table deserved.end.found
   pub is_defined : report.flagged ≡ None → AreDefinedThreads (threads_plan delay narrow deserved.constants)
       deserved.program.tree deserved.program.operations report

@@ -8,7 +8,7 @@ use Rattle.lra_syntax.specs.Grammar.{Spells}
 use Rattle.lra_resolution_spec.specs.RefuseThreads.{RefuseThreads, AcceptsThreads}
 use Rattle.lra_report.specs.RefusalText.{refusal_text}
 use Rattle.lra_report.specs.ReportText.{unknown_count}
-use Rattle.lra_threads_front.specs.Claims.{HasThreadsRefusal}
+use Rattle.lra_threads_front_end.specs.Claims.{HasThreadsRefusal}
 use Rattle.lra_threaded.specs.ThreadsText.{ThreadsReport, threads_text}
 use Rattle.lra_threaded.specs.Threaded.{IsThreadsOf}
 use Rattle.lra_answers.specs.Statuses.{refused, reported}

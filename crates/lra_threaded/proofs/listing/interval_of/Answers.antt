@@ -2,16 +2,16 @@
 use Rattle.std.proofs.Common.{◌≡◌, ◌≤◌, ◌<◌, ℕ, zero, suc, [], ◌∷◌, length, get_or, refl, arith}
 use Rattle.std.specs.Prelude.{Option, None}
 use Rattle.lra_box.specs.declared.interval.Interval.{Interval}
-use Rattle.lra_rounds.specs.Intervals.{Row}
-use Rattle.lra_rounds.specs.Telling.{interval_at}
+use Rattle.lra_threads_fixpoint.specs.Intervals.{IntervalRow}
+use Rattle.lra_threads_fixpoint.specs.Interference.{interval_at}
 use Rattle.lra_threaded.proofs.listing.interval_of.Goals as goal
 
-past_row : (row : Row) (x : ℕ) → length row ≤ x → None ≡ interval_at x row
+past_row : (row : IntervalRow) (x : ℕ) → length row ≤ x → None ≡ interval_at x row
 past_row [] x past = refl
 past_row (i ∷ row) zero past = absurd (omega (arith, past))
 past_row (i ∷ row) (suc x) past = past_row row x (omega (arith, past))
 
-in_row : (row : Row) (x : ℕ) (i : Option Interval) → x < length row → i ≡ get_or row x i → i ≡ interval_at x row
+in_row : (row : IntervalRow) (x : ℕ) (i : Option Interval) → x < length row → i ≡ get_or row x i → i ≡ interval_at x row
 in_row [] x i low is = absurd (omega (arith, low))
 in_row (j ∷ row) zero i low is = is
 in_row (j ∷ row) (suc x) i low is = in_row row x i (omega (arith, low)) is

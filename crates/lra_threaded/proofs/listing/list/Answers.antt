@@ -2,7 +2,7 @@
 use Rattle.std.proofs.Common.{◌∙◌, ℕ, List, ap}
 use Rattle.lra_syntax.specs.Views.{tree_view}
 use Rattle.lra_resolution_spec.specs.LiveNames.{globals_named}
-use Rattle.lra_rounds.specs.Intervals.{Table}
+use Rattle.lra_threads_fixpoint.specs.Intervals.{IntervalTable}
 use Rattle.lra_threaded.specs.Listed.{one_by_one, writes_told}
 use Rattle.lra_threaded.proofs.PointNumbers.{flag_number}
 use Rattle.lra_threaded.proofs.listing.list.Goals as goal
@@ -15,6 +15,6 @@ returns-clause-shows c =
       points = rw c.deref.ensures.value at c.in_ok-points.ensures;
       verdicts = rw c.deref-2.ensures.value at c.in_ok-verdicts.ensures;
       writes = c.in_ok-writes.ensures ∙ ap (λ (names : List (List ℕ)). one_by_one (writes_told names) 0 c.deref-3.result.now) c.in_ok-globals.ensures
-          ∙ ap (λ (table : Table). one_by_one (writes_told (globals_named t.parts)) 0 table) c.deref-3.ensures.value;
+          ∙ ap (λ (table : IntervalTable). one_by_one (writes_told (globals_named t.parts)) 0 table) c.deref-3.ensures.value;
       flag = c.flag_of.ensures ∙ flag_number t c.args.outline.now.graphs.now c.requires.graphs c.args.end.now.flag;
     }

@@ -3,7 +3,7 @@ use Rattle.std.proofs.Common.{◌∙◌, ◌<◌, ◌++◌, ℕ, List, map, stri
 use Rattle.std.specs.Prelude.{Option}
 use Rattle.std.proofs.lemmas.List.{get_or-map, length-map}
 use Rattle.lra_box.specs.declared.interval.Interval.{Interval}
-use Rattle.lra_rounds.specs.Telling.{interval_at}
+use Rattle.lra_threads_fixpoint.specs.Interference.{interval_at}
 use Rattle.lra_threaded.specs.Listed.{write_told}
 use Rattle.lra_threaded.specs.ThreadsView.{writes_of}
 use Rattle.lra_threaded.proofs.InTurn.{turn_more}

@@ -1,6 +1,6 @@
 -- What is written so far and what is left are all.
 use Rattle.std.proofs.Common.{◌≡◌, ◌++◌, ℕ, suc, map, drop, string_bytes}
-use Rattle.lra_rounds.specs.Telling.{interval_at}
+use Rattle.lra_threads_fixpoint.specs.Interference.{interval_at}
 use Rattle.lra_threaded.specs.Listed.{one_by_one, write_told, writes_told}
 use Rattle.lra_threaded.specs.ThreadsView.{writes_of}
 use Rattle.lra_threaded.proofs.listing.push_row.Given as goal

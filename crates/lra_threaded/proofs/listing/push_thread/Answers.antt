@@ -7,7 +7,7 @@ use Rattle.lra_operations.specs.TreeViews.{site_view}
 use Rattle.lra_operations.specs.declared.tree.InlinedProgram.{InlinedProgram}
 use Rattle.lra_report.specs.Report as report
 use Rattle.lra_report.specs.View.{point_report_of}
-use Rattle.lra_threads.specs.Found.{sites_in, values_of}
+use Rattle.lra_threads_analysis.specs.Found.{sites_in, thread_values}
 use Rattle.lra_threaded.specs.Listed.{point_in_thread}
 use Rattle.lra_threaded.specs.Stages.{CanFollow}
 use Rattle.lra_threaded.proofs.Following.{all_viewed, points_follow}
@@ -20,7 +20,7 @@ list_points-requires-clause-states c =
     let graph = c.index-outline-k.result in
     let there = slice_get_read graphs (length graphs) c.args.k graph refl c.requires.there c.index-outline-k.is in
     let of = c.requires.found graph there in
-    rw (c.as_slice-sites.ensures.value ∙ ap (λ (g : InlinedProgram). g.sites.items) (sym c.index-outline-k.is)) (states_listed (sites_in graph) (values_of c.args.found.now) (map (λ x. x.items) c.in_ok-states.states.items) of.wide of.points
+    rw (c.as_slice-sites.ensures.value ∙ ap (λ (g : InlinedProgram). g.sites.items) (sym c.index-outline-k.is)) (states_listed (sites_in graph) (thread_values c.args.found.now) (map (λ x. x.items) c.in_ok-states.states.items) of.wide of.points
     (rw c.deref.ensures.value at c.in_ok-states.ensures.told) (rw c.deref.ensures.value at c.in_ok-states.ensures.shown))
 
 pub push_points-requires : goal.push_points-requires

@@ -9,5 +9,5 @@ use Rattle.lra_threaded.proofs.threaded.open_graphs.Goals as goal
 pub graphs-preserved : goal.graphs-preserved
 graphs-preserved c =
     subst (λ (hs : List InlinedProgram). AllZip (IsOpened c.args.globals) (c.graphs.yielded ++ c.in-Some.graph ∷ []) hs) (sym c.in_ok-push.ensures.items)
-    (AllZip-push (IsOpened c.args.globals) c.graphs.yielded c.graphs.opened.items c.in-Some.graph c.in_ok-opened_graph.field-0 c.graphs.invariant
-    (c.in_ok-opened_graph.ensures.tree, c.in_ok-opened_graph.ensures.sites))
+    (AllZip-push (IsOpened c.args.globals) c.graphs.yielded c.graphs.opened.items c.in-Some.graph c.in_ok-instrument_program.field-0 c.graphs.invariant
+    (c.in_ok-instrument_program.ensures.tree, c.in_ok-instrument_program.ensures.sites))

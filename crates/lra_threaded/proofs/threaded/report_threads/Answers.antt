@@ -4,20 +4,20 @@ use Rattle.std.specs.List.{AllZip}
 use Rattle.lra_syntax.specs.Views.{tree_view}
 use Rattle.lra_program.specs.declared.program.GlobalVariable.{GlobalVariable}
 use Rattle.lra_operations.specs.declared.tree.InlinedProgram.{InlinedProgram}
-use Rattle.lra_threads_front.specs.declared.front.ThreadsFront.{ThreadsFront}
-use Rattle.lra_rounds.specs.Found.{settled_view}
+use Rattle.lra_threads_front_end.specs.declared.front.AcceptedThreads.{AcceptedThreads}
+use Rattle.lra_threads_fixpoint.specs.Found.{fixpoint_view}
 use Rattle.lra_threaded.specs.Stages.{AreThreadsOpened, IsOpened, IsReadOf}
 use Rattle.lra_threaded.specs.ThreadsView.{threads_report_of}
 use Rattle.lra_threaded.proofs.Answered.{answered, flag_handed, found_handed, globals_seen, graphs_handed, ready}
 use Rattle.lra_threaded.proofs.threaded.report_threads.Goals as goal
 
 -- all but the graphs is as it was read
-is_read : (source : List ℕ) (front other : ThreadsFront) → AreThreadsOpened front other → IsReadOf source front
+is_read : (source : List ℕ) (front other : AcceptedThreads) → AreThreadsOpened front other → IsReadOf source front
     → IsReadOf source (record other { graphs = front.graphs })
 is_read source front other o = subst (IsReadOf source) o.rest
 
 -- the graphs, as they are handed on
-are_opened : (front other : ThreadsFront) → AreThreadsOpened front other → (globals : List GlobalVariable) → globals ≡ other.resolution.program.globals.items
+are_opened : (front other : AcceptedThreads) → AreThreadsOpened front other → (globals : List GlobalVariable) → globals ≡ other.resolution.program.globals.items
     → (graphs : List InlinedProgram) → graphs ≡ other.graphs.items → AllZip (IsOpened (length globals)) front.graphs.items graphs
 are_opened front other o globals same graphs also =
     subst (λ (gs : List GlobalVariable). AllZip (IsOpened (length gs)) front.graphs.items graphs) (sym same)
@@ -60,7 +60,7 @@ list-requires-clause-found c =
     let opens = are_opened c.args.front c.in_ok-opened.opened c.in_ok-opened.ensures globals c.as_slice-globals.ensures.value
     graphs c.as_slice-graphs.ensures.value in
     found_handed c.requires.read.0 t is.accepted c.args.front.graphs.items graphs is.graphs globals same opens
-    c.args.plan.now (settled_view c.in_ok-end.end) c.in_ok-end.ensures.rounds c.in_ok-end.ensures.flagged c.in_ok-end.ensures.holds
+    c.args.plan.now (fixpoint_view c.in_ok-end.end) c.in_ok-end.ensures.rounds c.in_ok-end.ensures.flagged c.in_ok-end.ensures.holds
 
 pub list-requires-clause-flag : goal.list-requires-clause-flag
 list-requires-clause-flag c =
@@ -72,7 +72,7 @@ list-requires-clause-flag c =
     let opens = are_opened c.args.front c.in_ok-opened.opened c.in_ok-opened.ensures globals c.as_slice-globals.ensures.value
     graphs c.as_slice-graphs.ensures.value in
     flag_handed c.requires.read.0 t is.accepted c.args.front.graphs.items graphs is.graphs globals same opens
-    c.args.plan.now (settled_view c.in_ok-end.end) c.in_ok-end.ensures.rounds c.in_ok-end.ensures.flagged c.in_ok-end.ensures.holds
+    c.args.plan.now (fixpoint_view c.in_ok-end.end) c.in_ok-end.ensures.rounds c.in_ok-end.ensures.flagged c.in_ok-end.ensures.holds
 
 pub returns : goal.returns
 returns c source read =
@@ -84,6 +84,6 @@ returns c source read =
     let opens = are_opened c.args.front c.in_ok-opened.opened c.in_ok-opened.ensures globals c.as_slice-globals.ensures.value
     graphs c.as_slice-graphs.ensures.value in
     answered source t is.accepted c.args.front.graphs.items graphs is.graphs globals same opens
-    c.args.plan.now (settled_view c.in_ok-end.end) c.in_ok-end.ensures.rounds c.in_ok-end.ensures.flagged c.in_ok-end.ensures.holds
+    c.args.plan.now (fixpoint_view c.in_ok-end.end) c.in_ok-end.ensures.rounds c.in_ok-end.ensures.flagged c.in_ok-end.ensures.holds
     c.args.delay c.args.narrow c.args.front.constants.items (threads_report_of c.in_ok-report.report) c.threads_hold.ensures c.requires.planned
     read.constants c.in_ok-report.ensures.delay c.in_ok-report.ensures.narrow c.in_ok-report.ensures.shows

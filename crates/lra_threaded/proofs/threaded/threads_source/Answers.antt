@@ -3,7 +3,7 @@ use Rattle.std.proofs.Common.{◌∙◌, ℕ, ℤ, List, ap₂, subst}
 use Rattle.std.specs.List.{AllZip}
 use Rattle.lra_syntax.specs.Views.{tree_view}
 use Rattle.lra_options.specs.declared.options.Options.{Options}
-use Rattle.lra_threads_front.specs.Stages.{IsThreadGraph}
+use Rattle.lra_threads_front_end.specs.Stages.{IsThreadInlined}
 use Rattle.lra_analysis_spec.specs.Plan.{plan_of}
 use Rattle.lra_threaded.proofs.threaded.threads_source.Goals as goal
 
@@ -19,7 +19,7 @@ report_threads-requires-clause-read c = (
     constants = c.in_ok-front.ensures.constants;
     program = c.in_ok-front.ensures.program;
     labels = c.in_ok-front.ensures.labels;
-    graphs = subst (λ (ps : List ℕ). AllZip (IsThreadGraph (tree_view c.in_ok-front.front.tree)) ps c.in_ok-front.front.graphs.items)
+    graphs = subst (λ (ps : List ℕ). AllZip (IsThreadInlined (tree_view c.in_ok-front.front.tree)) ps c.in_ok-front.front.graphs.items)
         c.in_ok-front.ensures.threads c.in_ok-front.ensures.graphs;
   },
 )
@@ -31,6 +31,6 @@ returns-clause-answered c =
       constants = c.in_ok-front.ensures.constants;
       program = c.in_ok-front.ensures.program;
       labels = c.in_ok-front.ensures.labels;
-      graphs = subst (λ (ps : List ℕ). AllZip (IsThreadGraph (tree_view c.in_ok-front.front.tree)) ps c.in_ok-front.front.graphs.items)
+      graphs = subst (λ (ps : List ℕ). AllZip (IsThreadInlined (tree_view c.in_ok-front.front.tree)) ps c.in_ok-front.front.graphs.items)
           c.in_ok-front.ensures.threads c.in_ok-front.ensures.graphs;
     })

@@ -1,6 +1,0 @@
--- The goal of `open_in`: the place is the innermost.
-use Rattle.lra_opened.proofs.OpenPlaces.{opened_in}
-use Rattle.lra_opened.proofs.trees.open_in.Goals as goal
-
-pub returns : goal.returns
-returns c n = opened_in n c.args.places.now.items c.push.new.self.items c.args.place c.args.tree c.in_ok-push.ensures.items

@@ -1,6 +1,0 @@
--- Goals of `bound_of`: the bounds that a box tells are in range.
-use Rattle.lra_rounds.proofs.FitLemmas.{bound_fits}
-use Rattle.lra_rounds.proofs.intervals.bound_of.Goals as goal
-
-pub returns-then-x-dims-clause-fits : goal.returns-then-x-dims-clause-fits
-returns-then-x-dims-clause-fits c = rw c.bound.ensures.bound (bound_fits c.args.x c.args.value.now c.is_empty.ensures.formed)

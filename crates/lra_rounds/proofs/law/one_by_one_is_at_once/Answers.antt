@@ -1,6 +1,0 @@
--- Goals of `one_by_one_is_at_once`.
-use Rattle.lra_rounds.proofs.TellingLemmas.{one_by_one}
-use Rattle.lra_rounds.proofs.law.one_by_one_is_at_once.Goals as goal
-
-pub returns : goal.returns
-returns c = one_by_one

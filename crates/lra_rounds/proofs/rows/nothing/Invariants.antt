@@ -1,5 +1,0 @@
-use Rattle.std.proofs.Common.{◌≡◌, replicate, None}
-use Rattle.lra_rounds.proofs.rows.nothing.Given as goal
-
-abbrev pub invariant-places : goal.invariant-places
-invariant-places l = l.row.items ≡ replicate l._place None

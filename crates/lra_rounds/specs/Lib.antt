@@ -1,6 +1,0 @@
--- In the order in which they are to be read.
-pub mod Intervals
-pub mod Telling
-pub mod Rounds
-pub mod Flags
-pub mod Found

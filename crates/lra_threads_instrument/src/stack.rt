@@ -1,0 +1,58 @@
+//! Where a tree is being opened: the open places, and what comes next. The tree is gone along by a list of these, and
+//! not by calls, so it may be as deep as memory allows.
+
+use lra_operations::{Arm, Exit, Node};
+use lra_program::{Cond, Expr};
+
+/// A tree of a row is being opened: those before it are opened, those behind it are left, the next of them last.
+#[derive(Drop)]
+pub struct Row {
+    pub done: Vec<Node>,
+    pub left: Vec<Node>,
+    pub last: Box<Node>,
+}
+
+/// The arms of a `switch` are gone through: these are opened, those are left, the next of them last.
+#[derive(Drop)]
+pub struct Selection {
+    pub point: usize,
+    pub base: usize,
+    pub value: Expr,
+    pub done: Vec<Arm>,
+    pub left: Vec<Arm>,
+}
+
+/// What is around a tree that is being opened.
+#[derive(Drop)]
+pub enum InstrumentFrame {
+    Row(Row),
+    /// The last of a row, behind these.
+    Last(Vec<Node>),
+    /// The first branch of a choice, before the other, which is left.
+    First(usize, usize, Cond, Box<Node>),
+    /// The second branch of a choice, behind the first, which is opened.
+    Second(usize, usize, Cond, Box<Node>),
+    /// The body of a loop.
+    Body(usize, usize, Cond),
+    Catch(usize, Exit),
+    /// The next arm's tree.
+    Arm(Selection),
+}
+
+/// What comes next.
+#[derive(Drop)]
+pub enum Next {
+    /// This tree is to be opened.
+    Opens(Node),
+    /// This one is opened.
+    Gives(Node),
+    /// The arms that are left are to be opened.
+    Selects(Selection),
+}
+
+/// What a step leads to: the whole tree is opened, or this comes next.
+#[derive(Drop)]
+pub enum Step {
+    Ended(Node),
+    Goes(Next),
+}

@@ -1,0 +1,11 @@
+-- What threads tell and write.
+pub mod TellsAll
+pub mod Allowed
+pub mod NotesWritten
+-- Runs of trees among others.
+pub mod NamedWrites
+pub mod ChecksUnder
+pub mod Held
+pub mod InsideHolds
+-- All of it, for the threads beside each other.
+pub mod HoldBeside
