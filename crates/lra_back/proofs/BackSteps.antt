@@ -16,11 +16,11 @@ use Rattle.lra_analysis_spec.specs.Analysis.{IsUnreachable}
 use Rattle.lra_analysis_spec.proofs.Keeping.{some_is}
 use Rattle.lra_analysis_spec.specs.LiveLimit.{most_live}
 use Rattle.lra_analysis_spec.specs.Pass.{noted}
-use Rattle.lra_ways.specs.Ways.{Goal, comes_to}
-use Rattle.lra_ways.specs.Stretches.{Stretch}
-use Rattle.lra_sides.specs.Sides.{greatest_paths}
-use Rattle.lra_sides.specs.Tables.{IsTable}
-use Rattle.lra_paths.specs.Paths.{AreFewIn, leading_in}
+use Rattle.lra_path_segments.specs.Segments.{Goal, comes_to}
+use Rattle.lra_path_segments.specs.TreeSegments.{TreeSegment}
+use Rattle.lra_path_disjuncts.specs.Disjuncts.{greatest_paths}
+use Rattle.lra_path_disjuncts.specs.Tables.{IsTable}
+use Rattle.lra_paths.specs.Paths.{AreFewIn, actions_between_in}
 use Rattle.lra_paths.specs.Sources.{to_goal}
 use Rattle.lra_paths.specs.declared.sources.Source.{Source}
 use Rattle.lra_back.specs.Operations.{dropping}
@@ -64,11 +64,11 @@ seed_has m t p x task at here = task.seed x (subst (λ q. slice_get t.forward.no
 -- sources --------------------------------------------------------------------------------------------------------------
 
 pub is_source_of : (globals : List GlobalVariable) (sites : List Site) (g : Node) (p q : ℕ) (s : Source) → AreFewIn globals sites g → p < length sites
-    → q ≡ suc p → IsTable s.entries.items → ((goal : Goal) → to_goal s.entries.items s.ways.items goal ≡ leading_in globals sites g q goal)
+    → q ≡ suc p → IsTable s.entries.items → ((goal : Goal) → to_goal s.entries.items s.segments.items goal ≡ actions_between_in globals sites g q goal)
     → IsSourceOf globals sites g p s
 is_source_of globals sites g p q s few inside is table leads =
-    let same : (r : ℕ) → paths_from s r ≡ leading_in globals sites g (suc p) (comes_to r) =
-    λ r. leads (comes_to r) ∙ ap (λ k. leading_in globals sites g k (comes_to r)) is in
+    let same : (r : ℕ) → paths_from s r ≡ actions_between_in globals sites g (suc p) (comes_to r) =
+    λ r. leads (comes_to r) ∙ ap (λ k. actions_between_in globals sites g k (comes_to r)) is in
     record {
       writable = record {
         table = table;
@@ -79,35 +79,36 @@ is_source_of globals sites g p q s few inside is table leads =
 
 -- tasks ----------------------------------------------------------------------------------------------------------------
 
-module _ {V H : Type 0} (m : Abstraction V H) (globals : List GlobalVariable) (sites : List Site) (ways : List Stretch) (p : ℕ) (tree : Node) (t : Task V) where
-  pub is_task : BackNeeds m globals sites ways t.forward.now p tree → AreSources globals sites tree t.sources.items
-      → ((x : V) → slice_get t.forward.now t.assertion ≡ Some x → m.dims t.seed ≡ m.dims x) → IsTask m t
-  is_task needs sources seed = record {
-    count = sources.count ∙ sym needs.wide.0;
-    few = λ q x at.
-        let s = also_there t.forward.now sites q x (sym needs.wide.0) at in
-        let wide = needs.wide.1 q s.0 x s.1 at in
-        few_enough (m.dims x) s.0.live wide.0 wide.1;
-    writable = λ q s at. let one = sources.are q s at in one.writable;
-    fit = λ q r s x y at there is path contains.
-        let from = also_there t.forward.now sites q x (sym needs.wide.0) there in
-        let to = also_there t.forward.now sites r y (sym needs.wide.0) is in
-        let wide = needs.wide.1 q from.0 x from.1 there in
-        let behind = needs.wide.1 r to.0 y to.1 is in
-        let source = sources.are q s at in
-        let fits = needs.fit q r from.0 to.0 path from.1 to.1 (subst (λ (xs : List (List Action)). Contains xs path) (source.leads r) contains) in (
-          few_enough (m.dims x) from.0.live wide.0 wide.1,
-          subst (λ n. AllCanBeMade path n) (sym wide.0) fits.0,
-          ap (dims_after_actions path) wide.0 ∙ fits.1 ∙ sym behind.0,
-        );
-    seed = seed;
-  } where
-    few_enough : (n live : ℕ) → n ≡ live → live ≤ most_live → n ≤ 2 ^ 30
-    few_enough n live same few = omega arith
+module _ {V H : Type 0} (m : Abstraction V H) (globals : List GlobalVariable) (sites : List Site) (ways : List TreeSegment) (p : ℕ) (tree : Node) (t : Task V)
+  where
+    pub is_task : BackNeeds m globals sites ways t.forward.now p tree → AreSources globals sites tree t.sources.items
+        → ((x : V) → slice_get t.forward.now t.assertion ≡ Some x → m.dims t.seed ≡ m.dims x) → IsTask m t
+    is_task needs sources seed = record {
+      count = sources.count ∙ sym needs.wide.0;
+      few = λ q x at.
+          let s = also_there t.forward.now sites q x (sym needs.wide.0) at in
+          let wide = needs.wide.1 q s.0 x s.1 at in
+          few_enough (m.dims x) s.0.live wide.0 wide.1;
+      writable = λ q s at. let one = sources.are q s at in one.writable;
+      fit = λ q r s x y at there is path contains.
+          let from = also_there t.forward.now sites q x (sym needs.wide.0) there in
+          let to = also_there t.forward.now sites r y (sym needs.wide.0) is in
+          let wide = needs.wide.1 q from.0 x from.1 there in
+          let behind = needs.wide.1 r to.0 y to.1 is in
+          let source = sources.are q s at in
+          let fits = needs.fit q r from.0 to.0 path from.1 to.1 (subst (λ (xs : List (List Action)). Contains xs path) (source.leads r) contains) in (
+            few_enough (m.dims x) from.0.live wide.0 wide.1,
+            subst (λ n. AllCanBeMade path n) (sym wide.0) fits.0,
+            ap (dims_after_actions path) wide.0 ∙ fits.1 ∙ sym behind.0,
+          );
+      seed = seed;
+    } where
+      few_enough : (n live : ℕ) → n ≡ live → live ≤ most_live → n ≤ 2 ^ 30
+      few_enough n live same few = omega arith
 
 -- what is given ----------------------------------------------------------------------------------------------------------
 
-module _ {V H : Type 0} (m : Abstraction V H) (b : BackwardAbstraction V) (globals : List GlobalVariable) (sites : List Site) (ways : List Stretch) (p : ℕ)
+module _ {V H : Type 0} (m : Abstraction V H) (b : BackwardAbstraction V) (globals : List GlobalVariable) (sites : List Site) (ways : List TreeSegment) (p : ℕ)
     (tree : Node)
     (t : Task V) where
   pub rounds_of : BackNeeds m globals sites ways t.forward.now p tree → AreSources globals sites tree t.sources.items → (n : ℕ) → n ≡ length t.forward.now
@@ -116,9 +117,9 @@ module _ {V H : Type 0} (m : Abstraction V H) (b : BackwardAbstraction V) (globa
   rounds_of needs sources n is here f heads g last rounds =
       subst (λ q. Rounds (dropping m b) (task_of globals sites tree t.forward.now q t.seed) n f heads g last) here
       (same_rounds (dropping m b) t.forward.now t.assertion t.seed (λ q r. paths_at (slice_get t.sources.items q) r)
-      (λ q r. leading_in globals sites tree (suc q) (comes_to r)) n
+      (λ q r. actions_between_in globals sites tree (suc q) (comes_to r)) n
       (λ q r inside. same q r (omega arith)) f heads g last rounds) where
-        same : (q r : ℕ) → q < length t.forward.now → paths_at (slice_get t.sources.items q) r ≡ leading_in globals sites tree (suc q) (comes_to r)
+        same : (q r : ℕ) → q < length t.forward.now → paths_at (slice_get t.sources.items q) r ≡ actions_between_in globals sites tree (suc q) (comes_to r)
         same q r inside =
             let less : q < length t.sources.items = subst (λ k. q < k) (sym (sources.count ∙ sym needs.wide.0)) inside in
             let s = there_within t.sources.items q less in
@@ -164,7 +165,7 @@ asserted_found g p sites asserted asserts found are =
 -- of points before this number, to which paths lead from the start, nothing is left
 abbrev pub IsNothingBefore : {V H : Type 0} → Abstraction V H → List GlobalVariable → List Site → Node → List V → ℕ → Type 0
 IsNothingBefore {V} m globals sites g values i =
-    (q : ℕ) (v : V) → q < i → slice_get values q ≡ Some v → leading_in globals sites g 0 (comes_to q) ≢ [] → IsUnreachable m v
+    (q : ℕ) (v : V) → q < i → slice_get values q ≡ Some v → actions_between_in globals sites g 0 (comes_to q) ≢ [] → IsUnreachable m v
 
 -- of a program -----------------------------------------------------------------------------------------------------------
 
@@ -177,7 +178,7 @@ asserts_is sites p is = asserts_found sites p (slice_get sites p) refl is
 
 -- of the same globals and sites under other names
 module _ {V H : Type 0} (m : Abstraction V H) (globals others : List GlobalVariable) (sites points : List Site) (tree : Node) where
-  pub needs_over : others ≡ globals → points ≡ sites → (ways : List Stretch) (forward : List V) (p : ℕ)
+  pub needs_over : others ≡ globals → points ≡ sites → (ways : List TreeSegment) (forward : List V) (p : ℕ)
       → BackNeeds m globals sites ways forward p tree → BackNeeds m others points ways forward p tree
   needs_over one two ways forward p needs =
       subst (λ (g : List GlobalVariable). BackNeeds m g points ways forward p tree) (sym one)

@@ -16,11 +16,11 @@ use Rattle.lra_program.specs.declared.program.GlobalVariable.{GlobalVariable}
 use Rattle.lra_program.specs.Sites.{Site}
 use Rattle.lra_operations.specs.Tree.{Node}
 use Rattle.lra_analysis_spec.specs.Pass.{Filters}
-use Rattle.lra_ways.specs.Ways.{comes_to, denies}
-use Rattle.lra_ways.specs.Stretches.{AreWays, End, leaves, meets, Stretch}
-use Rattle.lra_sides.specs.Sides.{greatest_paths}
-use Rattle.lra_sides.specs.Tables.{IsTable}
-use Rattle.lra_paths.specs.Paths.{AreFewIn, leading_in, same_goal}
+use Rattle.lra_path_segments.specs.Segments.{comes_to, violates}
+use Rattle.lra_path_segments.specs.TreeSegments.{AreSegmentsOf, End, exits, reaches, TreeSegment}
+use Rattle.lra_path_disjuncts.specs.Disjuncts.{greatest_paths}
+use Rattle.lra_path_disjuncts.specs.Tables.{IsTable}
+use Rattle.lra_paths.specs.Paths.{AreFewIn, actions_between_in, same_goal}
 use Rattle.lra_paths.specs.Sources.{to_goal}
 use Rattle.lra_paths.specs.declared.paths.PathsFailure.{PathsFailure}
 use Rattle.lra_paths.specs.declared.paths.PathsFailure.TheVariants as paths_failure
@@ -65,7 +65,7 @@ IfThereHas m n (Some v) = m.dims v ≡ n
 -- sources and heads --------------------------------------------------------------------------------------------------
 
 abbrev pub paths_from : Source → ℕ → List (List Action)
-paths_from s q = to_goal s.entries.items s.ways.items (comes_to q)
+paths_from s q = to_goal s.entries.items s.segments.items (comes_to q)
 
 abbrev pub paths_at : Option Source → ℕ → List (List Action)
 paths_at None q = []
@@ -137,11 +137,11 @@ is_source p None = false
 is_source p (Some q) = nat_eq q p
 
 abbrev pub denies_at : ℕ → End → Bool
-denies_at p (leaves h) = false
-denies_at p (meets goal) = same_goal goal (denies p)
+denies_at p (exits h) = false
+denies_at p (reaches goal) = same_goal goal (violates p)
 
 -- the stretch leads from the point to where its assertion is false
-abbrev pub is_denial : ℕ → Stretch → Bool
+abbrev pub is_denial : ℕ → TreeSegment → Bool
 is_denial p s = is_source p s.source && denies_at p s.end
 
 abbrev pub condition_seen : Option Asserted → Option (ℕ × Cond)
@@ -161,7 +161,7 @@ asserts_at sites p = asserts_of (slice_get sites p)
 -- of each point its source, whose paths are those of the tree
 pub record IsSourceOf (globals : List GlobalVariable) (sites : List Site) (g : Node) (p : ℕ) (s : Source) : Type 0 where
   pub writable : IsWritable s
-  pub leads : (q : ℕ) → paths_from s q ≡ leading_in globals sites g (suc p) (comes_to q)
+  pub leads : (q : ℕ) → paths_from s q ≡ actions_between_in globals sites g (suc p) (comes_to q)
 
 pub record AreSources (globals : List GlobalVariable) (sites : List Site) (g : Node) (sources : List Source) : Type 0
   where
@@ -170,8 +170,8 @@ pub record AreSources (globals : List GlobalVariable) (sites : List Site) (g : N
 
 -- what going back from the point asks of a tree of these ways
 pub record BackNeeds {V H : Type 0} (m : Abstraction V H) (globals : List GlobalVariable) (sites : List Site)
-    (ways : List Stretch) (forward : List V) (p : ℕ) (tree : Node) : Type 0 where
-  pub is_tree : AreWays ways tree
+    (ways : List TreeSegment) (forward : List V) (p : ℕ) (tree : Node) : Type 0 where
+  pub is_tree : AreSegmentsOf ways tree
   pub few : AreFewIn globals sites tree
   pub wide : AreWide m sites forward
   pub fit : PathsFit globals sites tree

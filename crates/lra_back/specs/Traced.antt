@@ -15,8 +15,8 @@ use Rattle.lra_program.specs.Sites.{Site}
 use Rattle.lra_operations.specs.Tree.{Node}
 use Rattle.lra_analysis_spec.specs.Analysis.{IsUnreachable}
 use Rattle.lra_analysis_spec.specs.Pass.{Filters, noted}
-use Rattle.lra_ways.specs.Ways.{Segment, comes_to, denies, does}
-use Rattle.lra_paths.specs.Paths.{leading_in, next_segments}
+use Rattle.lra_path_segments.specs.Segments.{Segment, comes_to, violates, does}
+use Rattle.lra_paths.specs.Paths.{actions_between_in, next_segments}
 use Rattle.lra_back.specs.Operations.{BackOperations, defined, dropping, straining}
 use Rattle.lra_back.specs.Rounds.{Task, AreStarted, Rounds, AreMet}
 
@@ -24,11 +24,11 @@ use Rattle.lra_back.specs.Rounds.{Task, AreStarted, Rounds, AreMet}
 
 -- right behind its point, to where its condition is false
 abbrev pub denial : ℕ → ℕ → Cond → Segment
-denial p base c = record { source = p; way = record { ops = does (test base c false) ∷ []; goal = denies p } }
+denial p base c = record { source = p; to_goal = record { ops = does (test base c false) ∷ []; goal = violates p } }
 
 -- the condition is asserted at the point, and no other
 abbrev pub IsAsserted : Node → ℕ → ℕ → Cond → Type 0
-IsAsserted g p base c = next_segments g p (denies p) ≡ denial p base c ∷ []
+IsAsserted g p base c = next_segments g p (violates p) ≡ denial p base c ∷ []
 
 -- each site that asserts has one
 abbrev pub IsAssertion : List Site → ℕ → Type 0
@@ -43,7 +43,7 @@ AreAsserted sites g = (p : ℕ) → IsAssertion sites p → (base : ℕ) × (c :
 -- leaves one for each that lives at its target
 abbrev pub PathsFit : List GlobalVariable → List Site → Node → Type 0
 PathsFit globals sites g = (p q : ℕ) (s r : Site) (path : List Action) → slice_get sites p ≡ Some s →
-    slice_get sites q ≡ Some r → Contains (leading_in globals sites g (suc p) (comes_to q)) path →
+    slice_get sites q ≡ Some r → Contains (actions_between_in globals sites g (suc p) (comes_to q)) path →
     AllCanBeMade path s.live × (dims_after_actions path s.live ≡ r.live)
 
 -- each value has a dimension for each variable that lives at its point; nowhere live more than may live where moves are
@@ -58,7 +58,7 @@ AreWide {V} m sites values = (length values ≡ length sites) ×
 -- points are counted from 0
 abbrev pub task_of : {V : Type 0} → List GlobalVariable → List Site → Node → List V → ℕ → V → Task V
 task_of globals sites g forward p seed = record {
-  paths = λ q r. leading_in globals sites g (suc q) (comes_to r);
+  paths = λ q r. actions_between_in globals sites g (suc q) (comes_to r);
   forward = forward;
   assertion = p;
   seed = seed;
@@ -97,7 +97,7 @@ pub record IsTraced {V H : Type 0} (m : Abstraction V H) (b : BackwardAbstractio
 abbrev pub NothingLeftAtStart : {V H : Type 0} → Abstraction V H → List GlobalVariable → List Site → Node → List V →
     Type 0
 NothingLeftAtStart {V} m globals sites g values = (q : ℕ) (v : V) → slice_get values q ≡ Some v →
-    leading_in globals sites g 0 (comes_to q) ≢ [] → IsUnreachable m v
+    actions_between_in globals sites g 0 (comes_to q) ≢ [] → IsUnreachable m v
 
 -- runs that fail ----------------------------------------------------------------------------------------------------
 

@@ -4,12 +4,12 @@ ghost use Rattle.std.specs.Prelude.{◌≡◌, ◌≢◌, ◌↔◌, ℕ, [], tr
 ghost use Rattle.lra_operations.specs.Tree.{Node};
 ghost use Rattle.lra_operations.specs.TreeViews.{node_view, site_view};
 ghost use Rattle.lra_analysis_spec.specs.Analysis.{IsUnreachable};
-ghost use Rattle.lra_sides.specs.Tables.{IsTable};
+ghost use Rattle.lra_path_disjuncts.specs.Tables.{IsTable};
 ghost use Rattle.lra_paths.specs.Paths.{AreFewIn, HasTooManyIn};
 ghost use Rattle.lra_paths.specs.Sources.{to_goal};
-ghost use Rattle.lra_ways.specs.Stretches.{AreWays};
-ghost use Rattle.lra_ways.specs.StretchViews.{seen};
-ghost use Rattle.lra_ways.specs.Ways.{comes_to};
+ghost use Rattle.lra_path_segments.specs.TreeSegments.{AreSegmentsOf};
+ghost use Rattle.lra_path_segments.specs.TreeSegmentViews.{seen};
+ghost use Rattle.lra_path_segments.specs.Segments.{comes_to};
 ghost use Rattle.lra_back.specs.Operations as operations;
 ghost use Rattle.lra_back.specs.Traced as traced;
 ghost use Rattle.lra_back.specs.Traced.{AreAsserted, AreWide, IsAssertion, IsTraced, NothingLeftAtStart, PathsFit};
@@ -22,9 +22,9 @@ use crate::tasks::Task;
 use lra_domain::{Backward, Exactness};
 use lra_operations::{InlinedProgram, Site};
 use lra_pass_results::note;
+use lra_path_segments::Goal;
 use lra_paths::{Paths, PathsFailure, Source, find_paths};
 use lra_program::GlobalVariable;
-use lra_ways::Goal;
 use std::alloc::{AllocError, Global};
 
 /// Why nothing is gone back over: no assertion has that number, more than 1,024 paths lead from the source of this
@@ -80,7 +80,7 @@ fn is_assertion(sites: &[Site], point: usize) -> bool
 
 /// The sources of all points, in their order.
 fn sources_of(alloc: Global, paths: &Paths<'_>) -> Result<Vec<Source>, AllocError>
-    ensures { (g : Node) → AreWays (seen paths.now.ways.items) g →
+    ensures { (g : Node) → AreSegmentsOf (seen paths.now.segments.items) g →
         AreFewIn paths.now.globals.now (map site_view paths.now.sites.now) g →
         IfOk result (λ sources. AreSources paths.now.globals.now
         (map site_view paths.now.sites.now) g sources.items) }
@@ -97,7 +97,7 @@ fn sources_of(alloc: Global, paths: &Paths<'_>) -> Result<Vec<Source>, AllocErro
 fn is_none_left<D: Backward>(start: &Source, point: usize, value: &D) -> bool
     requires { IsTable start.now.entries.items }
     ensures { result ≡ true ↔
-        (to_goal start.now.entries.items start.now.ways.items (comes_to point) ≢ [] →
+        (to_goal start.now.entries.items start.now.segments.items (comes_to point) ≢ [] →
         IsUnreachable D.abstraction value.now) }
 {
     start.count_to(Goal::ComesTo(point)) == 0 || value.is_empty()
@@ -109,7 +109,8 @@ fn are_none_left<D: Backward>(
     paths: &Paths<'_>,
     values: &[D],
 ) -> Result<bool, AllocError>
-    ensures { (g : Node) → AreWays (seen paths.now.ways.items) g → IfOk result (λ b. b ≡ true ↔
+    ensures { (g : Node) → AreSegmentsOf (seen paths.now.segments.items) g →
+        IfOk result (λ b. b ≡ true ↔
         NothingLeftAtStart D.abstraction paths.now.globals.now
         (map site_view paths.now.sites.now) g values.now) }
 {
@@ -137,16 +138,16 @@ fn prepare<'f, D: Backward>(
     point: usize,
 ) -> Result<Prepared<'f, D>, AllocError>
     requires { (g : Node) × BackNeeds D.abstraction paths.now.globals.now
-        (map site_view paths.now.sites.now) (seen paths.now.ways.items) forward.now point g }
+        (map site_view paths.now.sites.now) (seen paths.now.segments.items) forward.now point g }
     ensures of { IfOk result (λ r.
         (r.task.forward.now ≡ forward.now) × (r.task.assertion ≡ point)) }
     ensures task { IfOk result (λ r. IsTask D.abstraction r.task) }
     ensures prepared { (g : Node) → BackNeeds D.abstraction paths.now.globals.now
-        (map site_view paths.now.sites.now) (seen paths.now.ways.items) forward.now point g →
+        (map site_view paths.now.sites.now) (seen paths.now.segments.items) forward.now point g →
         IfOk result (λ r. IsPrepared D.abstraction D.backward_abstraction paths.now.globals.now
         (map site_view paths.now.sites.now) g forward.now point r.task r.exactness) }
 {
-    let Some(asserted) = find_asserted(paths.ways.as_slice(), point) else {
+    let Some(asserted) = find_asserted(paths.segments.as_slice(), point) else {
         unreachable!();
     };
     let seed = deny(alloc, asserted, &forward[point])?;
@@ -171,7 +172,8 @@ fn finish<D: Backward>(
 ) -> Result<Backs<D>, AllocError>
     ensures same { IfOk result (λ r.
         (r.values.items ≡ met.values.items) × (r.flagged ≡ met.flag)) }
-    ensures proved { (g : Node) → AreWays (seen paths.now.ways.items) g → IfOk result (λ r.
+    ensures proved { (g : Node) → AreSegmentsOf (seen paths.now.segments.items) g →
+        IfOk result (λ r.
         r.is_proved ≡ true ↔ NothingLeftAtStart D.abstraction paths.now.globals.now
         (map site_view paths.now.sites.now) g r.values.items) }
 {
@@ -193,13 +195,14 @@ fn trace<D: Backward>(
     point: usize,
 ) -> Result<Backs<D>, AllocError>
     requires { (g : Node) × BackNeeds D.abstraction paths.now.globals.now
-        (map site_view paths.now.sites.now) (seen paths.now.ways.items) forward.now point g }
+        (map site_view paths.now.sites.now) (seen paths.now.segments.items) forward.now point g }
     ensures traced { (g : Node) → BackNeeds D.abstraction paths.now.globals.now
-        (map site_view paths.now.sites.now) (seen paths.now.ways.items) forward.now point g →
+        (map site_view paths.now.sites.now) (seen paths.now.segments.items) forward.now point g →
         IfOk result (λ r. traced.Backs (operations.dropping D.abstraction D.backward_abstraction)
         paths.now.globals.now (map site_view paths.now.sites.now) g
         forward.now flagged point r.values.items r.flagged) }
-    ensures proved { (g : Node) → AreWays (seen paths.now.ways.items) g → IfOk result (λ r.
+    ensures proved { (g : Node) → AreSegmentsOf (seen paths.now.segments.items) g →
+        IfOk result (λ r.
         r.is_proved ≡ true ↔ NothingLeftAtStart D.abstraction paths.now.globals.now
         (map site_view paths.now.sites.now) g r.values.items) }
     ensures wide { IfOk result (λ r.

@@ -4,15 +4,15 @@ ghost use Rattle.std.specs.Prelude.{◌≡◌, Some, IfOk, OnOk};
 ghost use Rattle.lra_domain.specs.declared.Exactness.{Exactness};
 ghost use Rattle.lra_domain.specs.Abstraction.{worse};
 ghost use Rattle.lra_analysis_spec.specs.Pass.{JoinsRunning};
-ghost use Rattle.lra_sides.specs.TableSides.{all_done, lists_done};
+ghost use Rattle.lra_path_disjuncts.specs.TableDisjuncts.{all_done, lists_done};
 ghost use Rattle.lra_back.specs.Operations.{dropping};
 ghost use Rattle.lra_back.specs.GoingBack.{AllComeBack, ComesBack, ComesFromAll};
 ghost use Rattle.lra_back.specs.Going.{AllFit, ComesOver, FitHeads, Fits, IfThereHas, IsWritable, paths_from};
 
 use crate::changes::undo;
 use lra_domain::{Backward, Change, Exactness, worse};
+use lra_path_segments::Goal;
 use lra_paths::Source;
-use lra_ways::Goal;
 use std::alloc::{AllocError, Global};
 
 /// A value, with the exactness of what led to it.

@@ -7,14 +7,14 @@ ghost use Rattle.lra_back.specs.Operations.{dropping};
 ghost use Rattle.lra_back.specs.Rounds.{IsTurned, Round, Rounds, Widens};
 ghost use Rattle.lra_back.specs.Going.{AreHeads, IsTask, paths_from, ranks_of, task_view};
 ghost use Rattle.lra_back.specs.Settled.{IsGoing, Settles};
-ghost use Rattle.lra_sides.specs.Tables.{IsTable};
+ghost use Rattle.lra_path_disjuncts.specs.Tables.{IsTable};
 
 use crate::heads::grow;
 use crate::tasks::Task;
 use lra_domain::{Backward, Mode};
 use lra_pass_results::note;
+use lra_path_segments::Goal;
 use lra_paths::Source;
-use lra_ways::Goal;
 use std::alloc::AllocError;
 
 /// The heads of the points, the first flagged point so far, and which points are settled: stable in a round that

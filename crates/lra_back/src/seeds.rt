@@ -5,9 +5,9 @@ ghost use Rattle.lra_program.specs.Program as program;
 ghost use Rattle.lra_program.specs.ProgramViews.{cond_view};
 ghost use Rattle.lra_program.specs.Step.{test};
 ghost use Rattle.lra_operations.specs.Tree.{Node};
-ghost use Rattle.lra_ways.specs.Ways.{does};
-ghost use Rattle.lra_ways.specs.Stretches.{AreWays};
-ghost use Rattle.lra_ways.specs.StretchViews.{move_view, seen, stretch_view};
+ghost use Rattle.lra_path_segments.specs.Segments.{does};
+ghost use Rattle.lra_path_segments.specs.TreeSegments.{AreSegmentsOf};
+ghost use Rattle.lra_path_segments.specs.TreeSegmentViews.{move_view, seen, tree_segment_view};
 ghost use Rattle.lra_analysis_spec.specs.Pass.{Filters};
 ghost use Rattle.lra_analysis_spec.specs.LiveLimit.{most_live};
 ghost use Rattle.lra_back.specs.Operations.{dropping};
@@ -17,9 +17,9 @@ ghost use Rattle.lra_back.specs.Going.{is_denial, condition_seen};
 use crate::paths::Found;
 use lra_domain::{Backward, Exactness};
 use lra_operations::Op;
+use lra_path_segments::{End, Goal, Move, TreeSegment};
 use lra_program::Cond;
 use lra_transfer::filter_condition;
-use lra_ways::{End, Goal, Move, Stretch};
 use std::alloc::{AllocError, Global};
 
 /// A condition; the base is where the variables of its call begin.
@@ -30,16 +30,16 @@ pub struct Asserted<'g> {
 }
 
 /// Whether the stretch leads from the point to where its assertion is false.
-fn is_denial(stretch: &Stretch<'_>, point: usize) -> bool
-    ensures { result ≡ is_denial point (stretch_view stretch.now) }
+fn is_denial(stretch: &TreeSegment<'_>, point: usize) -> bool
+    ensures { result ≡ is_denial point (tree_segment_view stretch.now) }
 {
     if stretch.source != Some(point) {
         return false;
     }
     match stretch.end {
-        End::Leaves(_) => false,
-        End::Meets(Goal::ComesTo(_)) => false,
-        End::Meets(Goal::Denies(denied)) => denied == point,
+        End::Exits(_) => false,
+        End::Reaches(Goal::ComesTo(_)) => false,
+        End::Reaches(Goal::Violates(denied)) => denied == point,
     }
 }
 
@@ -71,8 +71,8 @@ fn first_tested<'g>(moves: &[Move<'g>]) -> Option<Asserted<'g>>
 }
 
 /// The condition that is asserted at the point.
-pub fn find_asserted<'g>(ways: &[Stretch<'g>], point: usize) -> Option<Asserted<'g>>
-    ensures { (g : Node) (base : ℕ) (c : program.Cond) → AreWays (seen ways.now) g →
+pub fn find_asserted<'g>(ways: &[TreeSegment<'g>], point: usize) -> Option<Asserted<'g>>
+    ensures { (g : Node) (base : ℕ) (c : program.Cond) → AreSegmentsOf (seen ways.now) g →
         IsAsserted g point base c → condition_seen result ≡ Some (base, c) }
 {
     'ways: for stretch in ways {

@@ -19,9 +19,9 @@ use Rattle.lra_linear_spec.proofs.Ring.{ring, v, ◌⊕◌, ◌⊗◌}
 use Rattle.lra_program.specs.Program.{Program}
 use Rattle.lra_program.specs.Sites.{Site, sites_of}
 use Rattle.lra_operations.specs.Tree.{Node}
-use Rattle.lra_ways.specs.Ways.{Goal, comes_to, denies}
+use Rattle.lra_path_segments.specs.Segments.{Goal, comes_to, violates}
 use Rattle.lra_paths.specs.Covers.{HoldInAllRuns}
-use Rattle.lra_paths.specs.Paths.{Path, path_by, live_of, live_at, leading, paths_between, paths_of, denials_of, sources_of, points_of}
+use Rattle.lra_paths.specs.Paths.{Path, path_by, live_of, live_at, actions_between, paths_between, paths_of, violations_of, sources_of, points_of}
 use Rattle.lra_multipliers.specs.Symbols.{Walked, symbols, new_symbols, width_of, walk_of}
 use Rattle.lra_multipliers.specs.Multipliers.{Multipliers}
 use Rattle.lra_certificate.specs.Certificates.{Evidence, none, dead, by, Listed, Certificate, state_or_empty, state_from, state_to, live_from, Along, padded}
@@ -30,7 +30,7 @@ use Rattle.lra_certificate.specs.Certificates.{MeetsPaths}
 use Rattle.lra_certificate.specs.Certificates.{MeetsListed, IsPointRow, IsState, AreStates, Meets}
 use Rattle.lra_certificate.specs.Claims.{HoldsAt, RowsHold, Says, PathsKeepRows}
 use Rattle.lra_paths.specs.Covers.{IsGoalOf}
-use Rattle.lra_ways.proofs.Lists.{flat_map_has}
+use Rattle.lra_path_segments.proofs.Lists.{flat_map_has}
 use Rattle.lra_multipliers.proofs.ShownRows.{shown_holds}
 use Rattle.lra_certificate.proofs.WalkedRows.{values, composed_value, GoesOn, symbols_values, symbols_behind, symbols_width, Stands, goes_on}
 
@@ -215,49 +215,49 @@ module _ (P : Program) (g : Node) (c : Certificate) (meets : Meets P g c) where
 
   kept_to_point : (p q : ℕ) (r : Site) (s t : List ℤ) → p ≤ length (sites_of P) → slice_get (sites_of P) q ≡ Some r → length s ≡ live_from P p → HoldsAt
       (state_from c.states p) s →
-      SomeLeads (leading P g p (comes_to q)) s t → HoldsAt (state_to c.states (comes_to q)) t
+      SomeLeads (actions_between P g p (comes_to q)) s t → HoldsAt (state_to c.states (comes_to q)) t
   kept_to_point p q r s t few there long held led =
-      let way = some_way (leading P g p (comes_to q)) s t led in
+      let way = some_way (actions_between P g p (comes_to q)) s t led in
       kept_along (paths_of P g) c.paths meets.paths p (comes_to q) way.0
       (flat_map_has (λ (p : ℕ). flat_map (λ (q : ℕ). paths_between P g p (comes_to q)) (points_of P)) (sources_of P) p (path_by p (comes_to q) way.0)
       (range_has 0 (suc (length (sites_of P))) p (omega arith) (omega (arith, few)))
       (flat_map_has (λ (q : ℕ). paths_between P g p (comes_to q)) (points_of P) q (path_by p (comes_to q) way.0)
       (range_has 0 (length (sites_of P)) q (omega arith) (let l = slice_get_within (sites_of P) q r there in omega (arith, l)))
-      (map_has (path_by p (comes_to q)) (leading P g p (comes_to q)) way.0 way.1)))
+      (map_has (path_by p (comes_to q)) (actions_between P g p (comes_to q)) way.0 way.1)))
       s t long held way.2
 
   not_denied : (one : Listed) → Contains c.asserted one → (p : ℕ) (s t : List ℤ) → p ≤ length (sites_of P) → length s ≡ live_from P p → HoldsAt
       (state_from c.states p) s →
-      SomeLeads (leading P g p (denies one.number)) s t → ⊥
+      SomeLeads (actions_between P g p (violates one.number)) s t → ⊥
   not_denied one has p s t few long held led =
-      let way = some_way (leading P g p (denies one.number)) s t led in
+      let way = some_way (actions_between P g p (violates one.number)) s t led in
       let listed = All-contains (MeetsListed P g c.states) c.asserted one (All-from_recursion (MeetsListed P g c.states) c.asserted meets.listed) has in
-      kept_along (denials_of P g one.number) one.evidence listed.paths p (denies one.number) way.0
-      (flat_map_has (λ (p : ℕ). paths_between P g p (denies one.number)) (sources_of P) p (path_by p (denies one.number) way.0)
+      kept_along (violations_of P g one.number) one.evidence listed.paths p (violates one.number) way.0
+      (flat_map_has (λ (p : ℕ). paths_between P g p (violates one.number)) (sources_of P) p (path_by p (violates one.number) way.0)
       (range_has 0 (suc (length (sites_of P))) p (omega arith) (omega (arith, few)))
-      (map_has (path_by p (denies one.number)) (leading P g p (denies one.number)) way.0 way.1))
+      (map_has (path_by p (violates one.number)) (actions_between P g p (violates one.number)) way.0 way.1))
       s t long held way.2
 
   denied_number : (one : Listed) (p q : ℕ) (s t : List ℤ) → Contains c.asserted one → one.number ≡ q → p ≤ length (sites_of P) → length s ≡ live_from P p →
       HoldsAt (state_from c.states p) s →
-      SomeLeads (leading P g p (denies q)) s t → ⊥
+      SomeLeads (actions_between P g p (violates q)) s t → ⊥
   denied_number one p q s t has e few long held led =
-      not_denied one has p s t few long held (subst (λ (n : ℕ). SomeLeads (leading P g p (denies n)) s t) (sym e) led)
+      not_denied one has p s t few long held (subst (λ (n : ℕ). SomeLeads (actions_between P g p (violates n)) s t) (sym e) led)
 
   no_row : HoldsAt (Some []) []
   no_row = λ f m. absurd (contains_none f m)
 
   -- the two premises of the law on what paths keep
-  pub first_kept : (goal : Goal) (t : List ℤ) → IsGoalOf P goal → SomeLeads (leading P g 0 goal) [] t → Says c goal t
+  pub first_kept : (goal : Goal) (t : List ℤ) → IsGoalOf P goal → SomeLeads (actions_between P g 0 goal) [] t → Says c goal t
   first_kept (comes_to q) t (r, there) led = kept_to_point 0 q r [] t (omega arith) there refl no_row led
-  first_kept (denies q) t (r, there) led = λ one has e. denied_number one 0 q [] t has e (omega arith) refl no_row led
+  first_kept (violates q) t (r, there) led = λ one has e. denied_number one 0 q [] t has e (omega arith) refl no_row led
 
   pub next_kept : (p : ℕ) (r : Site) (goal : Goal) (s t : List ℤ) → slice_get (sites_of P) p ≡ Some r → length s ≡ live_at P p → IsGoalOf P goal → Says c
       (comes_to p) s →
-      SomeLeads (leading P g (suc p) goal) s t → Says c goal t
+      SomeLeads (actions_between P g (suc p) goal) s t → Says c goal t
   next_kept p r (comes_to q) s t at long (site, there) held led =
       kept_to_point (suc p) q site s t (let l = slice_get_within (sites_of P) p r at in omega (arith, l)) there long held led
-  next_kept p r (denies q) s t at long (site, there) held led =
+  next_kept p r (violates q) s t at long (site, there) held led =
       λ one has e. denied_number one (suc p) q s t has e (let l = slice_get_within (sites_of P) p r at in omega (arith, l)) long held led
 
   -- and what then holds in all runs

@@ -10,7 +10,7 @@ use Rattle.lra_linear_spec.specs.Range.{InRange}
 use Rattle.lra_program.specs.Program.{Program}
 use Rattle.lra_program.specs.Sites.{sites_of}
 use Rattle.lra_operations.specs.Tree.{Node}
-use Rattle.lra_paths.specs.Paths.{Path, paths_of, denials_of}
+use Rattle.lra_paths.specs.Paths.{Path, paths_of, violations_of}
 use Rattle.lra_multipliers.specs.Multipliers.{Multipliers}
 use Rattle.lra_certificate.specs.Certificates.{Evidence, none, dead, by, Listed, Certificate, Along, state_from, state_to, live_from, MeetsEvidence, MeetsFrom}
 use Rattle.lra_certificate.specs.Certificates.{MeetsPath, MeetsPaths, MeetsListed, ShowsNoClaim, AreNumbers, IsWritable, Meets}
@@ -168,7 +168,7 @@ module _ (P : Program) (g : Node) (states : List State) (fit : (p : ℕ) → Are
   not_listed : (one : Listed) (ones : List Listed) → listing [] ≡ listing (one ∷ ones) → ⊥
   not_listed one ones e = let c : 101 ≡ 97 = ap (λ (x : List ℕ). get_or x 0 0) e in omega (arith, c)
 
-  module _ (denials : (q : ℕ) → AllByRecursion (λ path. state_to states path.goal ≡ None) (denials_of P g q)) (small : length (sites_of P) < 10 ^ 63) where
+  module _ (denials : (q : ℕ) → AllByRecursion (λ path. state_to states path.goal ≡ None) (violations_of P g q)) (small : length (sites_of P) < 10 ^ 63) where
     few : (one : Listed) → MeetsListed P g states one → one.number < 10 ^ 63
     few one h = let w = slice_get_within (sites_of P) one.number h.site h.there in omega (arith, w, small)
 
@@ -181,8 +181,8 @@ module _ (P : Program) (g : Node) (states : List State) (fit : (p : ℕ) → Are
         let l = line_same (assert_text one.number) (assert_text two.number) (flat_map evidence_text one.evidence ++ r)
         (flat_map evidence_text two.evidence ++ s) (assert_from one.number) (assert_from two.number) e in
         let number : one.number ≡ two.number = assert_same one.number two.number (few one h) (few two k) l.0 in
-        let d = denials_same (denials_of P g one.number) one.evidence two.evidence r s (denials one.number) h.paths
-        (subst (λ (q : ℕ). MeetsPaths P g states (denials_of P g q) two.evidence) (sym number) k.paths) h.no_claims k.no_claims u v l.1 in
+        let d = denials_same (violations_of P g one.number) one.evidence two.evidence r s (denials one.number) h.paths
+        (subst (λ (q : ℕ). MeetsPaths P g states (violations_of P g q) two.evidence) (sym number) k.paths) h.no_claims k.no_claims u v l.1 in
         ((λ i. record { number = number i; evidence = d.0 i }), d.1)
 
     listing_same : (ones twos : List Listed) → AllByRecursion (MeetsListed P g states) ones → AllByRecursion (MeetsListed P g states) twos →

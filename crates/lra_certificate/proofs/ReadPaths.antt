@@ -8,7 +8,7 @@ use Rattle.lra_linear_spec.specs.Descriptions.{LinearRow, system_of}
 use Rattle.lra_program.specs.Program.{Program}
 use Rattle.lra_program.specs.Sites.{Site, sites_of}
 use Rattle.lra_operations.specs.Tree.{Node}
-use Rattle.lra_paths.specs.Paths.{Path, denials_of}
+use Rattle.lra_paths.specs.Paths.{Path, violations_of}
 use Rattle.lra_multipliers.specs.Symbols.{Walked, walk_of}
 use Rattle.lra_multipliers.specs.Multipliers.{Multipliers, Answer, yes, no, wide, IsAnswer, checked}
 use Rattle.lra_certificate.specs.Certificates.{Along, premises_of, nothing_left, IsPointRow, IsDead, IsShown, AreShown, MeetsEvidence, MeetsFrom}
@@ -243,7 +243,7 @@ module _ (P : Program) (g : Node) (states : List State) (fit : (p : ℕ) → Are
   both_true true y h = (refl, h)
   both_true false y h = cc
 
-  module _ (denials : (q : ℕ) → AllByRecursion (λ path. state_to states path.goal ≡ None) (denials_of P g q)) where
+  module _ (denials : (q : ℕ) → AllByRecursion (λ path. state_to states path.goal ≡ None) (violations_of P g q)) where
     pub listed_said : (q : ℕ) (sites : List Site) (l : Left) (y : ℕ × Left) → Found q sites → judged_listed P g states q sites l ≡ Ok y →
         (ones : List Listed) × AreListed q ones × (length ones ≡ y.0) × (joined l.pieces ≡ flat_map listed_text ones ++ joined y.1.pieces)
     listed_said q [] l y f e =
@@ -258,7 +258,7 @@ module _ (P : Program) (g : Node) (states : List State) (fit : (p : ℕ) → Are
         on : ((m : Left) (z : ℕ × Left) → judged_listed P g states (suc q) sites m ≡ Ok z →
             (ones : List Listed) × AreListed (suc q) ones × (length ones ≡ z.0) × (joined m.pieces ≡ flat_map listed_text ones ++ joined z.1.pieces)) →
             (b : Bool) → site.asserts && is_line (assert_text q) (line_on l.pieces) ≡ b →
-            (if b then then_judged (judged_denials P g states (denials_of P g q) (behind_line l)) (λ next. one_more (judged_listed P g states (suc q) sites
+            (if b then then_judged (judged_denials P g states (violations_of P g q) (behind_line l)) (λ next. one_more (judged_listed P g states (suc q) sites
             next))
             else judged_listed P g states (suc q) sites l) ≡ Ok y →
             (ones : List Listed) × AreListed q ones × (length ones ≡ y.0) × (joined l.pieces ≡ flat_map listed_text ones ++ joined y.1.pieces)
@@ -267,9 +267,9 @@ module _ (P : Program) (g : Node) (states : List State) (fit : (p : ℕ) → Are
             (rest.0, (rest.1.0, later q rest.0 rest.1.1, rest.1.2, rest.1.3), rest.2, rest.3)
         on again true h k =
             let b = both_true site.asserts (is_line (assert_text q) (line_on l.pieces)) h in
-            let t = then_is (judged_denials P g states (denials_of P g q) (behind_line l)) (λ (next : Left). one_more (judged_listed P g states (suc q) sites
+            let t = then_is (judged_denials P g states (violations_of P g q) (behind_line l)) (λ (next : Left). one_more (judged_listed P g states (suc q) sites
             next)) y k in
-            let d = denials_said (denials_of P g q) (behind_line l) t.0 (denials q) t.1 in
+            let d = denials_said (violations_of P g q) (behind_line l) t.0 (denials q) t.1 in
             let s = more_is (judged_listed P g states (suc q) sites t.0) y t.2 in
             let rest = again t.0 s.0 s.1 in
             let one : Listed = record { number = q; evidence = d.0 } in

@@ -6,8 +6,8 @@ use Rattle.lra_domain.specs.Actions.{Action}
 use Rattle.lra_program.specs.Program.{Program}
 use Rattle.lra_program.specs.Sites.{Site, sites_of}
 use Rattle.lra_operations.specs.Tree.{Node}
-use Rattle.lra_ways.specs.Ways.{denies}
-use Rattle.lra_paths.specs.Paths.{Path, path_by, paths_between, leading, live_of, sources_of, denials_of}
+use Rattle.lra_path_segments.specs.Segments.{violates}
+use Rattle.lra_paths.specs.Paths.{Path, path_by, paths_between, actions_between, live_of, sources_of, violations_of}
 use Rattle.lra_certificate.specs.Certificates.{state_or_empty, state_from, state_to, live_from, AreStates}
 use Rattle.lra_certificate.specs.Judged.{State}
 use Rattle.lra_certificate.proofs.ReadPaths.{AreRows}
@@ -30,7 +30,7 @@ module _ (P : Program) (g : Node) (states : List State) (q : ℕ) where
   abbrev IsDenial : Path → Type 0
   IsDenial path = state_to states path.goal ≡ None
 
-  between_denied : (p : ℕ) (xs : List (List Action)) → AllByRecursion IsDenial (map (path_by p (denies q)) xs)
+  between_denied : (p : ℕ) (xs : List (List Action)) → AllByRecursion IsDenial (map (path_by p (violates q)) xs)
   between_denied p [] = tt
   between_denied p (x ∷ xs) = (refl, between_denied p xs)
 
@@ -38,11 +38,12 @@ module _ (P : Program) (g : Node) (states : List State) (q : ℕ) where
   all_behind [] ys h k = k
   all_behind (x ∷ xs) ys h k = (h.0, all_behind xs ys h.1 k)
 
-  from_denied : (ps : List ℕ) → AllByRecursion IsDenial (flat_map (λ p. paths_between P g p (denies q)) ps)
+  from_denied : (ps : List ℕ) → AllByRecursion IsDenial (flat_map (λ p. paths_between P g p (violates q)) ps)
   from_denied [] = tt
   from_denied (p ∷ ps) =
-      all_behind (paths_between P g p (denies q)) (flat_map (λ p. paths_between P g p (denies q)) ps) (between_denied p (leading P g p (denies q)))
+      all_behind (paths_between P g p (violates q)) (flat_map (λ p. paths_between P g p (violates q)) ps)
+      (between_denied p (actions_between P g p (violates q)))
       (from_denied ps)
 
-  pub denials_denied : AllByRecursion IsDenial (denials_of P g q)
+  pub denials_denied : AllByRecursion IsDenial (violations_of P g q)
   denials_denied = from_denied (sources_of P)

@@ -17,7 +17,7 @@ use Rattle.lra_linear_spec.specs.Range.{InRange}
 use Rattle.lra_program.specs.Program.{Program}
 use Rattle.lra_program.specs.Sites.{Site, sites_of}
 use Rattle.lra_operations.specs.Tree.{Node}
-use Rattle.lra_paths.specs.Paths.{Path, paths_of, denials_of}
+use Rattle.lra_paths.specs.Paths.{Path, paths_of, violations_of}
 use Rattle.lra_certificate.specs.Certificates.{Evidence, Listed, Certificate, state_from, state_to, live_from, MeetsListed, Ascend, IsWritable, Meets}
 use Rattle.lra_certificate.specs.CertificateText.{text_line, numbers_text, numbered_text, edge_text, edges_text, evidence_text, assert_text, listed_text}
 use Rattle.lra_certificate.specs.CertificateText.{end_text, head_text, states_text, body_text}
@@ -87,7 +87,7 @@ listing_other [] = ap is_row_line end_first
 listing_other (one ∷ ones) = ap is_row_line (listing_first one ones)
 
 module _ (P : Program) (g : Node) (states : List State) (fit : (p : ℕ) → AreRows (live_from P p) (state_from states p))
-    (denials : (q : ℕ) → AllByRecursion (λ path. state_to states path.goal ≡ None) (denials_of P g q)) (small : length (sites_of P) < 10 ^ 63) where
+    (denials : (q : ℕ) → AllByRecursion (λ path. state_to states path.goal ≡ None) (violations_of P g q)) (small : length (sites_of P) < 10 ^ 63) where
   abbrev Found : ℕ → List Site → Type 0
   Found q sites = (i : ℕ) (s : Site) → slice_get (sites_of P) (q + i) ≡ Some s → slice_get sites i ≡ Some s
 
@@ -115,7 +115,7 @@ module _ (P : Program) (g : Node) (states : List State) (fit : (p : ℕ) → Are
   ListedRead q sites ones l = (m : Left) × (judged_listed P g states q sites l ≡ Ok (length ones, m)) × (m.pieces ≡ pieces_of end_text)
 
   abbrev step : ℕ → Site → List Site → Left → Bool → Judged (ℕ × Left)
-  step q site sites l b = if b then then_judged (judged_denials P g states (denials_of P g q) (behind_line l))
+  step q site sites l b = if b then then_judged (judged_denials P g states (violations_of P g q) (behind_line l))
       (λ next. one_more (judged_listed P g states (suc q) sites next)) else judged_listed P g states (suc q) sites l
 
   skipped : (q : ℕ) (site : Site) (sites : List Site) (ones : List Listed) (l : Left) → is_line (assert_text q) (line_on l.pieces) ≡ false →
@@ -143,7 +143,7 @@ module _ (P : Program) (g : Node) (states : List State) (fit : (p : ℕ) → Are
 
     taken : ListedRead one.number (site ∷ sites) (one ∷ ones) l
     taken =
-        let d = denials_read P g states fit (denials_of P g one.number) one.evidence (denials one.number) meets.paths meets.no_claims numbers (listing ones)
+        let d = denials_read P g states fit (violations_of P g one.number) one.evidence (denials one.number) meets.paths meets.no_claims numbers (listing ones)
         (behind_line l) behind_it in
         let more = again d.0 d.2 in (
           more.0,

@@ -3,7 +3,7 @@ use Rattle.std.specs.Prelude.{ℕ, suc, ℤ, Bool, true, false, List, [], ◌∷
 use Rattle.std.specs.List.{flat_map}
 use Rattle.std.specs.Fmt.{decimal, signed_decimal}
 use Rattle.lra_linear_spec.specs.Descriptions.{LinearRow}
-use Rattle.lra_ways.specs.Ways.{Goal, comes_to, denies}
+use Rattle.lra_path_segments.specs.Segments.{Goal, comes_to, violates}
 use Rattle.lra_paths.specs.Paths.{Path}
 use Rattle.lra_multipliers.specs.Multipliers.{Multipliers}
 use Rattle.lra_certificate.specs.Certificates.{Evidence, none, dead, by, Listed, Certificate}
@@ -48,7 +48,7 @@ evidence_text (by ms) = flat_map (λ m. text_line (multipliers_text (codes "by")
 
 abbrev pub goal_number : Goal → ℕ
 goal_number (comes_to q) = suc q
-goal_number (denies q) = suc q
+goal_number (violates q) = suc q
 
 abbrev pub edge_text : Path → List ℕ
 edge_text path = numbered_text (numbered_text (codes "edge") path.source) (goal_number path.goal)

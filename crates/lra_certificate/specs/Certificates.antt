@@ -10,8 +10,8 @@ use Rattle.lra_linear_spec.specs.Vectors.{zeros}
 use Rattle.lra_program.specs.Program.{Program}
 use Rattle.lra_program.specs.Sites.{Site, sites_of}
 use Rattle.lra_operations.specs.Tree.{Node}
-use Rattle.lra_ways.specs.Ways.{Goal, comes_to, denies}
-use Rattle.lra_paths.specs.Paths.{Path, live_at, paths_of, denials_of}
+use Rattle.lra_path_segments.specs.Segments.{Goal, comes_to, violates}
+use Rattle.lra_paths.specs.Paths.{Path, live_at, paths_of, violations_of}
 use Rattle.lra_multipliers.specs.Symbols.{Walked, composed, width_of, walk_of}
 use Rattle.lra_multipliers.specs.Multipliers.{Multipliers, yes, IsAnswer}
 
@@ -47,7 +47,7 @@ state_from states (suc q) = state_or_empty (slice_get states q)
 
 abbrev pub state_to : List (Option (List LinearRow)) → Goal → Option (List LinearRow)
 state_to states (comes_to q) = state_or_empty (slice_get states q)
-state_to states (denies q) = None
+state_to states (violates q) = None
 
 -- how many variables live at a source
 abbrev pub live_from : Program → ℕ → ℕ
@@ -126,7 +126,7 @@ module _ (P : Program) (g : Node) (states : List (Option (List LinearRow))) wher
     pub site : Site
     pub there : slice_get (sites_of P) one.number ≡ Some site
     pub asserts : site.asserts ≡ true
-    pub paths : MeetsPaths (denials_of P g one.number) one.evidence
+    pub paths : MeetsPaths (violations_of P g one.number) one.evidence
     pub no_claims : AllByRecursion ShowsNoClaim one.evidence
 
 abbrev pub Ascend : List Listed → Type 0

@@ -16,8 +16,8 @@ use Rattle.lra_operations.specs.Tree.{Node}
 use Rattle.lra_operations.specs.Agree.{point_of}
 use Rattle.lra_front_end.specs.Stages.{HasTree, HasInlinedTree}
 use Rattle.lra_domain.specs.Moves.{SomeLeads}
-use Rattle.lra_ways.specs.Ways.{Goal, comes_to, denies}
-use Rattle.lra_paths.specs.Paths.{live_at, leading, paths_of, AreFewPaths, HasTooMany}
+use Rattle.lra_path_segments.specs.Segments.{Goal, comes_to, violates}
+use Rattle.lra_paths.specs.Paths.{live_at, actions_between, paths_of, AreFewPaths, HasTooManyPaths}
 use Rattle.lra_paths.specs.Covers.{IsGoalOf, HoldInAllRuns}
 use Rattle.std.specs.Prelude.{pos, ◌∷◌, Contains}
 use Rattle.lra_certificate.specs.Certificates.{Listed, Certificate, Meets, state_or_empty, state_to}
@@ -58,13 +58,14 @@ pub record RowsHold (P : Program) (c : Certificate) : Type 0 where
 -- what a certificate says of the stores at a goal
 abbrev pub Says : Certificate → Goal → List ℤ → Type 0
 Says c (comes_to q) store = HoldsAt (state_to c.states (comes_to q)) store
-Says c (denies q) store = (one : Listed) → Contains c.asserted one → one.number ≡ q → ⊥
+Says c (violates q) store = (one : Listed) → Contains c.asserted one → one.number ≡ q → ⊥
 
 -- each path from the start leads to a store of which it says so, and so does each path from such a store of a point
 pub record PathsKeepRows (P : Program) (g : Node) (c : Certificate) : Type 0 where
-  pub first : (goal : Goal) (t : List ℤ) → IsGoalOf P goal → SomeLeads (leading P g 0 goal) [] t → Says c goal t
+  pub first : (goal : Goal) (t : List ℤ) → IsGoalOf P goal → SomeLeads (actions_between P g 0 goal) [] t → Says c goal t
   pub next : (p : ℕ) (r : Site) (goal : Goal) (s t : List ℤ) → slice_get (sites_of P) p ≡ Some r →
-      length s ≡ live_at P p → IsGoalOf P goal → Says c (comes_to p) s → SomeLeads (leading P g (suc p) goal) s t →
+      length s ≡ live_at P p → IsGoalOf P goal → Says c (comes_to p) s →
+      SomeLeads (actions_between P g (suc p) goal) s t →
       Says c goal t
 
 -- a certificate that meets its program does that, along every path; and its rows hold where what it says does
@@ -106,7 +107,7 @@ abbrev pub Deserves : List ℕ → VerifyAnswer → Type 0
 Deserves bytes (verified points proved) = IsVerified bytes points proved
 Deserves bytes (source_refused cause place) = (h : Head) × HasHead bytes h × Refuse Spells h.source cause place
 Deserves bytes (paths_refused p) = (h : Head) × HasHead bytes h × (x : IsProgram h.source)
-    × HasTooMany (program_of x) x.operations p
+    × HasTooManyPaths (program_of x) x.operations p
 Deserves bytes (line_refused r) =
     ((greatest_certificate < length bytes) × (r ≡ record { line = 0; fault = too_long }))
     ⊎ ((length bytes ≤ greatest_certificate) × (head_of bytes ≡ None) × (r ≡ record { line = 0; fault = bad_line }))

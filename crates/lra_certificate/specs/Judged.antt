@@ -15,7 +15,7 @@ use Rattle.lra_linear_spec.specs.Range.{in_range}
 use Rattle.lra_program.specs.Program.{Program}
 use Rattle.lra_program.specs.Sites.{Site, sites_of}
 use Rattle.lra_operations.specs.Tree.{Node}
-use Rattle.lra_paths.specs.Paths.{Path, paths_of, denials_of}
+use Rattle.lra_paths.specs.Paths.{Path, paths_of, violations_of}
 use Rattle.lra_multipliers.specs.Symbols.{Walked, composed, width_of, walk_of, tests_in}
 use Rattle.lra_multipliers.specs.Multipliers.{Multipliers, Answer, yes, no, wide, checked}
 use Rattle.lra_certificate.specs.Certificates.{Along, premises_of, nothing_left, state_from, state_to, live_from}
@@ -275,7 +275,7 @@ module _ (P : Program) (g : Node) (states : List State) where
   abbrev pub judged_listed : ℕ → List Site → Left → Judged (ℕ × Left)
   judged_listed q [] l = Ok (0, l)
   judged_listed q (site ∷ sites) l = if site.asserts && is_line (assert_text q) (line_on l.pieces)
-      then then_judged (judged_denials (denials_of P g q) (behind_line l))
+      then then_judged (judged_denials (violations_of P g q) (behind_line l))
       (λ next. one_more (judged_listed (suc q) sites next))
       else judged_listed (suc q) sites l
 

@@ -25,9 +25,9 @@ use Rattle.lra_report_states.specs.Polyhedra.{shown_polyhedron}
 use Rattle.lra_report.specs.Report.{Report}
 use Rattle.lra_front_end.specs.Stages.{HasTree, HasInlinedTree, HasConstants}
 use Rattle.lra_paths.specs.Paths.{AreFewPaths, live_of}
-use Rattle.lra_closed.specs.Closed.{AreClosed, AreWide, FailOnce}
-use Rattle.lra_closed.specs.RationalPoints.{rational_points}
-use Rattle.lra_closed.proofs.RationalPoints.{polyhedra_closed}
+use Rattle.lra_inductive_sound.specs.Inductive.{AreInductive, AreWide, FailOnce}
+use Rattle.lra_inductive_sound.specs.RationalPoints.{rational_points}
+use Rattle.lra_inductive_sound.proofs.RationalPoints.{polyhedra_closed}
 use Rattle.lra_certificate.specs.CertificateText.{head_text}
 use Rattle.lra_certificate.specs.Claims.{IsProgram}
 use Rattle.lra_certificate.specs.Judged.{State}
@@ -83,7 +83,7 @@ module _ (t : FileTree) (g : Node) (sites : List Site) (has : HasInlinedTree t g
   once = iteration_fails_once (lossy_operations polyhedron_abstraction) (plan_of certify_options constants) (resolve t) g solved.result
       (numbered (resolve t) g has.is_graph) solved.derived
 
-  closed : AreClosed rational_points (resolve t) g values verdicts
+  closed : AreInductive rational_points (resolve t) g values verdicts
   closed = polyhedra_closed (plan_of certify_options constants) (resolve t) g solved.result values verdicts flagged refl solved.derived solved.solves wide
       once
 

@@ -18,11 +18,11 @@ use Rattle.lra_poly_domain.specs.Abstraction.{polyhedron_abstraction}
 use Rattle.lra_program.specs.Program.{Program}
 use Rattle.lra_program.specs.Sites.{Site, sites_of}
 use Rattle.lra_operations.specs.Tree.{Node}
-use Rattle.lra_ways.specs.Ways.{Goal, comes_to, denies}
-use Rattle.lra_paths.specs.Paths.{live_of, leading}
-use Rattle.lra_closed.specs.Points.{LeadsBy}
-use Rattle.lra_closed.specs.Closed.{IsAtGoal, AreClosed, AreWide}
-use Rattle.lra_closed.specs.RationalPoints.{Moves, LeadsPoint, IsPointOf, dimension, rational_points}
+use Rattle.lra_path_segments.specs.Segments.{Goal, comes_to, violates}
+use Rattle.lra_paths.specs.Paths.{live_of, actions_between}
+use Rattle.lra_inductive_sound.specs.Points.{LeadsBy}
+use Rattle.lra_inductive_sound.specs.Inductive.{IsAtGoal, AreInductive, AreWide}
+use Rattle.lra_inductive_sound.specs.RationalPoints.{MovesPoint, LeadsPoint, IsPointOf, dimension, rational_points}
 use Rattle.lra_certificate.specs.Certificates.{state_to, state_or_empty}
 use Rattle.lra_certificate.specs.Judged.{State}
 use Rattle.lra_certify.specs.PointMoves.{PointLeads, PointLeadsAll}
@@ -47,13 +47,13 @@ same_but k d z xs (suc j) other = ap (λ (a : ℤ). a *ℤ d) (entry_set_other x
 one_less : (xs : List ℤ) → suc (length xs) - 1 ≡ length xs
 one_less xs = omega arith
 
-leads_by : (step : Action) (d : ℤ) (xs y : List ℤ) → IsPoint (dims_after step (length xs)) y → Moves step (d ∷ xs) y → LeadsPoint step (d ∷ xs) y
+leads_by : (step : Action) (d : ℤ) (xs y : List ℤ) → IsPoint (dims_after step (length xs)) y → MovesPoint step (d ∷ xs) y → LeadsPoint step (d ∷ xs) y
 leads_by step d xs y point moves = (subst (λ (n : ℕ). IsPoint (dims_after step n) y) (sym (one_less xs)) point, moves)
 
 cut_point : (k : ℕ) (d : ℤ) (xs : List ℤ) → take (suc (suc (length xs) - suc k)) (d ∷ xs) ≡ d ∷ take (length xs - k) xs
 cut_point k d xs = let same : suc (length xs) - suc k ≡ length xs - k = omega arith in ap (λ (n : ℕ). d ∷ take n xs) same
 
-cut_moves : (k : ℕ) (d : ℤ) (xs y : List ℤ) → y ≡ d ∷ take (length xs - k) xs → Moves (remove_last k) (d ∷ xs) y
+cut_moves : (k : ℕ) (d : ℤ) (xs y : List ℤ) → y ≡ d ∷ take (length xs - k) xs → MovesPoint (remove_last k) (d ∷ xs) y
 cut_moves k d xs y e =
     subst (λ (n : ℕ). SamePoint y (take (suc (n - k)) (d ∷ xs))) (sym (one_less xs)) (same_row (d ∷ take (length xs - k) xs) y e)
 
@@ -100,7 +100,7 @@ in_all [] q p all e = absurd (none-some p e)
 in_all (v ∷ vs) zero p all e = subst IsPolyhedron (same_Some v p e) all.0
 in_all (v ∷ vs) (suc q) p all e = in_all vs q p all.1 e
 
-module _ (P : Program) (g : Node) (values : List Polyhedron) (verdicts : List (ℕ × Bool)) (closed : AreClosed rational_points P g values verdicts)
+module _ (P : Program) (g : Node) (values : List Polyhedron) (verdicts : List (ℕ × Bool)) (closed : AreInductive rational_points P g values verdicts)
     (wide : AreWide polyhedron_abstraction P values) (many : length values ≡ length (sites_of P)) (canonical : AllByRecursion IsPolyhedron values) where
   abbrev states : List State
   states = map state_by values
@@ -113,10 +113,10 @@ module _ (P : Program) (g : Node) (values : List Polyhedron) (verdicts : List (�
       → IsIn (state_to states goal) y
   arrives (comes_to q) y asked (w, there, on) =
       subst (λ (s : State). IsIn s y) (sym (state_at q w there)) (in_state w y (in_all values q w canonical there) on.0 on.1)
-  arrives (denies q) y asked never = absurd (never (proved_there verdicts q asked))
+  arrives (violates q) y asked never = absurd (never (proved_there verdicts q asked))
 
   from_point : (p : ℕ) (s : Site) (v : Polyhedron) (goal : Goal) (actions : List Action) → slice_get (sites_of P) p ≡ Some s → slice_get values p ≡ Some v
-      → IsAsked (length (sites_of P)) (proved_in verdicts) goal → Contains (leading P g (suc p) goal) actions
+      → IsAsked (length (sites_of P)) (proved_in verdicts) goal → Contains (actions_between P g (suc p) goal) actions
       → StaysFrom s.live actions (state_by v) (state_to states goal)
   from_point p s v goal actions site value asked among = by (state_by v) refl
     where

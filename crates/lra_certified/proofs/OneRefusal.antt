@@ -5,7 +5,7 @@ use Rattle.lra_program.specs.Program.{Program}
 use Rattle.lra_program.specs.Sites.{sites_of}
 use Rattle.lra_operations.specs.Tree.{Node}
 use Rattle.lra_front_end.proofs.EachAnswer.{each_answer}
-use Rattle.lra_paths.specs.Paths.{AreFewPaths, HasTooMany}
+use Rattle.lra_paths.specs.Paths.{AreFewPaths, HasTooManyPaths}
 use Rattle.lra_paths.proofs.ManyPaths.{not_both}
 use Rattle.lra_certificate.specs.Claims.{IsProgram, program_of}
 use Rattle.lra_certificate.proofs.OneProgram.{accepted_of, as_said}
@@ -14,7 +14,7 @@ use Rattle.lra_certified.specs.declared.refusals.CertifyRefusal.TheVariants.{Sou
 use Rattle.lra_certified.specs.Certified.{IsRefusedSo, ManyAreRefused}
 
 -- the least source from which too many paths lead
-pub one_source : (P : Program) (g : Node) (p q : ℕ) → HasTooMany P g p → HasTooMany P g q → p ≡ q
+pub one_source : (P : Program) (g : Node) (p q : ℕ) → HasTooManyPaths P g p → HasTooManyPaths P g q → p ≡ q
 one_source P g p q a b = by (cases_order p q)
   where
     beyond : (n m : ℕ) → n < m → m ≤ n → ⊥
@@ -25,7 +25,7 @@ one_source P g p q a b = by (cases_order p q)
     by (inr (inl h)) = absurd (beyond _ _ a.many (b.first p h a.goal))
     by (inr (inr h)) = absurd (beyond _ _ b.many (a.first q h b.goal))
 
-module _ (source : List ℕ) (x : IsProgram source) (p : ℕ) (many : HasTooMany (program_of x) x.operations p) where
+module _ (source : List ℕ) (x : IsProgram source) (p : ℕ) (many : HasTooManyPaths (program_of x) x.operations p) where
   never_few : (y : IsProgram source) → AreFewPaths (program_of y) y.operations → ⊥
   never_few y few =
       not_both (program_of x).globals (sites_of (program_of x)) x.operations p (as_said (λ P g. AreFewPaths P g) source x y few) many
@@ -33,7 +33,7 @@ module _ (source : List ℕ) (x : IsProgram source) (p : ℕ) (many : HasTooMany
   one_refusal : (refusal : CertifyRefusal) → IsRefusedSo source refusal → refusal ≡ Paths p
   one_refusal (Source r) why = absurd ((each_answer source).2 x.tree r.cause r.place (accepted_of source x) why)
   one_refusal (Paths q) (y, more) =
-      ap Paths (one_source (program_of x) x.operations q p (as_said (λ P g. HasTooMany P g q) source x y more) many)
+      ap Paths (one_source (program_of x) x.operations q p (as_said (λ P g. HasTooManyPaths P g q) source x y more) many)
   one_refusal (Strained at) (r, s) = absurd (never_few s.handed.program s.handed.few)
 
 pub many_refused : ManyAreRefused

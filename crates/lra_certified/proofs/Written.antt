@@ -8,8 +8,8 @@ use Rattle.lra_linear_spec.proofs.Membership.{contains_head, map_from}
 use Rattle.lra_program.specs.Program.{Program}
 use Rattle.lra_program.specs.Sites.{sites_of}
 use Rattle.lra_operations.specs.Tree.{Node}
-use Rattle.lra_ways.specs.Ways.{comes_to}
-use Rattle.lra_paths.specs.Paths.{Path, path_by, leading, paths_between, points_of, sources_of, paths_of}
+use Rattle.lra_path_segments.specs.Segments.{comes_to}
+use Rattle.lra_paths.specs.Paths.{Path, path_by, actions_between, paths_between, points_of, sources_of, paths_of}
 use Rattle.lra_certificate.specs.Certificates.{Listed}
 use Rattle.lra_certificate.specs.CertificateText.{head_text}
 use Rattle.lra_certificate.specs.Claims.{program_of}
@@ -52,7 +52,7 @@ point_there : (P : Program) (g : Node) (path : Path) (q : ℕ) → Contains (pat
 point_there P g path q among goal =
     let source = flat_from (λ p. flat_map (λ k. paths_between P g p (comes_to k)) (points_of P)) (sources_of P) path among in
     let point = flat_from (λ k. paths_between P g source.0 (comes_to k)) (points_of P) path source.2 in
-    let steps = map_from (path_by source.0 (comes_to point.0)) (leading P g source.0 (comes_to point.0)) path point.2 in
+    let steps = map_from (path_by source.0 (comes_to point.0)) (actions_between P g source.0 (comes_to point.0)) path point.2 in
     let low = in_range_below 0 (length (sites_of P)) point.0 point.1 in
     let same = same_goal path source.0 q point.0 steps.0 steps.2 goal in
     omega (arith, low, same)

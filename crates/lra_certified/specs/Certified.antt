@@ -6,7 +6,7 @@ use Rattle.lra_resolution_spec.specs.Refuse.{Refuse}
 use Rattle.lra_row_text.specs.Rows.{ReportRow}
 use Rattle.lra_row_text.specs.ShownDescriptions.{shown_constraint}
 use Rattle.lra_report.specs.Report.{Invariant, PointReport, Report}
-use Rattle.lra_paths.specs.Paths.{AreFewPaths, HasTooMany}
+use Rattle.lra_paths.specs.Paths.{AreFewPaths, HasTooManyPaths}
 use Rattle.lra_certificate.specs.Judged.{State}
 use Rattle.lra_certificate.specs.CertificateText.{head_text}
 use Rattle.lra_certificate.specs.Certificates.{Listed}
@@ -77,12 +77,12 @@ pub record IsStrainedAt (source : List ℕ) (r : Report) (at : StrainedAt) : Typ
 -- its own refusal; too many paths from the source of this number; or strain with a report that it deserves
 abbrev pub IsRefusedSo : List ℕ → CertifyRefusal → Type 0
 IsRefusedSo source (Source r) = Refuse Spells source r.cause r.place
-IsRefusedSo source (Paths p) = (x : IsProgram source) × HasTooMany (program_of x) x.operations p
+IsRefusedSo source (Paths p) = (x : IsProgram source) × HasTooManyPaths (program_of x) x.operations p
 IsRefusedSo source (Strained at) = (r : Report) × IsStrainedAt source r at
 
 -- where too many paths lead from a source, that is the one refusal of it, and it has no certificate
 abbrev pub ManyAreRefused : Type 0
-ManyAreRefused = (source : List ℕ) (x : IsProgram source) (p : ℕ) → HasTooMany (program_of x) x.operations p →
+ManyAreRefused = (source : List ℕ) (x : IsProgram source) (p : ℕ) → HasTooManyPaths (program_of x) x.operations p →
     ((r : Report) (bytes : List ℕ) → IsCertificateOf source r bytes → ⊥)
     × ((refusal : CertifyRefusal) → IsRefusedSo source refusal → refusal ≡ Paths p)
 

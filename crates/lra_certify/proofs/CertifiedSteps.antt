@@ -13,8 +13,8 @@ use Rattle.lra_program.specs.Program.{Program}
 use Rattle.lra_program.specs.Sites.{Site, sites_of}
 use Rattle.lra_operations.specs.Tree.{Node}
 use Rattle.lra_operations.specs.TreeViews.{site_view}
-use Rattle.lra_ways.specs.Ways.{Goal, comes_to, denies}
-use Rattle.lra_paths.specs.Paths.{Path, path_by, paths_between, paths_of, denials_of, sources_of, points_of, leading, live_at, AreFewPaths}
+use Rattle.lra_path_segments.specs.Segments.{Goal, comes_to, violates}
+use Rattle.lra_paths.specs.Paths.{Path, path_by, paths_between, paths_of, violations_of, sources_of, points_of, actions_between, live_at, AreFewPaths}
 use Rattle.lra_certificate.specs.Certificates.{Evidence, none, dead, by, Listed, live_from, state_from, state_to, MeetsFrom, MeetsPaths}
 use Rattle.lra_certificate.specs.Certificates.{MeetsListed}
 use Rattle.lra_certificate.specs.Certificates.{ShowsNoClaim, Ascend, AreStates, IsWritable}
@@ -115,7 +115,8 @@ module _ (P : Program) (g : Node) (states : List State) where
     writable_all paths es h.1,
   )
 
-  claimless_all : (q : ℕ) (paths : List Path) (found : List Evidence) → ((path : Path) → Contains paths path → path.goal ≡ denies q) → Each Meant paths found →
+  claimless_all : (q : ℕ) (paths : List Path) (found : List Evidence) → ((path : Path) → Contains paths path → path.goal ≡ violates q) →
+      Each Meant paths found →
       AllByRecursion ShowsNoClaim found
   claimless_all q [] [] goals h = tt
   claimless_all q [] (e ∷ es) goals h = absurd h
@@ -126,10 +127,10 @@ module _ (P : Program) (g : Node) (states : List State) where
     claimless_all q paths es (λ other k. goals other (contains_tail path other paths k)) h.1,
   )
 
-  denial_goal : (q : ℕ) (path : Path) → Contains (denials_of P g q) path → path.goal ≡ denies q
+  denial_goal : (q : ℕ) (path : Path) → Contains (violations_of P g q) path → path.goal ≡ violates q
   denial_goal q path k =
-      let source = flat_from (λ (p : ℕ). paths_between P g p (denies q)) (sources_of P) path k in
-      let steps = map_from (path_by source.0 (denies q)) (leading P g source.0 (denies q)) path source.2 in
+      let source = flat_from (λ (p : ℕ). paths_between P g p (violates q)) (sources_of P) path k in
+      let steps = map_from (path_by source.0 (violates q)) (actions_between P g source.0 (violates q)) path source.2 in
       ap (λ (x : Path). x.goal) (sym steps.2)
 
   abbrev Listing : ℕ → Listed → Type 0
@@ -141,8 +142,8 @@ module _ (P : Program) (g : Node) (states : List State) where
         site = site;
         there = subst (λ (n : ℕ). slice_get (sites_of P) n ≡ Some site) (sym number) there;
         asserts = asserts;
-        paths = subst (λ (n : ℕ). MeetsPaths P g states (denials_of P g n) one.evidence) (sym number) (meets_all (denials_of P g q) one.evidence found);
-        no_claims = claimless_all q (denials_of P g q) one.evidence (denial_goal q) found;
+        paths = subst (λ (n : ℕ). MeetsPaths P g states (violations_of P g n) one.evidence) (sym number) (meets_all (violations_of P g q) one.evidence found);
+        no_claims = claimless_all q (violations_of P g q) one.evidence (denial_goal q) found;
       }
 
   all_listed : (proved : List ℕ) (listed : List Listed) →
@@ -154,7 +155,7 @@ module _ (P : Program) (g : Node) (states : List State) where
   all_listed (q ∷ proved) (one ∷ more) assert h =
       let site = assert q (contains_head q proved) in
       let rest = all_listed proved more (λ n k. assert n (contains_tail q n proved k)) h.1 in
-      ((listed_meets q one site.0 site.1 site.2 h.0, rest.0), (writable_all (denials_of P g q) one.evidence h.0.1, rest.1))
+      ((listed_meets q one site.0 site.1 site.2 h.0, rest.0), (writable_all (violations_of P g q) one.evidence h.0.1, rest.1))
 
   ascend_all : (proved : List ℕ) (listed : List Listed) → AscendStrictly proved → Each Listing proved listed → Ascend listed
   ascend_all [] [] a h = tt
@@ -205,11 +206,11 @@ module _ (P : Program) (g : Node) (w : Ways) (ways : AreWays w) (sites : sites_i
       (λ p k. from_is p (omega (arith, k))) ∙
       ap (λ (n : ℕ). flat_map (λ p. flat_map (λ q. paths_between P g p (comes_to q)) (points_of P)) (range_with_len 0 n)) sources_many
 
-  pub denied_is : (q : ℕ) → denied_paths w q ≡ denials_of P g q
+  pub denied_is : (q : ℕ) → denied_paths w q ≡ violations_of P g q
   denied_is q =
-      flat_numbers (λ p. paths_to w p (denies q)) (λ p. paths_between P g p (denies q)) 0 (length w.sources.now)
-      (λ p k. between p (denies q) (omega (arith, k))) ∙
-      ap (λ (n : ℕ). flat_map (λ p. paths_between P g p (denies q)) (range_with_len 0 n)) sources_many
+      flat_numbers (λ p. paths_to w p (violates q)) (λ p. paths_between P g p (violates q)) 0 (length w.sources.now)
+      (λ p k. between p (violates q) (omega (arith, k))) ∙
+      ap (λ (n : ℕ). flat_map (λ p. paths_between P g p (violates q)) (range_with_len 0 n)) sources_many
 
   -- found and strained of the program
   found_is : (paths : List Path) (found : List Evidence) → Each (Found (sites_in w) states) paths found → Each (Found (sites_of P) states) paths found
@@ -266,7 +267,7 @@ module _ (P : Program) (g : Node) (w : Ways) (ways : AreWays w) (sites : sites_i
     is = h.is;
     found = h.found;
     are = each_weaker (IsListed w) (IsListedFound P g states) listed_is h.before h.found h.are;
-    bad = (h.bad.0, stops_is (denied_paths w q) (denials_of P g q) h.bad.0 (denied_is q) h.bad.1);
+    bad = (h.bad.0, stops_is (denied_paths w q) (violations_of P g q) h.bad.0 (denied_is q) h.bad.1);
   }
 
   comes_goal : (path : Path) → Contains (all_paths w) path → (q : ℕ) × (path.goal ≡ comes_to q)
@@ -283,7 +284,7 @@ module _ (P : Program) (g : Node) (w : Ways) (ways : AreWays w) (sites : sites_i
       let comes = comes_goal path (stops_has (Found (sites_in w) states) (Strains (sites_in w) states) (all_paths w) path h) in
       absurd (other_goals comes.0 q (sym comes.1 ∙ goal))
     where
-      other_goals : (p q : ℕ) → comes_to p ≡ denies q → ⊥
+      other_goals : (p q : ℕ) → comes_to p ≡ violates q → ⊥
       other_goals p q e = cc
 
   listing_stops_at : (proved : List ℕ) (at : StrainedAt) → StopsListing w proved at → StopsAt P g states proved at
@@ -306,7 +307,7 @@ module _ (P : Program) (g : Node) (w : Ways) (ways : AreWays w) (sites : sites_i
       IsAsked (length (sites_of P)) proved goal →
       Contains (paths_to w p goal) path → Stays (sites_in w) states path
   stays_is proved p goal path stay low asked k =
-      let steps = map_from (path_by p goal) (leading P g p goal) path (subst (λ (l : List Path). Contains l path) (between p goal low) k) in
+      let steps = map_from (path_by p goal) (actions_between P g p goal) path (subst (λ (l : List Path). Contains l path) (between p goal low) k) in
       subst (λ (s : List Site). Stays s states path) (sym sites)
       (subst (λ (x : Path). Stays (sites_of P) states x) steps.2
       (stay p goal steps.0 (let n = sources_many in omega (arith, n, low)) asked steps.1))
@@ -322,9 +323,9 @@ module _ (P : Program) (g : Node) (w : Ways) (ways : AreWays w) (sites : sites_i
 
   pub all_denied : (proved : List ℕ) → PathsStay P g states proved → AllDenied w proved
   all_denied proved stay = λ q listed path k.
-      let source = flat_from (λ p. paths_to w p (denies q)) (range_with_len 0 (length w.sources.now)) path k in
+      let source = flat_from (λ p. paths_to w p (violates q)) (range_with_len 0 (length w.sources.now)) path k in
       let low = in_range_below 0 (length w.sources.now) source.0 source.1 in
-      stays_is proved source.0 (denies q) path stay (omega (arith, low)) listed source.2
+      stays_is proved source.0 (violates q) path stay (omega (arith, low)) listed source.2
 
 -- ---- all lines, as they are written
 pub body_added : (w : Ways) (proved old first second third new : List ℕ) → AreWays w → All HasPointRows w.states.now →

@@ -9,7 +9,7 @@ use Rattle.lra_linear_spec.specs.Vectors.{zeros}
 use Rattle.lra_systems.specs.LinearSystems.{LinearSystem, constraints}
 use Rattle.lra_domain.specs.Actions.{Action}
 use Rattle.lra_paths.specs.Paths.{path_by}
-use Rattle.lra_ways.specs.Ways.{denies}
+use Rattle.lra_path_segments.specs.Segments.{violates}
 use Rattle.lra_multipliers.specs.Symbols.{walk_of}
 use Rattle.lra_multipliers.proofs.CheckSteps.{length_zeros}
 use Rattle.lra_certificate.specs.Judged.{State}
@@ -50,7 +50,8 @@ module _ (rows : LinearSystem ConKind) (steps : List Action) (t : Track) (track 
 
     pub grounds_lead : (seen : List (List ℤ)) → seen ≡ rows.rows → All (λ r. length r ≡ suc rows.dims) seen →
         StaysFrom rows.dims steps (Some (constraints rows)) target → AllLead g target
-    grounds_lead seen is wide stays = all_lead rows.dims (constraints rows) (path_by 0 (denies 0) steps) g grounds_of target (rows_wide rows seen is wide) stays
+    grounds_lead seen is wide stays =
+        all_lead rows.dims (constraints rows) (path_by 0 (violates 0) steps) g grounds_of target (rows_wide rows seen is wide) stays
 
     evidence_adds : AreLaws → (old new : List ℕ) → Adds (IsEvidence g target) old new →
         Adds (FoundOn rows.dims steps (Some (constraints rows)) target) old new

@@ -14,12 +14,12 @@ use Rattle.lra_linear_spec.specs.Descriptions.{LinearRow}
 use Rattle.std.specs.Borrow.{Bor}
 use Rattle.lra_domain.specs.Actions.{Action}
 use Rattle.lra_domain.specs.declared.changes.Change.{Change}
-use Rattle.lra_ways.specs.Ways.{Goal, comes_to, denies}
+use Rattle.lra_path_segments.specs.Segments.{Goal, comes_to, violates}
 use Rattle.lra_paths.specs.Paths.{Path, path_by}
-use Rattle.lra_sides.specs.TableSides.{all_done, lists_done}
+use Rattle.lra_path_disjuncts.specs.TableDisjuncts.{all_done, lists_done}
 use Rattle.lra_paths.specs.Sources.{to_goal}
 use Rattle.lra_paths.specs.declared.sources.Source.{Source}
-use Rattle.lra_ways.proofs.Lists.{flat_map_has}
+use Rattle.lra_path_segments.proofs.Lists.{flat_map_has}
 use Rattle.lra_certificate.specs.Certificates.{Evidence, none, Listed, state_from, state_to}
 use Rattle.lra_certificate.specs.CertificateText.{text_line, edge_text, assert_text, evidence_text, listed_text}
 use Rattle.lra_certificate.specs.Judged.{State}
@@ -124,52 +124,52 @@ stay_first w xs us all e h = λ path k. h path (subst (λ (l : List Path). Conta
 
 -- ---- to where an assertion is false
 none_each : (w : Ways) (p q : ℕ) (lists : List (List Action)) → None ≡ state_from (states_in w) p →
-    AddsPaths w denial_lines (map (path_by p (denies q)) lists) [] []
+    AddsPaths w denial_lines (map (path_by p (violates q)) lists) [] []
 none_each w p q [] e = record { found = []; are = tt; text = refl }
 none_each w p q (steps ∷ lists) e =
     let rest = none_each w p q lists e in
-    record { found = none ∷ rest.found; are = (nothing_found w (path_by p (denies q) steps) e, rest.are); text = rest.text }
+    record { found = none ∷ rest.found; are = (nothing_found w (path_by p (violates q) steps) e, rest.are); text = rest.text }
 
-pub none_denied : (w : Ways) (p q : ℕ) (text : List ℕ) → None ≡ state_from (states_in w) p → AddsPaths w denial_lines (paths_to w p (denies q)) text text
+pub none_denied : (w : Ways) (p q : ℕ) (text : List ℕ) → None ≡ state_from (states_in w) p → AddsPaths w denial_lines (paths_to w p (violates q)) text text
 none_denied w p q text e =
-    let all = none_each w p q (led_by w p (denies q)) e in
+    let all = none_each w p q (led_by w p (violates q)) e in
     record { found = all.found; are = all.are; text = sym (append-nil text) ∙ ap (λ (t : List ℕ). text ++ t) all.text }
 
 module _ (w : Ways) (p q n : ℕ) (rows : List LinearRow) (is : n ≡ live_by (sites_in w) p) (from : Some rows ≡ state_from (states_in w) p) where
   denied_each : (lists : List (List Action)) (found : List Evidence) → Each (FoundDead n rows) lists found →
-      Each (Found (sites_in w) (states_in w)) (map (path_by p (denies q)) lists) found
+      Each (Found (sites_in w) (states_in w)) (map (path_by p (violates q)) lists) found
   denied_each [] [] h = tt
   denied_each [] (e ∷ es) h = absurd h
   denied_each (steps ∷ lists) [] h = absurd h
   denied_each (steps ∷ lists) (e ∷ es) h =
-      (found_on w (path_by p (denies q) steps) n (Some rows) None e is from refl h.0, denied_each lists es h.1)
+      (found_on w (path_by p (violates q) steps) n (Some rows) None e is from refl h.0, denied_each lists es h.1)
 
   denied_text : (lists : List (List Action)) (found : List Evidence) → each_text (λ steps evidence. evidence_text evidence) lists found ≡
-      each_text denial_lines (map (path_by p (denies q)) lists) found
+      each_text denial_lines (map (path_by p (violates q)) lists) found
   denied_text [] found = refl
   denied_text (steps ∷ lists) [] = refl
   denied_text (steps ∷ lists) (e ∷ es) = ap (λ (t : List ℕ). evidence_text e ++ t) (denied_text lists es)
 
-  pub denied_adds : (lists : List (List Action)) (old new : List ℕ) → lists ≡ led_by w p (denies q) → AddsDead n rows lists old new →
-      AddsPaths w denial_lines (paths_to w p (denies q)) old new
+  pub denied_adds : (lists : List (List Action)) (old new : List ℕ) → lists ≡ led_by w p (violates q) → AddsDead n rows lists old new →
+      AddsPaths w denial_lines (paths_to w p (violates q)) old new
   denied_adds lists old new e h =
-      subst (λ (l : List (List Action)). AddsPaths w denial_lines (map (path_by p (denies q)) l) old new) e (record {
+      subst (λ (l : List (List Action)). AddsPaths w denial_lines (map (path_by p (violates q)) l) old new) e (record {
         found = h.found;
         are = denied_each lists h.found h.are;
         text = h.text ∙ ap (λ (t : List ℕ). old ++ t) (denied_text lists h.found);
       })
 
-  pub denied_stops : (lists : List (List Action)) → lists ≡ led_by w p (denies q) → SomeDeadStops n rows lists → SomePathStops w (paths_to w p (denies q))
+  pub denied_stops : (lists : List (List Action)) → lists ≡ led_by w p (violates q) → SomeDeadStops n rows lists → SomePathStops w (paths_to w p (violates q))
   denied_stops lists e (steps, h) =
-      subst (λ (l : List (List Action)). SomePathStops w (map (path_by p (denies q)) l)) e (
-        path_by p (denies q) steps,
+      subst (λ (l : List (List Action)). SomePathStops w (map (path_by p (violates q)) l)) e (
+        path_by p (violates q) steps,
         record {
-          before = map (path_by p (denies q)) h.before;
-          behind = map (path_by p (denies q)) h.behind;
-          is = ap (λ (l : List (List Action)). map (path_by p (denies q)) l) h.is ∙ map-append (path_by p (denies q)) h.before (steps ∷ h.behind);
+          before = map (path_by p (violates q)) h.before;
+          behind = map (path_by p (violates q)) h.behind;
+          is = ap (λ (l : List (List Action)). map (path_by p (violates q)) l) h.is ∙ map-append (path_by p (violates q)) h.before (steps ∷ h.behind);
           found = h.found;
           are = denied_each h.before h.found h.are;
-          bad = strains_on w (path_by p (denies q) steps) n (Some rows) None is from refl h.bad;
+          bad = strains_on w (path_by p (violates q) steps) n (Some rows) None is from refl h.bad;
         },
       )
 
@@ -194,9 +194,9 @@ module _ (w : Ways) where
       stay path (flat_map_has (paths_from w) (range_with_len 0 (length w.sources.now)) p path
       (range_has 0 (length w.sources.now) p (omega arith) (omega (arith, h))) k)
 
-  pub stay_denied : (q p : ℕ) → p < length w.sources.now → AllStay w (denied_paths w q) → AllStay w (paths_to w p (denies q))
+  pub stay_denied : (q p : ℕ) → p < length w.sources.now → AllStay w (denied_paths w q) → AllStay w (paths_to w p (violates q))
   stay_denied q p h stay = λ path k.
-      stay path (flat_map_has (λ r. paths_to w r (denies q)) (range_with_len 0 (length w.sources.now)) p path
+      stay path (flat_map_has (λ r. paths_to w r (violates q)) (range_with_len 0 (length w.sources.now)) p path
       (range_has 0 (length w.sources.now) p (omega arith) (omega (arith, h))) k)
 
   pub stay_path : (f : List Action → Path) (lists : List (List Action)) (steps : List Action) → Contains lists steps → AllStay w (map f lists) →
@@ -369,25 +369,25 @@ module _ (w : Ways) (path : Path) (n : ℕ) (from to : State) (live_is : n ≡ l
 
 -- ---- the paths that a source's table has for a goal
 pub led_lists : (w : Ways) (p : ℕ) (goal : Goal) (s : Source) (lists : List (List Action)) → slice_get w.sources.now p ≡ Some s →
-    lists ≡ to_goal s.entries.items s.ways.items goal → lists ≡ led_by w p goal
+    lists ≡ to_goal s.entries.items s.segments.items goal → lists ≡ led_by w p goal
 led_lists w p goal s lists got led = led ∙ ap (λ (o : Option Source). led_from o goal) (sym got)
 
 -- ---- to where an assertion is false, from a source that isn't empty, as it is handed on
 module _ (w : Ways) (p q n : ℕ) (rows : List LinearRow) (is : n ≡ live_by (sites_in w) p) (from : Some rows ≡ state_from (states_in w) p)
-    (lists : List (List Action)) (led : lists ≡ led_by w p (denies q)) where
-  pub denied_stay : AllStay w (paths_to w p (denies q)) → AllDead n rows lists
+    (lists : List (List Action)) (led : lists ≡ led_by w p (violates q)) where
+  pub denied_stay : AllStay w (paths_to w p (violates q)) → AllDead n rows lists
   denied_stay stay = λ steps k.
-      let path = path_by p (denies q) steps in
+      let path = path_by p (violates q) steps in
       stays_on w path n (Some rows) None is from refl
-      (stay_path w (path_by p (denies q)) (led_by w p (denies q)) steps (subst (λ (l : List (List Action)). Contains l steps) led k) stay)
+      (stay_path w (path_by p (violates q)) (led_by w p (violates q)) steps (subst (λ (l : List (List Action)). Contains l steps) led k) stay)
 
   pub denied_told : {X : Type 0} (old new : List ℕ) (r : Result X PathFailure) → OnOk r (AddsDead n rows lists old new) →
-      OnOk r (AddsPaths w denial_lines (paths_to w p (denies q)) old new)
+      OnOk r (AddsPaths w denial_lines (paths_to w p (violates q)) old new)
   denied_told old new (Ok x) h = denied_adds w p q n rows is from lists old new led h
   denied_told old new (Err e) h = tt
 
   pub denied_failed : {X : Type 0} (r : Result X PathFailure) → IfErr r (IfStrained (SomeDeadStops n rows lists)) →
-      IfErr r (IfStrained (SomePathStops w (paths_to w p (denies q))))
+      IfErr r (IfStrained (SomePathStops w (paths_to w p (violates q))))
   denied_failed (Ok x) h = tt
   denied_failed (Err e) h =
-      strained_weaker (SomeDeadStops n rows lists) (SomePathStops w (paths_to w p (denies q))) e (denied_stops w p q n rows is from lists led) h
+      strained_weaker (SomeDeadStops n rows lists) (SomePathStops w (paths_to w p (violates q))) e (denied_stops w p q n rows is from lists led) h

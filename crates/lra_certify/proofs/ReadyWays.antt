@@ -9,9 +9,9 @@ use Rattle.lra_program.specs.declared.program.GlobalVariable.{GlobalVariable}
 use Rattle.lra_operations.specs.Tree.{Node}
 use Rattle.lra_operations.specs.declared.tree.Site as declared
 use Rattle.lra_operations.specs.TreeViews.{site_view}
-use Rattle.lra_ways.specs.Ways.{Goal}
-use Rattle.lra_sides.specs.Tables.{IsTable}
-use Rattle.lra_paths.specs.Paths.{leading_in, AreFewIn}
+use Rattle.lra_path_segments.specs.Segments.{Goal}
+use Rattle.lra_path_disjuncts.specs.Tables.{IsTable}
+use Rattle.lra_paths.specs.Paths.{actions_between_in, AreFewIn}
 use Rattle.lra_paths.specs.declared.sources.Source.{Source}
 use Rattle.lra_verify.specs.EdgeViews.{AreWays, led_from, sites_in}
 use Rattle.lra_verify.specs.PointViews.{HaveDims}
@@ -42,7 +42,7 @@ module _ (P : Program) (g : Node) (w : Ways) (globals given : List GlobalVariabl
     (of_globals : globals ≡ given) (given_is : given ≡ P.globals) (of_sites : sites ≡ all) (seen : w.sites.now ≡ all)
     (sites_are : map site_view all ≡ sites_of P) (few : AreFewIn given (map site_view all) g) where
   pub are_ready : w.sources.now ≡ items → length items ≡ suc (length sites) → All (λ s. IsTable s.entries.items) items →
-      ((p : ℕ) (goal : Goal) → p ≤ length sites → led_from (slice_get items p) goal ≡ leading_in globals (map site_view sites) g p goal) →
+      ((p : ℕ) (goal : Goal) → p ≤ length sites → led_from (slice_get items p) goal ≡ actions_between_in globals (map site_view sites) g p goal) →
       w.start.now.rows ≡ [] → w.start.now.dims ≡ 0 → length w.states.now ≡ length all → HaveDims (map site_view all) w.states.now →
       length all < 2 ^ 31 → All (λ s. s.live < 2 ^ 31) all → AreReady P g w
   are_ready same count tables leads none no_dims states dims short live = record {

@@ -17,7 +17,7 @@ use Rattle.lra_linear_spec.proofs.Membership.{contains_head, contains_tail}
 use Rattle.lra_systems.specs.LinearSystems.{LinearSystem, constraints, rows_by_kind}
 use Rattle.lra_program.specs.Sites.{Site}
 use Rattle.lra_paths.specs.Paths.{path_by}
-use Rattle.lra_ways.specs.Ways.{comes_to}
+use Rattle.lra_path_segments.specs.Segments.{comes_to}
 use Rattle.lra_multipliers.specs.Multipliers.{Multipliers}
 use Rattle.lra_certificate.specs.Certificates.{IsPointRow, IsState, AreStates}
 use Rattle.lra_certificate.specs.CertificateText.{text_line, numbers_text, relation_text, row_text, point_text, state_text, states_text, multipliers_text}

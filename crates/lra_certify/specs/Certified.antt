@@ -4,8 +4,8 @@ use Rattle.std.specs.Prelude.{◌≡◌, ◌<◌, ℕ, ⊤, true, List, [], ◌�
 use Rattle.lra_program.specs.Program.{Program}
 use Rattle.lra_program.specs.Sites.{Site, sites_of}
 use Rattle.lra_operations.specs.Tree.{Node}
-use Rattle.lra_ways.specs.Ways.{comes_to}
-use Rattle.lra_paths.specs.Paths.{Path, paths_of, denials_of, AreFewPaths, HasTooMany}
+use Rattle.lra_path_segments.specs.Segments.{comes_to}
+use Rattle.lra_paths.specs.Paths.{Path, paths_of, violations_of, AreFewPaths, HasTooManyPaths}
 use Rattle.lra_certificate.specs.Certificates.{Evidence, Listed, Certificate, Meets}
 use Rattle.lra_certificate.specs.CertificateText.{body_text}
 use Rattle.lra_certificate.specs.Judged.{State}
@@ -33,7 +33,7 @@ certificate_by states paths asserted source =
 -- an assertion with evidence for each path to where it is false
 abbrev pub IsListedFound : Program → Node → List State → ℕ → Listed → Type 0
 IsListedFound P g states q one =
-    (one.number ≡ q) × Each (Found (sites_of P) states) (denials_of P g q) one.evidence
+    (one.number ≡ q) × Each (Found (sites_of P) states) (violations_of P g q) one.evidence
 
 -- of whichever source it is said to be
 pub record IsCertified (P : Program) (g : Node) (states : List State) (proved bytes : List ℕ) : Type 0 where
@@ -53,7 +53,7 @@ pub record StopsAtEdge (P : Program) (g : Node) (states : List State) (p q : ℕ
   pub stops : StopsIn (sites_of P) states (paths_of P g) path
 
 abbrev pub AssertionStops : Program → Node → List State → ℕ → Type 0
-AssertionStops P g states q = (path : Path) × StopsIn (sites_of P) states (denials_of P g q) path
+AssertionStops P g states q = (path : Path) × StopsIn (sites_of P) states (violations_of P g q) path
 
 pub record StopsAtAssertion (P : Program) (g : Node) (states : List State) (proved : List ℕ) (q : ℕ) : Type 0 where
   pub evidence : List Evidence
@@ -66,6 +66,6 @@ StopsAt P g states proved (Assertion q) = StopsAtAssertion P g states proved q
 
 -- why there is no certificate
 abbrev pub IsFailure : Program → Node → List State → List ℕ → CertifyFailure → Type 0
-IsFailure P g states proved (TooMany p) = HasTooMany P g p
+IsFailure P g states proved (TooMany p) = HasTooManyPaths P g p
 IsFailure P g states proved (Strained at) = AreFewPaths P g × StopsAt P g states proved at
 IsFailure P g states proved Memory = Unit {0}

@@ -7,8 +7,8 @@ use Rattle.lra_domain.specs.Actions.{Action}
 use Rattle.lra_program.specs.Program.{Program}
 use Rattle.lra_program.specs.Sites.{Site, sites_of}
 use Rattle.lra_operations.specs.Tree.{Node}
-use Rattle.lra_ways.specs.Ways.{Goal, comes_to, denies}
-use Rattle.lra_paths.specs.Paths.{Path, path_by, leading}
+use Rattle.lra_path_segments.specs.Segments.{Goal, comes_to, violates}
+use Rattle.lra_paths.specs.Paths.{Path, path_by, actions_between}
 use Rattle.lra_certificate.specs.Certificates.{state_from, state_to}
 use Rattle.lra_certificate.specs.Judged.{State}
 use Rattle.lra_verify.specs.EdgeViews.{live_by}
@@ -33,10 +33,10 @@ Stays sites states path = StaysFrom (live_by sites path.source) path.actions (st
 -- it is one of the points, or one of the assertions that are to be listed
 abbrev pub IsAsked : ℕ → List ℕ → Goal → Type 0
 IsAsked points proved (comes_to q) = q < points
-IsAsked points proved (denies q) = Contains proved q
+IsAsked points proved (violates q) = Contains proved q
 
 -- so it is along each path to a point, and to where a listed assertion is false
 abbrev pub PathsStay : Program → Node → List State → List ℕ → Type 0
 PathsStay P g states proved = (p : ℕ) (goal : Goal) (actions : List Action) → p ≤ length (sites_of P) →
-    IsAsked (length (sites_of P)) proved goal → Contains (leading P g p goal) actions →
+    IsAsked (length (sites_of P)) proved goal → Contains (actions_between P g p goal) actions →
     Stays (sites_of P) states (path_by p goal actions)

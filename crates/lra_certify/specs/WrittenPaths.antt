@@ -1,7 +1,7 @@
 -- Paths as the code writes their lines, from one source after the other.
 use Rattle.std.specs.Prelude.{◌≡◌, ◌⊎◌, ◌++◌, ℕ, List, map, length, Some, None, Contains}
 use Rattle.std.specs.List.{flat_map, range_with_len}
-use Rattle.lra_ways.specs.Ways.{Goal, comes_to, denies}
+use Rattle.lra_path_segments.specs.Segments.{Goal, comes_to, violates}
 use Rattle.lra_paths.specs.Paths.{Path, path_by}
 use Rattle.lra_linear_spec.specs.Descriptions.{LinearRow}
 use Rattle.lra_domain.specs.Actions.{Action}
@@ -31,7 +31,7 @@ abbrev pub all_paths : Ways → List Path
 all_paths w = flat_map (paths_from w) (range_with_len 0 (length w.sources.now))
 
 abbrev pub denied_paths : Ways → ℕ → List Path
-denied_paths w q = flat_map (λ p. paths_to w p (denies q)) (range_with_len 0 (length w.sources.now))
+denied_paths w q = flat_map (λ p. paths_to w p (violates q)) (range_with_len 0 (length w.sources.now))
 
 abbrev pub AllStay : Ways → List Path → Type 0
 AllStay w paths = (path : Path) → Contains paths path → Stays (sites_in w) (states_in w) path
@@ -84,7 +84,7 @@ SomePathStops w paths = (path : Path) × StopsIn (sites_in w) (states_in w) path
 -- which path strains
 abbrev pub IsAt : StrainedAt → Path → Type 0
 IsAt (Edge p q) path = (path.source ≡ p) × (path.goal ≡ comes_to q)
-IsAt (Assertion q) path = path.goal ≡ denies q
+IsAt (Assertion q) path = path.goal ≡ violates q
 
 abbrev pub SomeStops : Ways → List Path → StrainedAt → Type 0
 SomeStops w paths at = (path : Path) × IsAt at path × StopsIn (sites_in w) (states_in w) paths path

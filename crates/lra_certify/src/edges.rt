@@ -3,8 +3,8 @@
 ghost use Rattle.std.specs.Prelude.{◌≤◌, ◌<◌, ◌^◌, [], ◌∷◌, map, length, OnOk, IfErr, Some, string_bytes};
 ghost use Rattle.lra_systems.specs.LinearSystems.{constraints};
 ghost use Rattle.lra_paths.specs.Paths.{path_by};
-ghost use Rattle.lra_sides.specs.TableSides.{all_done, lists_done};
-ghost use Rattle.lra_ways.specs.Ways.{comes_to};
+ghost use Rattle.lra_path_disjuncts.specs.TableDisjuncts.{all_done, lists_done};
+ghost use Rattle.lra_path_segments.specs.Segments.{comes_to};
 ghost use Rattle.lra_lines.specs.TrackViews.{rows_of};
 ghost use Rattle.lra_verify.specs.EdgeViews.{AreWays};
 ghost use Rattle.lra_certify.specs.Staying.{StaysFrom};
@@ -17,9 +17,9 @@ use crate::failures::{CertifyFailure, PathFailure, StrainedAt};
 use crate::text::push_edge;
 use lra_domain::Change;
 use lra_lines::Track;
+use lra_path_segments::Goal;
 use lra_systems::ConSys;
 use lra_verify::Ways;
-use lra_ways::Goal;
 use std::alloc::Global;
 
 /// Appends what is said of a path from a source with these rows to a target.

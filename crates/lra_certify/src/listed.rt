@@ -3,8 +3,8 @@
 ghost use Rattle.std.specs.Prelude.{◌≤◌, ◌<◌, ◌^◌, ◌∷◌, [], length, OnOk, IfErr, string_bytes};
 ghost use Rattle.std.specs.List.{All};
 ghost use Rattle.lra_systems.specs.LinearSystems.{constraints};
-ghost use Rattle.lra_sides.specs.TableSides.{lists_done};
-ghost use Rattle.lra_ways.specs.Ways.{denies};
+ghost use Rattle.lra_path_disjuncts.specs.TableDisjuncts.{lists_done};
+ghost use Rattle.lra_path_segments.specs.Segments.{violates};
 ghost use Rattle.lra_verify.specs.EdgeViews.{AreWays};
 ghost use Rattle.lra_certify.specs.GroundViews.{IfStrained};
 ghost use Rattle.lra_certify.specs.WrittenPaths.{AllStay, AllDead, AddsPaths, AddsDead, AddsListed};
@@ -15,9 +15,9 @@ use crate::edges::push_path;
 use crate::failures::{CertifyFailure, PathFailure, StrainedAt};
 use crate::text::push_assertion;
 use lra_domain::Change;
+use lra_path_segments::Goal;
 use lra_systems::ConSys;
 use lra_verify::Ways;
-use lra_ways::Goal;
 use std::alloc::Global;
 
 /// Appends the lines of paths from a source with these rows along which nothing goes.
@@ -50,17 +50,17 @@ fn push_denials_from(
 ) -> Result<(), PathFailure>
     requires ways { AreWays ways.now }
     requires source { source ≤ length ways.now.sites.now }
-    requires stay { AllStay ways.now (paths_to ways.now source (denies point)) }
+    requires stay { AllStay ways.now (paths_to ways.now source (violates point)) }
     ensures adds { OnOk result (AddsPaths ways.now denial_lines
-        (paths_to ways.now source (denies point))
+        (paths_to ways.now source (violates point))
         (string_bytes text.old) (string_bytes text.new)) }
     ensures failure { IfErr result (IfStrained (SomePathStops ways.now
-        (paths_to ways.now source (denies point)))) }
+        (paths_to ways.now source (violates point)))) }
 {
     match ways.from(source) {
         None => Ok(()),
         Some(rows) => {
-            let paths = ways.sources[source].paths_to(alloc, Goal::Denies(point))?;
+            let paths = ways.sources[source].paths_to(alloc, Goal::Violates(point))?;
             push_dead_paths(text, alloc, rows, paths.as_slice())
         }
     }

@@ -9,7 +9,7 @@ ghost use Rattle.lra_certificate.specs.CertificateText.{text_line, numbers_text,
 ghost use Rattle.lra_certificate.specs.CertificateText.{state_text, states_text, relation_text, edge_text};
 ghost use Rattle.lra_certificate.specs.CertificateText.{assert_text, end_text};
 ghost use Rattle.lra_paths.specs.Paths.{path_by};
-ghost use Rattle.lra_ways.specs.Ways.{comes_to};
+ghost use Rattle.lra_path_segments.specs.Segments.{comes_to};
 ghost use Rattle.lra_lines.specs.TrackViews.{rows_of};
 ghost use Rattle.lra_certify.specs.Lines.{rows_text, ArePointRows, HasPointRows};
 ghost use Rattle.lra_verify.specs.PointViews.{state_view};

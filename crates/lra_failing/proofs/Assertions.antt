@@ -24,8 +24,10 @@ use Rattle.lra_operations.specs.Inlined.{as_nothing, as_block, as_absent, as_ass
 use Rattle.lra_operations.specs.Inlined.{as_break, as_continue, as_return, as_return_value, as_return_call, as_end, as_end_value, as_end_call, as_assert}
 use Rattle.lra_operations.specs.Inlined.{as_switch, as_no_cases, as_labelled, as_stated}
 use Rattle.lra_operations.specs.Inlined.{as_assume, as_none, as_declaration, as_array, as_statement, as_fresh, as_given, is_loop, as_value, as_result, is_call}
-use Rattle.lra_ways.specs.Ways.{Step, Suffix, Goal, comes_to, denies, Way, Segment, goes_in, led_way, then_way, tested_way, segment_by, into_body}
-use Rattle.lra_ways.specs.Ways.{out_of_body, segment_to, segments_by, then_ways, through, outs, enter, enter_arms, enter_labels, inside, inside_arms}
+use Rattle.lra_path_segments.specs.Segments.{SegmentStep, Suffix, Goal, comes_to, violates, GoalSegment, Segment, goes_in, prepend_step_to_goal, then_way}
+use Rattle.lra_path_segments.specs.Segments.{tested_way, segment_by, into_body}
+use Rattle.lra_path_segments.specs.Segments.{out_of_body, segment_to, segments_by, then_ways, through, exit_suffixes, enter, enter_arms, enter_labels, inside}
+use Rattle.lra_path_segments.specs.Segments.{inside_arms}
 use Rattle.lra_paths.specs.Paths.{same_goal}
 use Rattle.lra_back.specs.Traced.{denial, IsAssertion, AreAsserted}
 use Rattle.lra_failing.proofs.MadeLists.{all_flat, all_made}
@@ -45,11 +47,11 @@ asserts_there (Some s) = s.asserts
 module _ (T : List Site) (p : ℕ) where
   -- from p, to where the assertion there is false
   abbrev denying : Segment → Bool
-  denying segment = nat_eq segment.source p && same_goal segment.way.goal (denies p)
+  denying segment = nat_eq segment.source p && same_goal segment.to_goal.goal (violates p)
 
   -- these lead elsewhere
-  abbrev Passes : Way → Type 0
-  Passes way = same_goal way.goal (denies p) ≡ false
+  abbrev Passes : GoalSegment → Type 0
+  Passes way = same_goal way.goal (violates p) ≡ false
 
   abbrev Stays : Segment → Type 0
   Stays segment = denying segment ≡ false
@@ -111,16 +113,16 @@ module _ (T : List Site) (p : ℕ) where
   }
 
   -- ways that lead elsewhere, from any point
-  passing : (b : Bool) (goal : Goal) → same_goal goal (denies p) ≡ false → (b && same_goal goal (denies p)) ≡ false
+  passing : (b : Bool) (goal : Goal) → same_goal goal (violates p) ≡ false → (b && same_goal goal (violates p)) ≡ false
   passing b goal h = ap (λ d. b && d) h ∙ and-false b
 
-  by_passing : (xs : List Suffix) (ways : List Way) → All Passes ways → All Stays (segments_by xs ways)
-  by_passing xs ways h = all_flat Passes Stays (λ (way : Way). map (segment_by way) xs)
-      (λ (way : Way) k. all_made (Contains xs) Stays (segment_by way) (λ (x : Suffix) among. passing (nat_eq x.source p) way.goal k) xs
+  by_passing : (xs : List Suffix) (ways : List GoalSegment) → All Passes ways → All Stays (segments_by xs ways)
+  by_passing xs ways h = all_flat Passes Stays (λ (way : GoalSegment). map (segment_by way) xs)
+      (λ (way : GoalSegment) k. all_made (Contains xs) Stays (segment_by way) (λ (x : Suffix) among. passing (nat_eq x.source p) way.goal k) xs
       (All-contains_itself xs)) ways h
 
-  then_passing : (xs : List (List Step)) (ways : List Way) → All Passes ways → All Passes (then_ways xs ways)
-  then_passing xs ways h = all_flat Passes Passes (λ (way : Way). map (then_way way) xs) (λ (way : Way) k. all_made (Contains xs) Passes (then_way way) (λ x among. k) xs
+  then_passing : (xs : List (List SegmentStep)) (ways : List GoalSegment) → All Passes ways → All Passes (then_ways xs ways)
+  then_passing xs ways h = all_flat Passes Passes (λ (way : GoalSegment). map (then_way way) xs) (λ (way : GoalSegment) k. all_made (Contains xs) Passes (then_way way) (λ x among. k) xs
       (All-contains_itself xs)) ways h
 
   none_deny : (xs : List Segment) → All Stays xs → filter denying xs ≡ []
@@ -130,7 +132,7 @@ module _ (T : List Site) (p : ℕ) where
   found_behind : (xs ys : List Segment) → All Stays xs → filter denying (xs ++ ys) ≡ filter denying ys
   found_behind xs ys h = filter-append denying xs ys ∙ ap (λ us. us ++ filter denying ys) (none_deny xs h)
 
-  found_in_turn : (xs : List Segment) (between : List Suffix) (ways : List Way) (ys : List Segment) → All Passes ways
+  found_in_turn : (xs : List Segment) (between : List Suffix) (ways : List GoalSegment) (ys : List Segment) → All Passes ways
       → filter denying (xs ++ segments_by between ways ++ ys) ≡ filter denying xs ++ filter denying ys
   found_in_turn xs between ways ys h =
       filter-append denying (xs ++ segments_by between ways) ys
@@ -144,7 +146,7 @@ module _ (T : List Site) (p : ℕ) where
 
   record InArms (arms : Arms) (low high : ℕ) : Type 0 where
     passes : All Passes (enter_arms arms)
-    labels : (go : CaseLabel → Step) → All Passes (enter_labels go arms)
+    labels : (go : CaseLabel → SegmentStep) → All Passes (enter_labels go arms)
     denied : Denied (filter denying (inside_arms arms)) low high
 
   in_empty : (n : ℕ) → In empty n n
@@ -180,14 +182,14 @@ module _ (T : List Site) (p : ℕ) where
   in_seq {a} {b} {l} {m} {h} x y = record {
     passes = All-append Passes (enter a) (then_ways (through a normal) (enter b)) x.passes (then_passing (through a normal) (enter b) y.passes);
     denied = both (filter denying (inside a)) (filter denying (inside b)) _ l m h x.denied y.denied
-        (found_in_turn (inside a) (outs a normal) (enter b) (inside b) y.passes);
+        (found_in_turn (inside a) (exit_suffixes a normal) (enter b) (inside b) y.passes);
   }
 
   in_swapped : {a b : Node} {l m h : ℕ} → In b l m → In a m h → In (seq a b) l h
   in_swapped {a} {b} {l} {m} {h} y x = record {
     passes = All-append Passes (enter a) (then_ways (through a normal) (enter b)) x.passes (then_passing (through a normal) (enter b) y.passes);
     denied = swapped (filter denying (inside a)) (filter denying (inside b)) _ l m h y.denied x.denied
-        (found_in_turn (inside a) (outs a normal) (enter b) (inside b) y.passes);
+        (found_in_turn (inside a) (exit_suffixes a normal) (enter b) (inside b) y.passes);
   }
 
   in_choose : {q base : ℕ} {c : Cond} {a b : Node} {l m h : ℕ} → In a l m → In b m h → In (choose q base c a b) l h
@@ -210,19 +212,21 @@ module _ (T : List Site) (p : ℕ) where
       turning = map (λ ops. segment_to q (out_of_body q base c ops)) (through a normal)
 
       coming_back : List Segment
-      coming_back = map (segment_to q) (outs a normal)
+      coming_back = map (segment_to q) (exit_suffixes a normal)
 
       all_entering : All Stays entering
       all_entering = All-map Stays (into_body q base c) (enter a)
-          (All-weaker Passes (λ (way : Way). Stays (into_body q base c way)) (λ (way : Way) k. passing (nat_eq q p) way.goal k) (enter a) x.passes)
+          (All-weaker Passes (λ (way : GoalSegment). Stays (into_body q base c way)) (λ (way : GoalSegment) k. passing (nat_eq q p) way.goal k) (enter a)
+          x.passes)
 
       all_turning : All Stays turning
       all_turning = all_made (Contains (through a normal)) Stays (λ ops. segment_to q (out_of_body q base c ops)) (λ ops among. and-false (nat_eq q p))
           (through a normal) (All-contains_itself (through a normal))
 
       all_back : All Stays coming_back
-      all_back = all_made (Contains (outs a normal)) Stays (segment_to q) (λ (x : Suffix) among. and-false (nat_eq x.source p)) (outs a normal)
-          (All-contains_itself (outs a normal))
+      all_back = all_made (Contains (exit_suffixes a normal)) Stays (segment_to q) (λ (x : Suffix) among. and-false (nat_eq x.source p))
+          (exit_suffixes a normal)
+          (All-contains_itself (exit_suffixes a normal))
 
       elsewhere : All Stays ((entering ++ turning) ++ coming_back)
       elsewhere = All-append Stays (entering ++ turning) coming_back (All-append Stays entering turning all_entering all_turning) all_back
@@ -239,8 +243,8 @@ module _ (T : List Site) (p : ℕ) where
   in_entry : {label : CaseLabel} {arms : Arms} {l h : ℕ} → InArms arms l h → InArms (entry label arms) l h
   in_entry {label} {arms} {l} {h} x = record {
     passes = x.passes;
-    labels = λ go. All-append Passes (map (led_way (go label)) (enter_arms arms)) (enter_labels go arms)
-        (All-map Passes (led_way (go label)) (enter_arms arms) x.passes) (x.labels go);
+    labels = λ go. All-append Passes (map (prepend_step_to_goal (go label)) (enter_arms arms)) (enter_labels go arms)
+        (All-map Passes (prepend_step_to_goal (go label)) (enter_arms arms) x.passes) (x.labels go);
     denied = x.denied;
   }
 
@@ -249,7 +253,7 @@ module _ (T : List Site) (p : ℕ) where
     passes = All-append Passes (enter a) (then_ways (through a normal) (enter_arms arms)) x.passes (then_passing (through a normal) (enter_arms arms) y.passes);
     labels = y.labels;
     denied = both (filter denying (inside a)) (filter denying (inside_arms arms)) _ l m h x.denied y.denied
-        (found_in_turn (inside a) (outs a normal) (enter_arms arms) (inside_arms arms) y.passes);
+        (found_in_turn (inside a) (exit_suffixes a normal) (enter_arms arms) (inside_arms arms) y.passes);
   }
 
   -- its point comes before it

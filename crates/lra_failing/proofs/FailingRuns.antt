@@ -18,9 +18,9 @@ use Rattle.lra_operations.specs.Agree.{IsInlinedTree, point_of}
 use Rattle.lra_operations.specs.Tree.{Node}
 use Rattle.lra_inline_sound.proofs.Agreement.{trees_agree}
 use Rattle.lra_inline_sound.proofs.DistinctSites.{distinct_sites}
-use Rattle.lra_ways.specs.Ways.{comes_to}
+use Rattle.lra_path_segments.specs.Segments.{comes_to}
 use Rattle.lra_paths.specs.Covers.{PathsCover}
-use Rattle.lra_paths.specs.Paths.{leading}
+use Rattle.lra_paths.specs.Paths.{actions_between}
 use Rattle.lra_paths.proofs.LawsOfPaths.{all_paths_cover}
 use Rattle.lra_back.specs.Operations.{dropping}
 use Rattle.lra_back.specs.Traced.{AreWide, Backs, FailsFrom, NothingLeftAtStart, PathsFit}
@@ -44,7 +44,7 @@ module _ (P : Program) (g : Node) (well : IsWellFormed P) (is : IsInlinedTree P 
     (assertion : slice_get (sites_of P) p ≡ Some asserts)
     -- held is what a path leads from, and where the assertion fails
     (before : (c : Config) (q r : ℕ) (s t : Site) (behind : List ℤ) → slice_get (sites_of P) q ≡ Some s → slice_get (sites_of P) r ≡ Some t → Reaches P c
-    → IsOn c (point_of s) → SomeLeads (leading P g (suc q) (comes_to r)) c.state.store behind → held r behind → held q c.state.store)
+    → IsOn c (point_of s) → SomeLeads (actions_between P g (suc q) (comes_to r)) c.state.store behind → held r behind → held q c.state.store)
     (denied : (c : Config) → Reaches P c → IsOn c (point_of asserts) → IsFailing c.items c.here c.state → held p c.state.store) where
   cover : PathsCover P g
   cover = all_paths_cover P g well is
@@ -161,7 +161,7 @@ module _ (P : Program) (g : Node) (well : IsWellFormed P) (is : IsInlinedTree P 
     pub there : Config
     pub reached : Reaches P there
     pub on : IsOn there (point_of site)
-    pub leads : SomeLeads (leading P g 0 (comes_to number)) [] there.state.store
+    pub leads : SomeLeads (actions_between P g 0 (comes_to number)) [] there.state.store
     pub holds : held number there.state.store
 
   pub first_held : Fails P (point_of asserts) → FirstHeld
@@ -189,7 +189,7 @@ module _ {V H : Type 0} (m : Abstraction V H) (b : BackwardAbstraction V) (laws 
   Held q s = IsHeld m b laws P.globals (sites_of P) g forward f p values flag z q s
 
   before_held : (c : Config) (q r : ℕ) (s t : Site) (behind : List ℤ) → slice_get (sites_of P) q ≡ Some s → slice_get (sites_of P) r ≡ Some t → Reaches P c
-      → IsOn c (point_of s) → SomeLeads (leading P g (suc q) (comes_to r)) c.state.store behind → Held r behind → Held q c.state.store
+      → IsOn c (point_of s) → SomeLeads (actions_between P g (suc q) (comes_to r)) c.state.store behind → Held r behind → Held q c.state.store
   before_held c q r s t behind at there run on led own =
       let (x, value, has) = holds q s c.state.store at (c, run, on, refl) in
       held_before m b laws P.globals (sites_of P) g forward f p values flag z wide fit q r s t x c.state.store behind at there value has led own
@@ -199,7 +199,7 @@ module _ {V H : Type 0} (m : Abstraction V H) (b : BackwardAbstraction V) (laws 
   denied_held s at c run on fails =
       let (x, value, has) = holds p s c.state.store at (c, run, on, refl) in
       held_denied m b laws P.globals (sites_of P) g forward f p values flag z wide s x c.state.store c.state.store at value has
-      ((all_paths_cover P g well is).denied c p s at run on fails)
+      ((all_paths_cover P g well is).violated c p s at run on fails)
 
   found_at : (q : ℕ) (s : Site) (c : Config) → slice_get (sites_of P) q ≡ Some s → Reaches P c → IsOn c (point_of s) → Held q c.state.store
       → (v : V) × (slice_get values q ≡ Some v) × InGamma m v c.state.store
@@ -214,7 +214,7 @@ module _ {V H : Type 0} (m : Abstraction V H) (b : BackwardAbstraction V) (laws 
       subst (λ (t : List ℤ). (v : V) × (slice_get values q ≡ Some v) × InGamma m v t) fails.store_is
       (found_at q r fails.there there fails.reached fails.on (subst (λ t. Held q t) (sym fails.store_is) own))
 
-  nothing_leads : (q : ℕ) (s t : List ℤ) → SomeLeads (leading P g 0 (comes_to q)) s t → leading P g 0 (comes_to q) ≢ []
+  nothing_leads : (q : ℕ) (s t : List ℤ) → SomeLeads (actions_between P g 0 (comes_to q)) s t → actions_between P g 0 (comes_to q) ≢ []
   nothing_leads q s t led none = subst (λ paths. SomeLeads paths s t) none led
 
   never_fails : (s : Site) → slice_get (sites_of P) p ≡ Some s → NothingLeftAtStart m P.globals (sites_of P) g values → Fails P (point_of s) → ⊥

@@ -15,17 +15,17 @@ use Rattle.lra_operations.specs.Inlined.{as_break, as_continue, as_return, as_re
 use Rattle.lra_operations.specs.Inlined.{as_assume, as_switch, as_none, as_declaration, as_array, as_statement, is_loop}
 use Rattle.lra_analysis_spec.specs.Analysis.{IsUnreachable}
 use Rattle.lra_analysis_spec.specs.MovesOf.{first_values}
-use Rattle.lra_ways.specs.Ways.{Step, comes_to, Way, each_then, then_way, then_ways, through, enter}
-use Rattle.lra_ways.proofs.FlatSteps.{flat_none}
-use Rattle.lra_sides.specs.Sides.{sides}
-use Rattle.lra_sides.proofs.SideLists.{sides_some}
-use Rattle.lra_paths.specs.Paths.{same_goal, started, leading}
+use Rattle.lra_path_segments.specs.Segments.{SegmentStep, comes_to, GoalSegment, each_then, then_way, then_ways, through, enter}
+use Rattle.lra_path_segments.proofs.FlatSteps.{flat_none}
+use Rattle.lra_path_disjuncts.specs.Disjuncts.{disjuncts}
+use Rattle.lra_path_disjuncts.proofs.SideLists.{sides_some}
+use Rattle.lra_paths.specs.Paths.{same_goal, started, actions_between}
 use Rattle.lra_failing.specs.Fitting.{IsFirst, OnePointIsFirst, NothingLeftAtFirst}
 
 -- beginnings of trees ----------------------------------------------------------------------------------------------------
 
 -- with nothing done
-abbrev way_to : ℕ → Way
+abbrev way_to : ℕ → GoalSegment
 way_to q = record { ops = []; goal = comes_to q }
 
 -- the tree comes to no point, and does nothing
@@ -38,11 +38,11 @@ record StopsAt (g : Node) (q : ℕ) : Type 0 where
   enters : enter g ≡ way_to q ∷ []
   ends : through g normal ≡ []
 
-none_then : (ways : List Way) → then_ways [] ways ≡ []
-none_then ways = flat_none (λ (way : Way). map (then_way way) []) (λ way. refl) ways
+none_then : (ways : List GoalSegment) → then_ways [] ways ≡ []
+none_then ways = flat_none (λ (way : GoalSegment). map (then_way way) []) (λ way. refl) ways
 
-none_through : (ys : List (List Step)) → each_then [] ys ≡ []
-none_through ys = flat_none (λ (y : List Step). map (λ x. x ++ y) []) (λ y. refl) ys
+none_through : (ys : List (List SegmentStep)) → each_then [] ys ≡ []
+none_through ys = flat_none (λ (y : List SegmentStep). map (λ x. x ++ y) []) (λ y. refl) ys
 
 idle_both : (a b : Node) → IsIdle a → IsIdle b → IsIdle (seq a b)
 idle_both a b x y = record {
@@ -135,19 +135,20 @@ some_made f [] h e = absurd (omega (arith, h))
 some_made f (x ∷ xs) h e = absurd (let no : f x ∷ ((map f xs ++ []) ++ []) ≡ [] = e in cc)
 
 module _ (P : Program) (g : Node) (q : ℕ) (stops : StopsAt g q) where
-  abbrev Started : Bool → List Way
+  abbrev Started : Bool → List GoalSegment
   Started b = cond b (way_to q ∷ []) []
 
-  lead_so : (r : ℕ) (b : Bool) → nat_eq q r ≡ b → leading P g 0 (comes_to r) ≡ flat_map (λ (way : Way). started P.globals way.ops) (Started b)
+  lead_so : (r : ℕ) (b : Bool) → nat_eq q r ≡ b → actions_between P g 0 (comes_to r) ≡ flat_map (λ (way : GoalSegment). started P.globals way.ops) (Started b)
   lead_so r b e =
-      ap (λ ways. flat_map (λ (way : Way). started P.globals way.ops) (filter (λ (way : Way). same_goal way.goal (comes_to r)) ways)) stops.enters
-      ∙ ap (λ c. flat_map (λ (way : Way). started P.globals way.ops) (Started c)) e
+      ap (λ ways. flat_map (λ (way : GoalSegment). started P.globals way.ops) (filter (λ (way : GoalSegment). same_goal way.goal (comes_to r)) ways))
+      stops.enters
+      ∙ ap (λ c. flat_map (λ (way : GoalSegment). started P.globals way.ops) (Started c)) e
 
-  lead_there : leading P g 0 (comes_to q) ≢ []
-  lead_there none = some_made (λ x. x ++ []) (sides (first_values 0 P.globals)) (sides_some (first_values 0 P.globals))
+  lead_there : actions_between P g 0 (comes_to q) ≢ []
+  lead_there none = some_made (λ x. x ++ []) (disjuncts (first_values 0 P.globals)) (sides_some (first_values 0 P.globals))
       (sym (lead_so q true (eq-eqb q q refl)) ∙ none)
 
-  lead_nowhere_else : (r : ℕ) (b : Bool) → nat_eq q r ≡ b → leading P g 0 (comes_to r) ≢ [] → r ≡ q
+  lead_nowhere_else : (r : ℕ) (b : Bool) → nat_eq q r ≡ b → actions_between P g 0 (comes_to r) ≢ [] → r ≡ q
   lead_nowhere_else r true e some = sym (eqb-true q r e)
   lead_nowhere_else r false e some = absurd (some (lead_so r false e))
 

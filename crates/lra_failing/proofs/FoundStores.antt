@@ -23,10 +23,10 @@ use Rattle.lra_analysis_spec.specs.MovesOf.{guard}
 use Rattle.lra_analysis_spec.specs.Pass.{noted}
 use Rattle.lra_analysis_spec.proofs.Covers.{stays_has}
 use Rattle.lra_analysis_spec.proofs.Keeps.{moves_keep}
-use Rattle.lra_ways.specs.Ways.{Segment, comes_to, denies, does}
-use Rattle.lra_sides.specs.Sides.{sides, written}
-use Rattle.lra_sides.proofs.SideSteps.{leads_then, sides_lead}
-use Rattle.lra_paths.specs.Paths.{leading_in, live_of}
+use Rattle.lra_path_segments.specs.Segments.{Segment, comes_to, violates, does}
+use Rattle.lra_path_disjuncts.specs.Disjuncts.{disjuncts, written}
+use Rattle.lra_path_disjuncts.proofs.SideSteps.{leads_then, disjuncts_lead}
+use Rattle.lra_paths.specs.Paths.{actions_between_in, live_of}
 use Rattle.lra_back.specs.Operations.{dropping}
 use Rattle.lra_back.specs.Rounds.{AreMet, Task, seed_at}
 use Rattle.lra_back.specs.Traced.{AreWide, Backs, PathsFit, task_of}
@@ -43,10 +43,10 @@ path_that_leads (path ∷ paths) s t led = elim led [
 
 -- a path to where the condition is false is one of the condition's sides
 denial_leads : (live base : ℕ) (c : Cond) (s t : List ℤ) → SomeLeads (written live (does (test base c false) ∷ [])) s t
-    → SomeLeads (sides (guard live base false c)) s t
+    → SomeLeads (disjuncts (guard live base false c)) s t
 denial_leads live base c s t led =
-    let (u, leads, ends) = leads_then s t (sides (guard live base false c)) ([] ∷ []) led in
-    elim ends [ inl same ↦ subst (λ v. SomeLeads (sides (guard live base false c)) s v) (sym same) leads | inr none ↦ absurd none ]
+    let (u, leads, ends) = leads_then s t (disjuncts (guard live base false c)) ([] ∷ []) led in
+    elim ends [ inl same ↦ subst (λ v. SomeLeads (disjuncts (guard live base false c)) s v) (sym same) leads | inr none ↦ absurd none ]
 
 module _ {V H : Type 0} (m : Abstraction V H) (b : BackwardAbstraction V) (laws : Laws m) where
   -- values ---------------------------------------------------------------------------------------------------------------
@@ -97,11 +97,12 @@ module _ {V H : Type 0} (m : Abstraction V H) (b : BackwardAbstraction V) (laws 
 
     -- from which a path leads to a store of a head
     pub held_before : AreWide m sites forward → PathsFit globals sites g → (q r : ℕ) (at behind : Site) (x : V) (s t : List ℤ) → slice_get sites q ≡ Some at
-        → slice_get sites r ≡ Some behind → slice_get forward q ≡ Some x → InGamma m x s → SomeLeads (leading_in globals sites g (suc q) (comes_to r)) s t
+        → slice_get sites r ≡ Some behind → slice_get forward q ≡ Some x → InGamma m x s →
+        SomeLeads (actions_between_in globals sites g (suc q) (comes_to r)) s t
         → IsHeld r t
         → IsHeld q s
     held_before wide fit q r at behind x s t here there value own led (h, place, held) =
-        let (path, among, leads) = path_that_leads (leading_in globals sites g (suc q) (comes_to r)) s t led in
+        let (path, among, leads) = path_that_leads (actions_between_in globals sites g (suc q) (comes_to r)) s t led in
         let long : at.live ≡ length s = sym (laws.sized x s own.0 own.1 ∙ (wide.1 q at x here value).0) in
         let made : AllCanBeMade path (length s) = subst (λ n. AllCanBeMade path n) long (fit q r at behind path here there among).0 in
         let turn = last_heads.stable q (slice_get_within forward q x value) in
@@ -117,10 +118,11 @@ module _ {V H : Type 0} (m : Abstraction V H) (b : BackwardAbstraction V) (laws 
 
     -- from which a path leads to where the assertion is false
     pub held_denied : AreWide m sites forward → (at : Site) (x : V) (s t : List ℤ) → slice_get sites p ≡ Some at → slice_get forward p ≡ Some x → InGamma m x s
-        → SomeLeads (leading_in globals sites g (suc p) (denies p)) s t → IsHeld p t
+        → SomeLeads (actions_between_in globals sites g (suc p) (violates p)) s t → IsHeld p t
     held_denied wide at x s t here value own led =
         let one : SomeLeads (written (live_of (slice_get sites p)) (does (test z.base z.condition false) ∷ []) ++ []) s t =
-        subst (λ (segments : List Segment). SomeLeads (flat_map (λ (segment : Segment). written (live_of (slice_get sites p)) segment.way.ops) segments) s t)
+        subst (λ (segments : List Segment). SomeLeads (flat_map (λ (segment : Segment). written (live_of (slice_get sites p)) segment.to_goal.ops) segments) s
+        t)
         z.asserted led in
         let leads = denial_leads (live_of (slice_get sites p)) z.base z.condition s t
         (subst (λ paths. SomeLeads paths s t) (append-nil (written (live_of (slice_get sites p)) (does (test z.base z.condition false) ∷ []))) one) in
@@ -129,8 +131,8 @@ module _ {V H : Type 0} (m : Abstraction V H) (b : BackwardAbstraction V) (laws 
         let there : InGamma m z.at_assertion s = subst (λ y. InGamma m y s) same own in
         let live : live_of (slice_get sites p) ≡ m.dims z.at_assertion = few ∙ ap m.dims same in
         held_seed t (moves_keep V H m laws (guard (m.dims z.at_assertion) z.base false z.condition) z.at_assertion z.exactness z.seed z.denied s t there
-        ((sides_lead (guard (m.dims z.at_assertion) z.base false z.condition) s t).1
-        (subst (λ n. SomeLeads (sides (guard n z.base false z.condition)) s t) live leads)))
+        ((disjuncts_lead (guard (m.dims z.at_assertion) z.base false z.condition) s t).1
+        (subst (λ n. SomeLeads (disjuncts (guard n z.base false z.condition)) s t) live leads)))
 
     -- the value that is found has each store of the head that the forward value has
     pub found_has : (q : ℕ) (x : V) (s : List ℤ) → slice_get forward q ≡ Some x → InGamma m x s → IsHeld q s →

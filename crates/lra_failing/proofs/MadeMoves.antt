@@ -43,9 +43,9 @@ use Rattle.lra_analysis_spec.proofs.FormLemmas.{set_length}
 use Rattle.lra_linearize.proofs.GuardThresholdSteps.{test_wide}
 use Rattle.lra_transfer.specs.Changes.{Stays, CellFits, PlaceFits, OpFitsDims}
 use Rattle.lra_transfer.proofs.ChangeSteps.{assign_stays, first_made, second_made}
-use Rattle.lra_ways.specs.Ways.{Step, does, goes}
-use Rattle.lra_sides.specs.Sides.{sides, written}
-use Rattle.lra_sides.specs.StepMoves.{unmatched_moves, label_moves, step_moves, dims_behind_step}
+use Rattle.lra_path_segments.specs.Segments.{SegmentStep, does, goes}
+use Rattle.lra_path_disjuncts.specs.Disjuncts.{disjuncts, written}
+use Rattle.lra_path_disjuncts.specs.StepMoves.{unmatched_moves, label_moves, step_moves, dims_after_step}
 use Rattle.lra_failing.proofs.MadeLists.{all_one, all_pairs}
 
 -- lists of actions -----------------------------------------------------------------------------------------------------
@@ -64,7 +64,7 @@ lead_then (s ∷ i) j n k m one two =
 
 -- each side does
 abbrev pub SidesLeadOn : Moves → ℕ → ℕ → Type 0
-SidesLeadOn p n m = All (LeadOn n m) (sides p)
+SidesLeadOn p n m = All (LeadOn n m) (disjuncts p)
 
 stay_leads : (n m : ℕ) → n ≡ m → SidesLeadOn stay n m
 stay_leads n m e = all_one (LeadOn n m) [] (tt, e)
@@ -74,10 +74,10 @@ make_leads s n m can e = all_one (LeadOn n m) (s ∷ []) ((can, tt), e)
 
 then_leads : (p q : Moves) (n k m : ℕ) → SidesLeadOn p n k → SidesLeadOn q k m → SidesLeadOn (first_then p q) n m
 then_leads p q n k m one two =
-    all_pairs (LeadOn n k) (LeadOn k m) (LeadOn n m) (λ y x. x ++ y) (λ x y i j. lead_then x y n k m i j) (sides p) (sides q) one two
+    all_pairs (LeadOn n k) (LeadOn k m) (LeadOn n m) (λ y x. x ++ y) (λ x y i j. lead_then x y n k m i j) (disjuncts p) (disjuncts q) one two
 
 join_leads : (p q : Moves) (n m : ℕ) → SidesLeadOn p n m → SidesLeadOn q n m → SidesLeadOn (join_of p q) n m
-join_leads p q n m one two = All-append (LeadOn n m) (sides p) (sides q) one two
+join_leads p q n m one two = All-append (LeadOn n m) (disjuncts p) (disjuncts q) one two
 
 turn_leads : (steps : List Action) (n m : ℕ) → LeadOn n m steps → SidesLeadOn (in_turn steps) n m
 turn_leads [] n m h = stay_leads n m h.1
@@ -230,26 +230,26 @@ op_leads (step.test base c wanted) n few fits = guard_leads n few base wanted c
 -- what is done on a way ------------------------------------------------------------------------------------------------
 
 -- it can be done where n variables live
-abbrev pub StepFits : ℕ → Step → Type 0
+abbrev pub StepFits : ℕ → SegmentStep → Type 0
 StepFits n (does op) = OpFitsDims op n
 StepFits n (goes base e labels l) = ⊤
 
-step_leads : (s : Step) (n : ℕ) → n ≤ most_live → StepFits n s → SidesLeadOn (step_moves n s) n (dims_behind_step s n)
+step_leads : (s : SegmentStep) (n : ℕ) → n ≤ most_live → StepFits n s → SidesLeadOn (step_moves n s) n (dims_after_step s n)
 step_leads (does op) n few fits = op_leads op n few fits
 step_leads (goes base e labels l) n few fits = label_leads n few (linearized n base e) labels l (seen_fits n base e)
 
 -- all of it can be done where n variables live, and leaves m
-abbrev pub StepsFit : ℕ → ℕ → List Step → Type 0
+abbrev pub StepsFit : ℕ → ℕ → List SegmentStep → Type 0
 StepsFit n m [] = n ≡ m
-StepsFit n m (s ∷ ops) = StepFits n s × (n ≤ most_live) × StepsFit (dims_behind_step s n) m ops
+StepsFit n m (s ∷ ops) = StepFits n s × (n ≤ most_live) × StepsFit (dims_after_step s n) m ops
 
-pub steps_then : (i j : List Step) (n k m : ℕ) → StepsFit n k i → StepsFit k m j → StepsFit n m (i ++ j)
+pub steps_then : (i j : List SegmentStep) (n k m : ℕ) → StepsFit n k i → StepsFit k m j → StepsFit n m (i ++ j)
 steps_then [] j n k m one two = subst (λ z. StepsFit z m j) (sym one) two
-steps_then (s ∷ i) j n k m one two = (one.0, one.1, steps_then i j (dims_behind_step s n) k m one.2 two)
+steps_then (s ∷ i) j n k m one two = (one.0, one.1, steps_then i j (dims_after_step s n) k m one.2 two)
 
-pub written_lead : (ops : List Step) (n m : ℕ) → StepsFit n m ops → All (LeadOn n m) (written n ops)
+pub written_lead : (ops : List SegmentStep) (n m : ℕ) → StepsFit n m ops → All (LeadOn n m) (written n ops)
 written_lead [] n m e = all_one (LeadOn n m) [] (tt, e)
 written_lead (s ∷ ops) n m fits =
-    let k = dims_behind_step s n in
-    all_pairs (LeadOn n k) (LeadOn k m) (LeadOn n m) (λ y x. x ++ y) (λ x y i j. lead_then x y n k m i j) (sides (step_moves n s)) (written k ops)
+    let k = dims_after_step s n in
+    all_pairs (LeadOn n k) (LeadOn k m) (LeadOn n m) (λ y x. x ++ y) (λ x y i j. lead_then x y n k m i j) (disjuncts (step_moves n s)) (written k ops)
     (step_leads s n fits.1 fits.0) (written_lead ops k m fits.2)

@@ -20,10 +20,12 @@ use Rattle.lra_analysis_spec.specs.LiveLimit.{most_live}
 use Rattle.lra_transfer.specs.Changes.{OpFitsDims}
 use Rattle.lra_pass_results.specs.Dimensions.{JumpsWith, ArmsJumpWith, TreeFits, ArmsFit}
 use Rattle.lra_fixpoint.specs.Lives.{LiveAt, PointsHave, ArmsHave}
-use Rattle.lra_ways.specs.Ways.{Step, does, goes, Goal, comes_to, denies, Way, Segment, Suffix, same_exit, each_then, then_way, then_ways, then_out, then_outs}
-use Rattle.lra_ways.specs.Ways.{segment_by, segments_by, led, led_way, tested, tested_way, into_body, out_of_body, segment_to, past_labels}
-use Rattle.lra_ways.specs.Ways.{through, through_arms, through_labels, enter, enter_arms, enter_labels, outs, inside}
-use Rattle.lra_ways.proofs.LabelLaws.{through_row, enter_row, outs_row, inside_row}
+use Rattle.lra_path_segments.specs.Segments.{SegmentStep, does, goes, Goal, comes_to, violates, GoalSegment, Segment, Suffix, same_exit, each_then, then_way}
+use Rattle.lra_path_segments.specs.Segments.{then_ways, then_out, then_outs}
+use Rattle.lra_path_segments.specs.Segments.{segment_by, segments_by, prepend_step, prepend_step_to_goal, with_test, tested_way, into_body, out_of_body}
+use Rattle.lra_path_segments.specs.Segments.{segment_to, past_labels}
+use Rattle.lra_path_segments.specs.Segments.{through, through_arms, through_labels, enter, enter_arms, enter_labels, exit_suffixes, inside}
+use Rattle.lra_path_segments.proofs.LabelLaws.{through_row, enter_row, outs_row, inside_row}
 use Rattle.lra_failing.proofs.MadeLists.{all_made, all_one, all_pairs, all_if}
 use Rattle.lra_failing.proofs.MadeMoves.{StepsFit, steps_then}
 
@@ -52,16 +54,16 @@ exits_same returned returned e = refl
 
 module _ (T : List Site) where
   -- where n live, it leads to the goal with as many as live there
-  abbrev pub GoalFits : ℕ → Goal → List Step → Type 0
+  abbrev pub GoalFits : ℕ → Goal → List SegmentStep → Type 0
   GoalFits n (comes_to q) ops = (r : Site) → slice_get T q ≡ Some r → StepsFit n r.live ops
-  GoalFits n (denies q) ops = Unit {0}
+  GoalFits n (violates q) ops = Unit {0}
 
-  abbrev pub WayFits : ℕ → Way → Type 0
+  abbrev pub WayFits : ℕ → GoalSegment → Type 0
   WayFits n way = GoalFits n way.goal way.ops
 
   -- from the point of this number
   abbrev pub SegmentFits : Segment → Type 0
-  SegmentFits x = (s : Site) → slice_get T x.source ≡ Some s → WayFits s.live x.way
+  SegmentFits x = (s : Site) → slice_get T x.source ≡ Some s → WayFits s.live x.to_goal
 
   -- from this point to where m live
   abbrev pub OutFits : ℕ → Suffix → Type 0
@@ -72,7 +74,7 @@ module _ (T : List Site) where
   LeavesWith g n normal m = live_after g n ≡ m
   LeavesWith g n (jump k) m = JumpsWith g n k m
 
-  abbrev pub PassFits : Node → ℕ → Completion → List Step → Type 0
+  abbrev pub PassFits : Node → ℕ → Completion → List SegmentStep → Type 0
   PassFits g n h ops = (m : ℕ) × LeavesWith g n h m × StepsFit n m ops
 
   abbrev pub LeftFits : Node → ℕ → Completion → Suffix → Type 0
@@ -82,27 +84,27 @@ module _ (T : List Site) where
   pub record WaysFit (g : Node) (n : ℕ) : Type 0 where
     pub passes : (h : Completion) → All (PassFits g n h) (through g h)
     pub enters : All (WayFits n) (enter g)
-    pub leaves : (h : Completion) → All (LeftFits g n h) (outs g h)
+    pub leaves : (h : Completion) → All (LeftFits g n h) (exit_suffixes g h)
     pub goes_on : All SegmentFits (inside g)
 
   -- steps --------------------------------------------------------------------------------------------------------------
 
   -- whatever leads on to the goal
-  goal_more : (goal : Goal) (k n : ℕ) (ops more : List Step) → ((m : ℕ) → StepsFit n m ops → StepsFit k m more) → GoalFits n goal ops
+  goal_more : (goal : Goal) (k n : ℕ) (ops more : List SegmentStep) → ((m : ℕ) → StepsFit n m ops → StepsFit k m more) → GoalFits n goal ops
       → GoalFits k goal more
   goal_more (comes_to q) k n ops more h fits = λ r is. h r.live (fits r is)
-  goal_more (denies q) k n ops more h fits = tt
+  goal_more (violates q) k n ops more h fits = tt
 
-  way_then : (k n : ℕ) (x : List Step) (way : Way) → StepsFit k n x → WayFits n way → WayFits k (then_way way x)
+  way_then : (k n : ℕ) (x : List SegmentStep) (way : GoalSegment) → StepsFit k n x → WayFits n way → WayFits k (then_way way x)
   way_then k n x way one two = goal_more way.goal k n way.ops (x ++ way.ops) (λ m h. steps_then x way.ops k n m one h) two
 
-  segment_then : (n : ℕ) (x : Suffix) (way : Way) → OutFits n x → WayFits n way → SegmentFits (segment_by way x)
+  segment_then : (n : ℕ) (x : Suffix) (way : GoalSegment) → OutFits n x → WayFits n way → SegmentFits (segment_by way x)
   segment_then n x way one two = λ s is. way_then s.live n x.ops way (one s is) two
 
-  out_then : (n m : ℕ) (x : Suffix) (y : List Step) → OutFits n x → StepsFit n m y → OutFits m (then_out y x)
+  out_then : (n m : ℕ) (x : Suffix) (y : List SegmentStep) → OutFits n x → StepsFit n m y → OutFits m (then_out y x)
   out_then n m x y one two = λ s is. steps_then x.ops y s.live n m (one s is) two
 
-  pass_normal : (g : Node) (n : ℕ) (ops : List Step) → PassFits g n normal ops → StepsFit n (live_after g n) ops
+  pass_normal : (g : Node) (n : ℕ) (ops : List SegmentStep) → PassFits g n normal ops → StepsFit n (live_after g n) ops
   pass_normal g n ops h = subst (λ m. StepsFit n m ops) (sym h.1) h.2
 
   left_normal : (g : Node) (n : ℕ) (x : Suffix) → LeftFits g n normal x → OutFits (live_after g n) x
@@ -141,7 +143,7 @@ module _ (T : List Site) where
     goes_on = All-nil SegmentFits;
   }
     where
-      leaves : (h : Completion) → All (LeftFits (point q) n h) (outs (point q) h)
+      leaves : (h : Completion) → All (LeftFits (point q) n h) (exit_suffixes (point q) h)
       leaves normal = all_one (LeftFits (point q) n normal) (record { source = q; ops = [] }) (n, refl, λ s is. sym (here s is))
       leaves (jump j) = All-nil (LeftFits (point q) n (jump j))
 
@@ -160,7 +162,7 @@ module _ (T : List Site) where
   fit_check : (q base : ℕ) (c : Cond) (n : ℕ) → n ≤ most_live → WaysFit (check q base c) n
   fit_check q base c n few = record {
     passes = passes;
-    enters = all_one (WayFits n) (record { ops = does (test base c false) ∷ []; goal = denies q }) tt;
+    enters = all_one (WayFits n) (record { ops = does (test base c false) ∷ []; goal = violates q }) tt;
     leaves = λ h. All-nil (LeftFits (check q base c) n h);
     goes_on = All-nil SegmentFits;
   }
@@ -202,26 +204,29 @@ module _ (T : List Site) where
         (All-weaker (PassFits a n (jump j)) (PassFits (seq a b) n (jump j)) (λ ops h. (h.0, inl h.1, h.2)) (through a (jump j)) (x.passes (jump j)))
         (seq_passes (jump j))
 
-    outs_then : (h : Completion) → All (LeftFits (seq a b) n h) (then_outs (outs a normal) (through b h))
+    outs_then : (h : Completion) → All (LeftFits (seq a b) n h) (then_outs (exit_suffixes a normal) (through b h))
     outs_then normal = all_pairs (LeftFits a n normal) (PassFits b between normal) (LeftFits (seq a b) n normal) then_out
-        (λ i k one two. (two.0, two.1, out_then between two.0 i k (left_normal a n i one) two.2)) (outs a normal) (through b normal) (x.leaves normal)
+        (λ i k one two. (two.0, two.1, out_then between two.0 i k (left_normal a n i one) two.2)) (exit_suffixes a normal) (through b normal) (x.leaves normal)
         (y.passes normal)
     outs_then (jump j) = all_pairs (LeftFits a n normal) (PassFits b between (jump j)) (LeftFits (seq a b) n (jump j)) then_out
-        (λ i k one two. (two.0, inr two.1, out_then between two.0 i k (left_normal a n i one) two.2)) (outs a normal) (through b (jump j)) (x.leaves normal)
+        (λ i k one two. (two.0, inr two.1, out_then between two.0 i k (left_normal a n i one) two.2)) (exit_suffixes a normal) (through b (jump j))
+        (x.leaves normal)
         (y.passes (jump j))
 
-    outs_later : (h : Completion) → All (LeftFits (seq a b) n h) (outs b h)
-    outs_later normal = All-weaker (LeftFits b between normal) (LeftFits (seq a b) n normal) (λ i h. (h.0, h.1, h.2)) (outs b normal) (y.leaves normal)
+    outs_later : (h : Completion) → All (LeftFits (seq a b) n h) (exit_suffixes b h)
+    outs_later normal = All-weaker (LeftFits b between normal) (LeftFits (seq a b) n normal) (λ i h. (h.0, h.1, h.2)) (exit_suffixes b normal) (y.leaves normal)
     outs_later (jump j) =
-        All-weaker (LeftFits b between (jump j)) (LeftFits (seq a b) n (jump j)) (λ i h. (h.0, inr h.1, h.2)) (outs b (jump j)) (y.leaves (jump j))
+        All-weaker (LeftFits b between (jump j)) (LeftFits (seq a b) n (jump j)) (λ i h. (h.0, inr h.1, h.2)) (exit_suffixes b (jump j)) (y.leaves (jump j))
 
-    leaves_both : (h : Completion) → All (LeftFits (seq a b) n h) (outs (seq a b) h)
-    leaves_both normal = All-append (LeftFits (seq a b) n normal) (then_outs (outs a normal) (through b normal)) (outs b normal) (outs_then normal)
+    leaves_both : (h : Completion) → All (LeftFits (seq a b) n h) (exit_suffixes (seq a b) h)
+    leaves_both normal = All-append (LeftFits (seq a b) n normal) (then_outs (exit_suffixes a normal) (through b normal)) (exit_suffixes b normal)
+        (outs_then normal)
         (outs_later normal)
     leaves_both (jump j) =
-        All-append (LeftFits (seq a b) n (jump j)) (outs a (jump j) ++ then_outs (outs a normal) (through b (jump j))) (outs b (jump j))
-        (All-append (LeftFits (seq a b) n (jump j)) (outs a (jump j)) (then_outs (outs a normal) (through b (jump j)))
-        (All-weaker (LeftFits a n (jump j)) (LeftFits (seq a b) n (jump j)) (λ i h. (h.0, inl h.1, h.2)) (outs a (jump j)) (x.leaves (jump j)))
+        All-append (LeftFits (seq a b) n (jump j)) (exit_suffixes a (jump j) ++ then_outs (exit_suffixes a normal) (through b (jump j)))
+        (exit_suffixes b (jump j))
+        (All-append (LeftFits (seq a b) n (jump j)) (exit_suffixes a (jump j)) (then_outs (exit_suffixes a normal) (through b (jump j)))
+        (All-weaker (LeftFits a n (jump j)) (LeftFits (seq a b) n (jump j)) (λ i h. (h.0, inl h.1, h.2)) (exit_suffixes a (jump j)) (x.leaves (jump j)))
         (outs_then (jump j))) (outs_later (jump j))
 
     fit_seq : WaysFit (seq a b) n
@@ -231,18 +236,18 @@ module _ (T : List Site) where
           (all_pairs (PassFits a n normal) (WayFits between) (WayFits n) then_way
           (λ i way one two. way_then n between i way (pass_normal a n i one) two) (through a normal) (enter b) (x.passes normal) y.enters);
       leaves = leaves_both;
-      goes_on = All-append SegmentFits (inside a ++ segments_by (outs a normal) (enter b)) (inside b)
-          (All-append SegmentFits (inside a) (segments_by (outs a normal) (enter b)) x.goes_on
+      goes_on = All-append SegmentFits (inside a ++ segments_by (exit_suffixes a normal) (enter b)) (inside b)
+          (All-append SegmentFits (inside a) (segments_by (exit_suffixes a normal) (enter b)) x.goes_on
           (all_pairs (LeftFits a n normal) (WayFits between) SegmentFits segment_by (λ i way one two. segment_then between i way (left_normal a n i one) two)
-          (outs a normal) (enter b) (x.leaves normal) y.enters)) y.goes_on;
+          (exit_suffixes a normal) (enter b) (x.leaves normal) y.enters)) y.goes_on;
     }
 
   -- a choice -------------------------------------------------------------------------------------------------------------
-  way_led : (step : Step) (n : ℕ) (way : Way) → ((m : ℕ) (ops : List Step) → StepsFit n m ops → StepsFit n m (step ∷ ops)) → WayFits n way
-      → WayFits n (led_way step way)
+  way_led : (step : SegmentStep) (n : ℕ) (way : GoalSegment) → ((m : ℕ) (ops : List SegmentStep) → StepsFit n m ops → StepsFit n m (step ∷ ops)) → WayFits n way
+      → WayFits n (prepend_step_to_goal step way)
   way_led step n way more h = goal_more way.goal n n way.ops (step ∷ way.ops) (λ m k. more m way.ops k) h
 
-  steps_tested : (base : ℕ) (c : Cond) (wanted : Bool) (n : ℕ) → n ≤ most_live → (m : ℕ) (ops : List Step) → StepsFit n m ops
+  steps_tested : (base : ℕ) (c : Cond) (wanted : Bool) (n : ℕ) → n ≤ most_live → (m : ℕ) (ops : List SegmentStep) → StepsFit n m ops
       → StepsFit n m (does (test base c wanted) ∷ ops)
   steps_tested base c wanted n few m ops h = (tt, few, h)
 
@@ -251,24 +256,24 @@ module _ (T : List Site) where
         → ((m : ℕ) → LeavesWith b n h m → LeavesWith (choose q base c a b) n h m)
         → All (PassFits (choose q base c a b) n h) (through (choose q base c a b) h)
     choice_passes h left right =
-        All-append (PassFits (choose q base c a b) n h) (map (tested base c true) (through a h)) (map (tested base c false) (through b h))
-        (all_made (PassFits a n h) (PassFits (choose q base c a b) n h) (tested base c true)
+        All-append (PassFits (choose q base c a b) n h) (map (with_test base c true) (through a h)) (map (with_test base c false) (through b h))
+        (all_made (PassFits a n h) (PassFits (choose q base c a b) n h) (with_test base c true)
         (λ ops k. (k.0, left k.0 k.1, steps_tested base c true n few k.0 ops k.2)) (through a h) (x.passes h))
-        (all_made (PassFits b n h) (PassFits (choose q base c a b) n h) (tested base c false)
+        (all_made (PassFits b n h) (PassFits (choose q base c a b) n h) (with_test base c false)
         (λ ops k. (k.0, right k.0 k.1, steps_tested base c false n few k.0 ops k.2)) (through b h) (y.passes h))
 
     choice_leaves : (h : Completion) → ((m : ℕ) → LeavesWith a n h m → LeavesWith (choose q base c a b) n h m)
         → ((m : ℕ) → LeavesWith b n h m → LeavesWith (choose q base c a b) n h m)
-        → All (LeftFits (choose q base c a b) n h) (outs (choose q base c a b) h)
-    choice_leaves h left right = All-append (LeftFits (choose q base c a b) n h) (outs a h) (outs b h)
-        (All-weaker (LeftFits a n h) (LeftFits (choose q base c a b) n h) (λ i k. (k.0, left k.0 k.1, k.2)) (outs a h) (x.leaves h))
-        (All-weaker (LeftFits b n h) (LeftFits (choose q base c a b) n h) (λ i k. (k.0, right k.0 k.1, k.2)) (outs b h) (y.leaves h))
+        → All (LeftFits (choose q base c a b) n h) (exit_suffixes (choose q base c a b) h)
+    choice_leaves h left right = All-append (LeftFits (choose q base c a b) n h) (exit_suffixes a h) (exit_suffixes b h)
+        (All-weaker (LeftFits a n h) (LeftFits (choose q base c a b) n h) (λ i k. (k.0, left k.0 k.1, k.2)) (exit_suffixes a h) (x.leaves h))
+        (All-weaker (LeftFits b n h) (LeftFits (choose q base c a b) n h) (λ i k. (k.0, right k.0 k.1, k.2)) (exit_suffixes b h) (y.leaves h))
 
     passes_either : (h : Completion) → All (PassFits (choose q base c a b) n h) (through (choose q base c a b) h)
     passes_either normal = choice_passes normal (λ m k. k) (λ m k. sym same ∙ k)
     passes_either (jump j) = choice_passes (jump j) (λ m k. inl k) (λ m k. inr k)
 
-    leaves_either : (h : Completion) → All (LeftFits (choose q base c a b) n h) (outs (choose q base c a b) h)
+    leaves_either : (h : Completion) → All (LeftFits (choose q base c a b) n h) (exit_suffixes (choose q base c a b) h)
     leaves_either normal = choice_leaves normal (λ m k. k) (λ m k. sym same ∙ k)
     leaves_either (jump j) = choice_leaves (jump j) (λ m k. inl k) (λ m k. inr k)
 
@@ -287,20 +292,20 @@ module _ (T : List Site) where
   -- a loop ---------------------------------------------------------------------------------------------------------------
   module _ (q base : ℕ) (c : Cond) (a : Node) (n : ℕ) (few : n ≤ most_live) (here : LiveAt T q n) (x : WaysFit a n) (same : live_after a n ≡ n) where
     -- from the loop's point
-    from_here : (s : Site) → slice_get T q ≡ Some s → (m : ℕ) (ops : List Step) → StepsFit n m ops → StepsFit s.live m ops
+    from_here : (s : Site) → slice_get T q ≡ Some s → (m : ℕ) (ops : List SegmentStep) → StepsFit n m ops → StepsFit s.live m ops
     from_here s is m ops h = subst (λ k. StepsFit k m ops) (here s is) h
 
     -- back to it
-    to_here : (r : Site) → slice_get T q ≡ Some r → (k : ℕ) (ops : List Step) → StepsFit k (live_after a n) ops → StepsFit k r.live ops
+    to_here : (r : Site) → slice_get T q ≡ Some r → (k : ℕ) (ops : List SegmentStep) → StepsFit k (live_after a n) ops → StepsFit k r.live ops
     to_here r is k ops h = subst (λ m. StepsFit k m ops) (same ∙ here r is) h
 
-    loop_leaves : (h : Completion) → All (LeftFits (iterate q base c a) n h) (outs (iterate q base c a) h)
+    loop_leaves : (h : Completion) → All (LeftFits (iterate q base c a) n h) (exit_suffixes (iterate q base c a) h)
     loop_leaves normal = all_one (LeftFits (iterate q base c a) n normal) (record { source = q; ops = does (test base c false) ∷ [] })
         (n, refl, λ s is. from_here s is n (does (test base c false) ∷ []) (tt, few, refl))
-    loop_leaves (jump j) = All-append (LeftFits (iterate q base c a) n (jump j)) (map (out_of_body q base c) (through a (jump j))) (outs a (jump j))
+    loop_leaves (jump j) = All-append (LeftFits (iterate q base c a) n (jump j)) (map (out_of_body q base c) (through a (jump j))) (exit_suffixes a (jump j))
         (all_made (PassFits a n (jump j)) (LeftFits (iterate q base c a) n (jump j)) (out_of_body q base c)
         (λ ops h. (h.0, h.1, λ s is. from_here s is h.0 (does (test base c true) ∷ ops) (tt, few, h.2))) (through a (jump j)) (x.passes (jump j)))
-        (All-weaker (LeftFits a n (jump j)) (LeftFits (iterate q base c a) n (jump j)) (λ i h. (h.0, h.1, h.2)) (outs a (jump j))
+        (All-weaker (LeftFits a n (jump j)) (LeftFits (iterate q base c a) n (jump j)) (λ i h. (h.0, h.1, h.2)) (exit_suffixes a (jump j))
         (x.leaves (jump j)))
 
     goes_into : All SegmentFits (map (into_body q base c) (enter a))
@@ -313,15 +318,15 @@ module _ (T : List Site) where
         (λ ops h s is r at. to_here r at s.live (does (test base c true) ∷ ops)
         (from_here s is (live_after a n) (does (test base c true) ∷ ops) (tt, few, pass_normal a n ops h))) (through a normal) (x.passes normal)
 
-    goes_back : All SegmentFits (map (segment_to q) (outs a normal))
+    goes_back : All SegmentFits (map (segment_to q) (exit_suffixes a normal))
     goes_back = all_made (LeftFits a n normal) SegmentFits (segment_to q)
-        (λ i h s is r at. to_here r at s.live i.ops (left_normal a n i h s is)) (outs a normal) (x.leaves normal)
+        (λ i h s is r at. to_here r at s.live i.ops (left_normal a n i h s is)) (exit_suffixes a normal) (x.leaves normal)
 
     fit_iterate : WaysFit (iterate q base c a) n
     fit_iterate =
         let entering : List Segment = map (into_body q base c) (enter a) in
         let round : List Segment = map (λ ops. segment_to q (out_of_body q base c ops)) (through a normal) in
-        let back : List Segment = map (segment_to q) (outs a normal) in
+        let back : List Segment = map (segment_to q) (exit_suffixes a normal) in
         record {
           passes = λ h. All-nil (PassFits (iterate q base c a) n h);
           enters = all_one (WayFits n) (record { ops = []; goal = comes_to q }) here;
@@ -342,14 +347,15 @@ module _ (T : List Site) where
         (λ apart. All-weaker (PassFits a n (jump j)) (PassFits (catch q k a) n (jump j)) (λ ops h. (h.0, (exits_apart j k apart, h.1), h.2))
         (through a (jump j)) (x.passes (jump j)))
 
-    catch_leaves : (h : Completion) → All (LeftFits (catch q k a) n h) (outs (catch q k a) h)
-    catch_leaves normal = All-append (LeftFits (catch q k a) n normal) (outs a normal) (outs a (jump k))
-        (All-weaker (LeftFits a n normal) (LeftFits (catch q k a) n normal) (λ i h. (h.0, h.1, h.2)) (outs a normal) (x.leaves normal))
-        (All-weaker (LeftFits a n (jump k)) (LeftFits (catch q k a) n normal) (λ i h. (h.0, sym (caught h.0 h.1), h.2)) (outs a (jump k)) (x.leaves (jump k)))
-    catch_leaves (jump j) = all_if (LeftFits (catch q k a) n (jump j)) (same_exit j k) [] (outs a (jump j))
+    catch_leaves : (h : Completion) → All (LeftFits (catch q k a) n h) (exit_suffixes (catch q k a) h)
+    catch_leaves normal = All-append (LeftFits (catch q k a) n normal) (exit_suffixes a normal) (exit_suffixes a (jump k))
+        (All-weaker (LeftFits a n normal) (LeftFits (catch q k a) n normal) (λ i h. (h.0, h.1, h.2)) (exit_suffixes a normal) (x.leaves normal))
+        (All-weaker (LeftFits a n (jump k)) (LeftFits (catch q k a) n normal) (λ i h. (h.0, sym (caught h.0 h.1), h.2)) (exit_suffixes a (jump k))
+        (x.leaves (jump k)))
+    catch_leaves (jump j) = all_if (LeftFits (catch q k a) n (jump j)) (same_exit j k) [] (exit_suffixes a (jump j))
         (λ same. All-nil (LeftFits (catch q k a) n (jump j)))
         (λ apart. All-weaker (LeftFits a n (jump j)) (LeftFits (catch q k a) n (jump j)) (λ i h. (h.0, (exits_apart j k apart, h.1), h.2))
-        (outs a (jump j)) (x.leaves (jump j)))
+        (exit_suffixes a (jump j)) (x.leaves (jump j)))
 
     fit_catch : WaysFit (catch q k a) n
     fit_catch = record { passes = catch_passes; enters = x.enters; leaves = catch_leaves; goes_on = x.goes_on }
@@ -372,7 +378,7 @@ module _ (T : List Site) where
   ArmsLeaveWith arms n normal m = n ≡ m
   ArmsLeaveWith arms n (jump k) m = ArmsJumpWith arms n k m
 
-  abbrev pub LabelFits : Arms → ℕ → Completion → List Step → Type 0
+  abbrev pub LabelFits : Arms → ℕ → Completion → List SegmentStep → Type 0
   LabelFits arms n h ops = (m : ℕ) × ArmsLeaveWith arms n h m × StepsFit n m ops
 
   row_leaves : (arms : Arms) (n : ℕ) → ArmsFit arms n → (h : Completion) (m : ℕ) → LeavesWith (arms_row arms) n h m → ArmsLeaveWith arms n h m
@@ -389,7 +395,7 @@ module _ (T : List Site) where
     pub passes : (base : ℕ) (e : Expr) (labels : List CaseLabel) (h : Completion) → All (LabelFits arms n h) (through_labels (λ l. goes base e labels l) arms h)
     pub enters : (base : ℕ) (e : Expr) (labels : List CaseLabel) → All (WayFits n) (enter_labels (λ l. goes base e labels l) arms)
 
-  steps_labelled : (base : ℕ) (e : Expr) (labels : List CaseLabel) (l : CaseLabel) (n : ℕ) → n ≤ most_live → (m : ℕ) (ops : List Step) → StepsFit n m ops
+  steps_labelled : (base : ℕ) (e : Expr) (labels : List CaseLabel) (l : CaseLabel) (n : ℕ) → n ≤ most_live → (m : ℕ) (ops : List SegmentStep) → StepsFit n m ops
       → StepsFit n m (goes base e labels l ∷ ops)
   steps_labelled base e labels l n few m ops h = (tt, few, h)
 
@@ -406,16 +412,16 @@ module _ (T : List Site) where
     entry_passes base e labels h =
         let first = goes base e labels l in
         let behind = subst (All (PassFits (arms_row arms) n h)) (through_row arms h) (x.row.passes h) in
-        All-append (LabelFits arms n h) (map (led first) (through_arms arms h)) (through_labels (λ k. goes base e labels k) arms h)
-        (all_made (PassFits (arms_row arms) n h) (LabelFits arms n h) (led first)
+        All-append (LabelFits arms n h) (map (prepend_step first) (through_arms arms h)) (through_labels (λ k. goes base e labels k) arms h)
+        (all_made (PassFits (arms_row arms) n h) (LabelFits arms n h) (prepend_step first)
         (λ ops k. (k.0, row_leaves arms n fits h k.0 k.1, steps_labelled base e labels l n few k.0 ops k.2)) (through_arms arms h) behind)
         (x.passes base e labels h)
 
     entry_enters : (base : ℕ) (e : Expr) (labels : List CaseLabel) → All (WayFits n) (enter_labels (λ k. goes base e labels k) (entry l arms))
     entry_enters base e labels =
         let first = goes base e labels l in
-        All-append (WayFits n) (map (led_way first) (enter_arms arms)) (enter_labels (λ k. goes base e labels k) arms)
-        (all_made (WayFits n) (WayFits n) (led_way first) (λ way h. way_led first n way (steps_labelled base e labels l n few) h) (enter_arms arms)
+        All-append (WayFits n) (map (prepend_step_to_goal first) (enter_arms arms)) (enter_labels (λ k. goes base e labels k) arms)
+        (all_made (WayFits n) (WayFits n) (prepend_step_to_goal first) (λ way h. way_led first n way (steps_labelled base e labels l n few) h) (enter_arms arms)
         (subst (All (WayFits n)) (enter_row arms) x.row.enters)) (x.enters base e labels)
 
     fit_entry : LabelsFit (entry l arms) n
@@ -453,7 +459,7 @@ module _ (T : List Site) where
         enters = x.enters base e labels;
         leaves = λ h. subst (All (LeftFits (select q base e arms) n h)) (outs_row arms h)
             (All-weaker (LeftFits (arms_row arms) n h) (LeftFits (select q base e arms) n h)
-            (λ i k. (k.0, select_leaves q base e arms n h k.0 (row_leaves arms n fits h k.0 k.1), k.2)) (outs (arms_row arms) h) (x.row.leaves h));
+            (λ i k. (k.0, select_leaves q base e arms n h k.0 (row_leaves arms n fits h k.0 k.1), k.2)) (exit_suffixes (arms_row arms) h) (x.row.leaves h));
         goes_on = subst (All SegmentFits) (inside_row arms) x.row.goes_on;
       }
 

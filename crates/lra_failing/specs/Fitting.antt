@@ -10,8 +10,8 @@ use Rattle.lra_analysis_spec.specs.Analysis.{IsUnreachable}
 use Rattle.lra_analysis_spec.specs.LiveLimit.{most_live}
 use Rattle.lra_pass_results.specs.Dimensions.{TreeFits}
 use Rattle.lra_fixpoint.specs.Lives.{PointsHave}
-use Rattle.lra_ways.specs.Ways.{comes_to}
-use Rattle.lra_paths.specs.Paths.{leading}
+use Rattle.lra_path_segments.specs.Segments.{comes_to}
+use Rattle.lra_paths.specs.Paths.{actions_between}
 use Rattle.lra_back.specs.Traced.{AreAsserted, NothingLeftAtStart, PathsFit}
 
 -- a tree whose operations can be made, and which comes to its points with as many variables as live there, has paths
@@ -28,8 +28,8 @@ AssertionsAreDenied = (P : Program) (g : Node) → IsInlinedTree P g → AreAsse
 -- paths from the start lead to this point of the program, and to no other one
 pub record IsFirst (P : Program) (g : Node) (q : ℕ) : Type 0 where
   pub site : (s : Site) × (slice_get (sites_of P) q ≡ Some s)
-  pub leads : leading P g 0 (comes_to q) ≢ []
-  pub alone : (r : ℕ) → leading P g 0 (comes_to r) ≢ [] → r ≡ q
+  pub leads : actions_between P g 0 (comes_to q) ≢ []
+  pub alone : (r : ℕ) → actions_between P g 0 (comes_to r) ≢ [] → r ≡ q
 
 -- each program has such a point
 abbrev pub OnePointIsFirst : Type 0

@@ -18,7 +18,7 @@ use Rattle.lra_linear_spec.specs.declared.ConKind.{ConKind}
 use Rattle.lra_linear_spec.specs.Descriptions.{LinearRow}
 use Rattle.lra_domain.specs.Changes.{action_of}
 use Rattle.lra_domain.specs.declared.changes.Change.{Change}
-use Rattle.lra_sides.specs.TableSides.{all_done}
+use Rattle.lra_path_disjuncts.specs.TableDisjuncts.{all_done}
 use Rattle.lra_multipliers.specs.Symbols.{composed, symbol, symbols, Walked, gives, tests_too, walked_by, walked, new_symbols, tests_in, width_of, walk_of}
 use Rattle.lra_certificate.proofs.WalkedRows.{and_ok, ok_is, symbol_width}
 

@@ -7,7 +7,7 @@ ghost use Rattle.lra_linear_spec.specs.Vectors.{zeros};
 ghost use Rattle.lra_row.specs.Rows.{IsExcessOf};
 ghost use Rattle.lra_systems.specs.LinearSystems.{constraints};
 ghost use Rattle.lra_domain.specs.Changes.{action_of};
-ghost use Rattle.lra_sides.specs.TableSides.{all_done};
+ghost use Rattle.lra_path_disjuncts.specs.TableDisjuncts.{all_done};
 ghost use Rattle.lra_multipliers.specs.Symbols.{tests_in};
 ghost use Rattle.lra_multipliers.specs.MultiplierViews.{answer_view, multipliers_view};
 ghost use Rattle.lra_certificate.specs.Certificates.{padded};

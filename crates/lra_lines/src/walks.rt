@@ -9,7 +9,7 @@ ghost use Rattle.lra_row.specs.Rows.{IsExcessOf};
 ghost use Rattle.lra_domain.specs.Actions.{embed, forget};
 ghost use Rattle.lra_domain.specs.Changes.{action_of};
 ghost use Rattle.lra_linear_forms.specs.Form.{form_row};
-ghost use Rattle.lra_sides.specs.TableSides.{all_done};
+ghost use Rattle.lra_path_disjuncts.specs.TableDisjuncts.{all_done};
 ghost use Rattle.lra_multipliers.specs.Symbols.{composed, new_symbols, symbols, walk_of, walked_by, width_of};
 ghost use Rattle.lra_lines.specs.WalkViews.{walk_view, HasWidth};
 

@@ -17,14 +17,15 @@ use Rattle.lra_operations.specs.Tree.{Exit, broken, continued, returned, normal,
 use Rattle.lra_operations.specs.Tree.{select, Arms, no_arms, entry, arm, entries_of}
 use Rattle.lra_operations.specs.Traces.{Stop, by_jump, to_point, to_failure, StopsAtPoint, RunExtent, to_end, stopped, RunsUpTo, VisitsAndTests, TrailRounds}
 use Rattle.lra_operations.proofs.ArmRows.{arms_row, row_behind, row_of_behind, behind_of_row}
-use Rattle.lra_ways.specs.Ways.{Step, does, Goal, comes_to, denies, Way, Segment, Suffix, same_exit, each_then, then_way, then_out, segment_by}
-use Rattle.lra_ways.specs.Ways.{segment_to, tested_way, into_body}
-use Rattle.lra_ways.specs.Ways.{out_of_body, through, enter, outs, inside, RunsOps, RunsStep}
-use Rattle.lra_ways.specs.Ways.{goes_in, led, led_way, past_labels, through_arms, through_labels, enter_arms, enter_labels}
-use Rattle.lra_ways.specs.Ways as ways
-use Rattle.lra_paths.specs.Covers.{IsFirst, IsNext, LeadsSo, HasGone, along_first, along_next}
-use Rattle.lra_ways.proofs.LabelLaws.{alike_are, goal_out, through_row, enter_row, outs_row, inside_row, none_behind}
-use Rattle.lra_ways.proofs.Lists.{pairs_have, each_then_has}
+use Rattle.lra_path_segments.specs.Segments.{SegmentStep, does, Goal, comes_to, violates, GoalSegment, Segment, Suffix, same_exit, each_then, then_way}
+use Rattle.lra_path_segments.specs.Segments.{then_out, segment_by}
+use Rattle.lra_path_segments.specs.Segments.{segment_to, tested_way, into_body}
+use Rattle.lra_path_segments.specs.Segments.{out_of_body, through, enter, exit_suffixes, inside, RunsOps, RunsStep}
+use Rattle.lra_path_segments.specs.Segments.{goes_in, prepend_step, prepend_step_to_goal, past_labels, through_arms, through_labels, enter_arms, enter_labels}
+use Rattle.lra_path_segments.specs.Segments as ways
+use Rattle.lra_paths.specs.Covers.{IsFirstSegment, IsNextSegment, LeadsSo, HasGone, along_first, along_next}
+use Rattle.lra_path_segments.proofs.LabelLaws.{alike_are, goal_out, through_row, enter_row, outs_row, inside_row, none_behind}
+use Rattle.lra_path_segments.proofs.Lists.{pairs_have, each_then_has}
 
 -- states -----------------------------------------------------------------------------------------------------------------
 
@@ -41,17 +42,17 @@ store_tested wanted s (Some r) t e = store_kept wanted r.0 (record s { draws = r
 store_of_test : (base : ℕ) (c : Cond) (wanted : Bool) (s t : State) → run_op (test base c wanted) s ≡ Some t → t.store ≡ s.store
 store_of_test base c wanted s t e = store_tested wanted s (truth_of c (environment_at base s) s.draws) t e
 
-pub join_ops : (x y : List Step) (s m t : State) → RunsOps x s m → RunsOps y m t → RunsOps (x ++ y) s t
+pub join_ops : (x y : List SegmentStep) (s m t : State) → RunsOps x s m → RunsOps y m t → RunsOps (x ++ y) s t
 join_ops [] y s m t e r = subst (λ u. RunsOps y u t) e r
 join_ops (step ∷ x) y s m t (u, o, q) r = (u, o, join_ops x y u m t q r)
 
-so_behind : (u : RunExtent) (x y : List Step) (s m t : State) → RunsOps x s m → LeadsSo u y m t → LeadsSo u (x ++ y) s t
+so_behind : (u : RunExtent) (x y : List SegmentStep) (s m t : State) → RunsOps x s m → LeadsSo u y m t → LeadsSo u (x ++ y) s t
 so_behind to_end x y s m t r l = join_ops x y s m t r l
 so_behind (stopped (by_jump j)) x y s m t r l = join_ops x y s m t r l
 so_behind (stopped (to_point q)) x y s m t r l = join_ops x y s m t r l
 so_behind (stopped (to_failure q)) x y s m t r (v, l, e) = (v, join_ops x y s m v r l, e)
 
-so_led : (u : RunExtent) (step : Step) (y : List Step) (s m t : State) → RunsStep step s m → LeadsSo u y m t → LeadsSo u (step ∷ y) s t
+so_led : (u : RunExtent) (step : SegmentStep) (y : List SegmentStep) (s m t : State) → RunsStep step s m → LeadsSo u y m t → LeadsSo u (step ∷ y) s t
 so_led to_end step y s m t o l = (m, o, l)
 so_led (stopped (by_jump j)) step y s m t o l = (m, o, l)
 so_led (stopped (to_point q)) step y s m t o l = (m, o, l)
@@ -59,65 +60,67 @@ so_led (stopped (to_failure q)) step y s m t o (v, l, e) = (v, (m, o, l), e)
 
 -- members ----------------------------------------------------------------------------------------------------------------
 
-first_then_first : (g h : Node) (u : RunExtent) (x y : List Step) → IsFirst g to_end x → IsFirst h u y → IsFirst (seq g h) u (x ++ y)
+first_then_first : (g h : Node) (u : RunExtent) (x y : List SegmentStep) → IsFirstSegment g to_end x → IsFirstSegment h u y →
+    IsFirstSegment (seq g h) u (x ++ y)
 first_then_first g h to_end x y i j = each_then_has (through g normal) (through h normal) x y i j
 first_then_first g h (stopped (by_jump k)) x y i j = Contains-append_right (through g (jump k)) _ (x ++ y)
     (each_then_has (through g normal) (through h (jump k)) x y i j)
 first_then_first g h (stopped (to_point q)) x y i j =
     Contains-append_right (enter g) _ _ (pairs_have then_way (through g normal) (enter h) x (record { ops = y; goal = comes_to q }) i j)
 first_then_first g h (stopped (to_failure q)) x y i j =
-    Contains-append_right (enter g) _ _ (pairs_have then_way (through g normal) (enter h) x (record { ops = y; goal = denies q }) i j)
+    Contains-append_right (enter g) _ _ (pairs_have then_way (through g normal) (enter h) x (record { ops = y; goal = violates q }) i j)
 
-next_then_first : (p : ℕ) (g h : Node) (u : RunExtent) (x y : List Step) → IsNext p g to_end x → IsFirst h u y → IsNext p (seq g h) u (x ++ y)
-next_then_first p g h to_end x y i j = Contains-append_left _ (outs h normal) _
-    (pairs_have then_out (outs g normal) (through h normal) (record { source = p; ops = x }) y i j)
+next_then_first : (p : ℕ) (g h : Node) (u : RunExtent) (x y : List SegmentStep) → IsNextSegment p g to_end x → IsFirstSegment h u y →
+    IsNextSegment p (seq g h) u (x ++ y)
+next_then_first p g h to_end x y i j = Contains-append_left _ (exit_suffixes h normal) _
+    (pairs_have then_out (exit_suffixes g normal) (through h normal) (record { source = p; ops = x }) y i j)
 next_then_first p g h (stopped (by_jump k)) x y i j =
-    Contains-append_left _ (outs h (jump k)) _ (Contains-append_right (outs g (jump k)) _ _
-    (pairs_have then_out (outs g normal) (through h (jump k)) (record { source = p; ops = x }) y i j))
+    Contains-append_left _ (exit_suffixes h (jump k)) _ (Contains-append_right (exit_suffixes g (jump k)) _ _
+    (pairs_have then_out (exit_suffixes g normal) (through h (jump k)) (record { source = p; ops = x }) y i j))
 next_then_first p g h (stopped (to_point q)) x y i j =
     Contains-append_left _ (inside h) _ (Contains-append_right (inside g) _ _
-    (pairs_have segment_by (outs g normal) (enter h) (record { source = p; ops = x }) (record { ops = y; goal = comes_to q }) i j))
+    (pairs_have segment_by (exit_suffixes g normal) (enter h) (record { source = p; ops = x }) (record { ops = y; goal = comes_to q }) i j))
 next_then_first p g h (stopped (to_failure q)) x y i j =
     Contains-append_left _ (inside h) _ (Contains-append_right (inside g) _ _
-    (pairs_have segment_by (outs g normal) (enter h) (record { source = p; ops = x }) (record { ops = y; goal = denies q }) i j))
+    (pairs_have segment_by (exit_suffixes g normal) (enter h) (record { source = p; ops = x }) (record { ops = y; goal = violates q }) i j))
 
-next_in_second : (p : ℕ) (g h : Node) (u : RunExtent) (x : List Step) → IsNext p h u x → IsNext p (seq g h) u x
-next_in_second p g h to_end x i = Contains-append_right _ (outs h normal) _ i
-next_in_second p g h (stopped (by_jump k)) x i = Contains-append_right _ (outs h (jump k)) _ i
+next_in_second : (p : ℕ) (g h : Node) (u : RunExtent) (x : List SegmentStep) → IsNextSegment p h u x → IsNextSegment p (seq g h) u x
+next_in_second p g h to_end x i = Contains-append_right _ (exit_suffixes h normal) _ i
+next_in_second p g h (stopped (by_jump k)) x i = Contains-append_right _ (exit_suffixes h (jump k)) _ i
 next_in_second p g h (stopped (to_point q)) x i = Contains-append_right _ (inside h) _ i
 next_in_second p g h (stopped (to_failure q)) x i = Contains-append_right _ (inside h) _ i
 
 -- the first tree is left at once
-first_stopped : (g h : Node) (z : Stop) (x : List Step) → IsFirst g (stopped z) x → IsFirst (seq g h) (stopped z) x
+first_stopped : (g h : Node) (z : Stop) (x : List SegmentStep) → IsFirstSegment g (stopped z) x → IsFirstSegment (seq g h) (stopped z) x
 first_stopped g h (by_jump k) x i = Contains-append_left (through g (jump k)) _ x i
 first_stopped g h (to_point q) x i = Contains-append_left (enter g) _ _ i
 first_stopped g h (to_failure q) x i = Contains-append_left (enter g) _ _ i
 
-next_stopped : (p : ℕ) (g h : Node) (z : Stop) (x : List Step) → IsNext p g (stopped z) x → IsNext p (seq g h) (stopped z) x
-next_stopped p g h (by_jump k) x i = Contains-append_left _ (outs h (jump k)) _ (Contains-append_left (outs g (jump k)) _ _ i)
+next_stopped : (p : ℕ) (g h : Node) (z : Stop) (x : List SegmentStep) → IsNextSegment p g (stopped z) x → IsNextSegment p (seq g h) (stopped z) x
+next_stopped p g h (by_jump k) x i = Contains-append_left _ (exit_suffixes h (jump k)) _ (Contains-append_left (exit_suffixes g (jump k)) _ _ i)
 next_stopped p g h (to_point q) x i = Contains-append_left _ (inside h) _ (Contains-append_left (inside g) _ _ i)
 next_stopped p g h (to_failure q) x i = Contains-append_left _ (inside h) _ (Contains-append_left (inside g) _ _ i)
 
 module _ (q base : ℕ) (c : Cond) (g h : Node) where
-  first_on : (u : RunExtent) (x : List Step) → IsFirst g u x → IsFirst (choose q base c g h) u (does (test base c true) ∷ x)
-  first_on to_end x i = Contains-append_left _ _ _ (map_has (ways.tested base c true) (through g normal) x i)
-  first_on (stopped (by_jump k)) x i = Contains-append_left _ _ _ (map_has (ways.tested base c true) (through g (jump k)) x i)
+  first_on : (u : RunExtent) (x : List SegmentStep) → IsFirstSegment g u x → IsFirstSegment (choose q base c g h) u (does (test base c true) ∷ x)
+  first_on to_end x i = Contains-append_left _ _ _ (map_has (ways.with_test base c true) (through g normal) x i)
+  first_on (stopped (by_jump k)) x i = Contains-append_left _ _ _ (map_has (ways.with_test base c true) (through g (jump k)) x i)
   first_on (stopped (to_point p)) x i = Contains-append_left _ _ _ (map_has (tested_way base c true) (enter g) (record { ops = x; goal = comes_to p }) i)
-  first_on (stopped (to_failure p)) x i = Contains-append_left _ _ _ (map_has (tested_way base c true) (enter g) (record { ops = x; goal = denies p }) i)
+  first_on (stopped (to_failure p)) x i = Contains-append_left _ _ _ (map_has (tested_way base c true) (enter g) (record { ops = x; goal = violates p }) i)
 
-  first_off : (u : RunExtent) (x : List Step) → IsFirst h u x → IsFirst (choose q base c g h) u (does (test base c false) ∷ x)
-  first_off to_end x i = Contains-append_right _ _ _ (map_has (ways.tested base c false) (through h normal) x i)
-  first_off (stopped (by_jump k)) x i = Contains-append_right _ _ _ (map_has (ways.tested base c false) (through h (jump k)) x i)
+  first_off : (u : RunExtent) (x : List SegmentStep) → IsFirstSegment h u x → IsFirstSegment (choose q base c g h) u (does (test base c false) ∷ x)
+  first_off to_end x i = Contains-append_right _ _ _ (map_has (ways.with_test base c false) (through h normal) x i)
+  first_off (stopped (by_jump k)) x i = Contains-append_right _ _ _ (map_has (ways.with_test base c false) (through h (jump k)) x i)
   first_off (stopped (to_point p)) x i = Contains-append_right _ _ _ (map_has (tested_way base c false) (enter h) (record { ops = x; goal = comes_to p }) i)
-  first_off (stopped (to_failure p)) x i = Contains-append_right _ _ _ (map_has (tested_way base c false) (enter h) (record { ops = x; goal = denies p }) i)
+  first_off (stopped (to_failure p)) x i = Contains-append_right _ _ _ (map_has (tested_way base c false) (enter h) (record { ops = x; goal = violates p }) i)
 
-  next_on : (p : ℕ) (u : RunExtent) (x : List Step) → IsNext p g u x → IsNext p (choose q base c g h) u x
+  next_on : (p : ℕ) (u : RunExtent) (x : List SegmentStep) → IsNextSegment p g u x → IsNextSegment p (choose q base c g h) u x
   next_on p to_end x i = Contains-append_left _ _ _ i
   next_on p (stopped (by_jump k)) x i = Contains-append_left _ _ _ i
   next_on p (stopped (to_point r)) x i = Contains-append_left _ _ _ i
   next_on p (stopped (to_failure r)) x i = Contains-append_left _ _ _ i
 
-  next_off : (p : ℕ) (u : RunExtent) (x : List Step) → IsNext p h u x → IsNext p (choose q base c g h) u x
+  next_off : (p : ℕ) (u : RunExtent) (x : List SegmentStep) → IsNextSegment p h u x → IsNextSegment p (choose q base c g h) u x
   next_off p to_end x i = Contains-append_right _ _ _ i
   next_off p (stopped (by_jump k)) x i = Contains-append_right _ _ _ i
   next_off p (stopped (to_point r)) x i = Contains-append_right _ _ _ i
@@ -128,17 +131,17 @@ module _ (q base : ℕ) (c : Cond) (g : Node) where
   loop = iterate q base c g
 
   -- the four parts of the ways in a loop
-  in_body : (p : ℕ) (z : Stop) (x : List Step) → IsNext p g (stopped z) x → IsNext p loop (stopped z) x
+  in_body : (p : ℕ) (z : Stop) (x : List SegmentStep) → IsNextSegment p g (stopped z) x → IsNextSegment p loop (stopped z) x
   in_body p (by_jump k) x i = Contains-append_right _ _ _ i
   in_body p (to_point r) x i = Contains-append_right _ _ _ i
   in_body p (to_failure r) x i = Contains-append_right _ _ _ i
 
-  into : (z : Stop) (x : List Step) → IsFirst g (stopped z) x → IsNext q loop (stopped z) (does (test base c true) ∷ x)
+  into : (z : Stop) (x : List SegmentStep) → IsFirstSegment g (stopped z) x → IsNextSegment q loop (stopped z) (does (test base c true) ∷ x)
   into (by_jump k) x i = Contains-append_left _ _ _ (map_has (out_of_body q base c) (through g (jump k)) x i)
   into (to_point r) x i = Contains-append_left _ _ _ (Contains-append_left _ _ _
       (Contains-append_left _ _ _ (map_has (into_body q base c) (enter g) (record { ops = x; goal = comes_to r }) i)))
   into (to_failure r) x i = Contains-append_left _ _ _ (Contains-append_left _ _ _
-      (Contains-append_left _ _ _ (map_has (into_body q base c) (enter g) (record { ops = x; goal = denies r }) i)))
+      (Contains-append_left _ _ _ (map_has (into_body q base c) (enter g) (record { ops = x; goal = violates r }) i)))
 
   abbrev entering : List Segment
   entering = map (into_body q base c) (enter g)
@@ -147,19 +150,19 @@ module _ (q base : ℕ) (c : Cond) (g : Node) where
   rounds = map (λ y. segment_to q (out_of_body q base c y)) (through g normal)
 
   abbrev backs : List Segment
-  backs = map (segment_to q) (outs g normal)
+  backs = map (segment_to q) (exit_suffixes g normal)
 
-  round : (x : List Step) → IsFirst g to_end x → IsNext q loop (stopped (to_point q)) (does (test base c true) ∷ x)
+  round : (x : List SegmentStep) → IsFirstSegment g to_end x → IsNextSegment q loop (stopped (to_point q)) (does (test base c true) ∷ x)
   round x i =
       let segment : Segment = segment_to q (out_of_body q base c x) in
       Contains-append_left ((entering ++ rounds) ++ backs) (inside g) segment (Contains-append_left (entering ++ rounds) backs segment
       (Contains-append_right entering rounds segment (map_has (λ y. segment_to q (out_of_body q base c y)) (through g normal) x i)))
 
-  back : (p : ℕ) (x : List Step) → IsNext p g to_end x → IsNext p loop (stopped (to_point q)) x
+  back : (p : ℕ) (x : List SegmentStep) → IsNextSegment p g to_end x → IsNextSegment p loop (stopped (to_point q)) x
   back p x i =
       let segment : Segment = segment_to q (record { source = p; ops = x }) in
       Contains-append_left ((entering ++ rounds) ++ backs) (inside g) segment (Contains-append_right (entering ++ rounds) backs segment
-      (map_has (segment_to q) (outs g normal) (record { source = p; ops = x }) i))
+      (map_has (segment_to q) (exit_suffixes g normal) (record { source = p; ops = x }) i))
 
 -- a jump of another kind goes on
 differs : (j k : Exit) → j ≢ k → same_exit j k ≡ false
@@ -182,13 +185,16 @@ stays_in : {A : Type 0} (b : Bool) (xs : List A) (x : A) → b ≡ false → Con
 stays_in true xs x e i = absurd (let no : true ≡ false = e in cc)
 stays_in false xs x e i = i
 
-first_passed : (q : ℕ) (k : Exit) (g : Node) (z : Stop) (x : List Step) → z ≢ by_jump k → IsFirst g (stopped z) x → IsFirst (catch q k g) (stopped z) x
+first_passed : (q : ℕ) (k : Exit) (g : Node) (z : Stop) (x : List SegmentStep) → z ≢ by_jump k → IsFirstSegment g (stopped z) x →
+    IsFirstSegment (catch q k g) (stopped z) x
 first_passed q k g (by_jump j) x n i = stays_in (same_exit j k) (through g (jump j)) x (differs j k (λ e. n (ap by_jump e))) i
 first_passed q k g (to_point r) x n i = i
 first_passed q k g (to_failure r) x n i = i
 
-next_passed : (p q : ℕ) (k : Exit) (g : Node) (z : Stop) (x : List Step) → z ≢ by_jump k → IsNext p g (stopped z) x → IsNext p (catch q k g) (stopped z) x
-next_passed p q k g (by_jump j) x n i = stays_in (same_exit j k) (outs g (jump j)) (record { source = p; ops = x }) (differs j k (λ e. n (ap by_jump e))) i
+next_passed : (p q : ℕ) (k : Exit) (g : Node) (z : Stop) (x : List SegmentStep) → z ≢ by_jump k → IsNextSegment p g (stopped z) x →
+    IsNextSegment p (catch q k g) (stopped z) x
+next_passed p q k g (by_jump j) x n i =
+    stays_in (same_exit j k) (exit_suffixes g (jump j)) (record { source = p; ops = x }) (differs j k (λ e. n (ap by_jump e))) i
 next_passed p q k g (to_point r) x n i = i
 next_passed p q k g (to_failure r) x n i = i
 
@@ -198,48 +204,51 @@ not_jump p k e = subst (λ z. StopsAtPoint p z) e refl
 -- labels -----------------------------------------------------------------------------------------------------------------
 
 -- past no point, or to a first one, from one of these labels
-abbrev IsLabelled : (CaseLabel → Step) → Arms → RunExtent → List Step → Type 0
+abbrev IsLabelled : (CaseLabel → SegmentStep) → Arms → RunExtent → List SegmentStep → Type 0
 IsLabelled go arms to_end x = Contains (through_labels go arms normal) x
 IsLabelled go arms (stopped (by_jump j)) x = Contains (through_labels go arms (jump j)) x
 IsLabelled go arms (stopped (to_point q)) x = Contains (enter_labels go arms) (record { ops = x; goal = comes_to q })
-IsLabelled go arms (stopped (to_failure q)) x = Contains (enter_labels go arms) (record { ops = x; goal = denies q })
+IsLabelled go arms (stopped (to_failure q)) x = Contains (enter_labels go arms) (record { ops = x; goal = violates q })
 
-module _ (go : CaseLabel → Step) (l : CaseLabel) (arms : Arms) where
-  label_here : (u : RunExtent) (x : List Step) → IsFirst (arms_row arms) u x → IsLabelled go (entry l arms) u (go l ∷ x)
-  label_here to_end x i = Contains-append_left (map (led (go l)) (through_arms arms normal)) (through_labels go arms normal) (go l ∷ x)
-      (map_has (led (go l)) (through_arms arms normal) x (subst (λ xs. Contains xs x) (through_row arms normal) i))
-  label_here (stopped (by_jump j)) x i = Contains-append_left (map (led (go l)) (through_arms arms (jump j))) (through_labels go arms (jump j)) (go l ∷ x)
-      (map_has (led (go l)) (through_arms arms (jump j)) x (subst (λ xs. Contains xs x) (through_row arms (jump j)) i))
+module _ (go : CaseLabel → SegmentStep) (l : CaseLabel) (arms : Arms) where
+  label_here : (u : RunExtent) (x : List SegmentStep) → IsFirstSegment (arms_row arms) u x → IsLabelled go (entry l arms) u (go l ∷ x)
+  label_here to_end x i = Contains-append_left (map (prepend_step (go l)) (through_arms arms normal)) (through_labels go arms normal) (go l ∷ x)
+      (map_has (prepend_step (go l)) (through_arms arms normal) x (subst (λ xs. Contains xs x) (through_row arms normal) i))
+  label_here (stopped (by_jump j)) x i =
+      Contains-append_left (map (prepend_step (go l)) (through_arms arms (jump j))) (through_labels go arms (jump j)) (go l ∷ x)
+      (map_has (prepend_step (go l)) (through_arms arms (jump j)) x (subst (λ xs. Contains xs x) (through_row arms (jump j)) i))
   label_here (stopped (to_point q)) x i =
-      let way : Way = record { ops = x; goal = comes_to q } in
-      Contains-append_left (map (led_way (go l)) (enter_arms arms)) (enter_labels go arms) (led_way (go l) way)
-      (map_has (led_way (go l)) (enter_arms arms) way (subst (λ ways. Contains ways way) (enter_row arms) i))
+      let way : GoalSegment = record { ops = x; goal = comes_to q } in
+      Contains-append_left (map (prepend_step_to_goal (go l)) (enter_arms arms)) (enter_labels go arms) (prepend_step_to_goal (go l) way)
+      (map_has (prepend_step_to_goal (go l)) (enter_arms arms) way (subst (λ ways. Contains ways way) (enter_row arms) i))
   label_here (stopped (to_failure q)) x i =
-      let way : Way = record { ops = x; goal = denies q } in
-      Contains-append_left (map (led_way (go l)) (enter_arms arms)) (enter_labels go arms) (led_way (go l) way)
-      (map_has (led_way (go l)) (enter_arms arms) way (subst (λ ways. Contains ways way) (enter_row arms) i))
+      let way : GoalSegment = record { ops = x; goal = violates q } in
+      Contains-append_left (map (prepend_step_to_goal (go l)) (enter_arms arms)) (enter_labels go arms) (prepend_step_to_goal (go l) way)
+      (map_has (prepend_step_to_goal (go l)) (enter_arms arms) way (subst (λ ways. Contains ways way) (enter_row arms) i))
 
-  label_later : (u : RunExtent) (x : List Step) → IsLabelled go arms u x → IsLabelled go (entry l arms) u x
+  label_later : (u : RunExtent) (x : List SegmentStep) → IsLabelled go arms u x → IsLabelled go (entry l arms) u x
   label_later to_end x i = Contains-append_right _ (through_labels go arms normal) x i
   label_later (stopped (by_jump j)) x i = Contains-append_right _ (through_labels go arms (jump j)) x i
   label_later (stopped (to_point q)) x i = Contains-append_right _ (enter_labels go arms) _ i
   label_later (stopped (to_failure q)) x i = Contains-append_right _ (enter_labels go arms) _ i
 
-  label_by : (k : CaseLabel) (t : Bool) (u : RunExtent) (x : List Step) → is_same_case k l ≡ t → (t || list_any (is_same_case k) (entries_of arms)) ≡ true
-      → (list_any (is_same_case k) (entries_of arms) ≡ true → IsFirst (row_behind k arms) u x → IsLabelled go arms u (go k ∷ x))
-      → IsFirst (cond t (arms_row arms) (row_behind k arms)) u x → IsLabelled go (entry l arms) u (go k ∷ x)
+  label_by : (k : CaseLabel) (t : Bool) (u : RunExtent) (x : List SegmentStep) → is_same_case k l ≡ t →
+      (t || list_any (is_same_case k) (entries_of arms)) ≡ true
+      → (list_any (is_same_case k) (entries_of arms) ≡ true → IsFirstSegment (row_behind k arms) u x → IsLabelled go arms u (go k ∷ x))
+      → IsFirstSegment (cond t (arms_row arms) (row_behind k arms)) u x → IsLabelled go (entry l arms) u (go k ∷ x)
   label_by k true u x is there each i =
       subst (λ n. IsLabelled go (entry l arms) u (go n ∷ x)) (sym (alike_are k l is)) (label_here u x i)
   label_by k false u x is there each i = label_later u (go k ∷ x) (each there i)
 
 -- where the label is there, each way behind it is one from it
-label_first : (go : CaseLabel → Step) (l : CaseLabel) (arms : Arms) (u : RunExtent) (x : List Step) → list_any (is_same_case l) (entries_of arms) ≡ true
-    → IsFirst (row_behind l arms) u x → IsLabelled go arms u (go l ∷ x)
+label_first : (go : CaseLabel → SegmentStep) (l : CaseLabel) (arms : Arms) (u : RunExtent) (x : List SegmentStep) →
+    list_any (is_same_case l) (entries_of arms) ≡ true
+    → IsFirstSegment (row_behind l arms) u x → IsLabelled go arms u (go l ∷ x)
 label_first go l no_arms u x there i = absurd (let no : false ≡ true = there in cc)
 label_first go l (entry k arms) u x there i = label_by go k arms l (is_same_case l k) u x refl there (label_first go l arms u x) i
 label_first go l (arm g arms) u x there i = label_first go l arms u x there i
 
-none_done : (u : RunExtent) (x : List Step) → IsFirst empty u x → (u ≡ to_end) × (x ≡ [])
+none_done : (u : RunExtent) (x : List SegmentStep) → IsFirstSegment empty u x → (u ≡ to_end) × (x ≡ [])
 none_done to_end x i = elim (contains_cases [] x [] i) [
   | inl e ↦ (refl, sym e)
   | inr d ↦ absurd (contains_none x d)
@@ -249,10 +258,10 @@ none_done (stopped (to_point q)) x i = absurd (contains_none _ i)
 none_done (stopped (to_failure q)) x i = absurd (contains_none _ i)
 
 module _ (q base : ℕ) (e : Expr) (arms : Arms) where
-  abbrev go : CaseLabel → Step
+  abbrev go : CaseLabel → SegmentStep
   go = goes_in base e arms
 
-  labelled_first : (u : RunExtent) (x : List Step) → IsLabelled go arms u x → IsFirst (select q base e arms) u x
+  labelled_first : (u : RunExtent) (x : List SegmentStep) → IsLabelled go arms u x → IsFirstSegment (select q base e arms) u x
   labelled_first to_end x i = Contains-append_left (through_labels go arms normal) _ x i
   labelled_first (stopped (by_jump j)) x i = Contains-append_left (through_labels go arms (jump j)) _ x i
   labelled_first (stopped (to_point p)) x i = i
@@ -263,38 +272,40 @@ module _ (q base : ℕ) (e : Expr) (arms : Arms) where
   past_first false is = Contains-append_right (through_labels go arms normal) _ (go Default ∷ []) (contains_head _ [])
 
   -- from the label to which a value goes, or past all of them
-  select_first : (z : ℤ) (l : CaseLabel) → l ≡ goal_of z (entries_of arms) → (u : RunExtent) (x : List Step) → IsFirst (row_behind l arms) u x
-      → IsFirst (select q base e arms) u (go l ∷ x)
+  select_first : (z : ℤ) (l : CaseLabel) → l ≡ goal_of z (entries_of arms) → (u : RunExtent) (x : List SegmentStep) → IsFirstSegment (row_behind l arms) u x
+      → IsFirstSegment (select q base e arms) u (go l ∷ x)
   select_first z l is u x i = by (list_any (is_same_case l) (entries_of arms)) refl
     where
-      by : (t : Bool) → list_any (is_same_case l) (entries_of arms) ≡ t → IsFirst (select q base e arms) u (go l ∷ x)
+      by : (t : Bool) → list_any (is_same_case l) (entries_of arms) ≡ t → IsFirstSegment (select q base e arms) u (go l ∷ x)
       by true there = labelled_first u (go l ∷ x) (label_first go l arms u x there i)
       by false never =
           let (past, none) = goal_out z (entries_of arms) (subst (λ k. list_any (is_same_case k) (entries_of arms) ≡ false) is never) in
-          let (ends, nothing) = none_done u x (subst (λ g. IsFirst g u x) (none_behind l arms never) i) in
-          subst (λ v. IsFirst (select q base e arms) v (go l ∷ x)) (sym ends)
-          (subst (λ y. IsFirst (select q base e arms) to_end (go l ∷ y)) (sym nothing)
-          (subst (λ k. IsFirst (select q base e arms) to_end (go k ∷ [])) (sym (is ∙ past))
+          let (ends, nothing) = none_done u x (subst (λ g. IsFirstSegment g u x) (none_behind l arms never) i) in
+          subst (λ v. IsFirstSegment (select q base e arms) v (go l ∷ x)) (sym ends)
+          (subst (λ y. IsFirstSegment (select q base e arms) to_end (go l ∷ y)) (sym nothing)
+          (subst (λ k. IsFirstSegment (select q base e arms) to_end (go k ∷ [])) (sym (is ∙ past))
           (past_first (list_any (is_same_case Default) (entries_of arms)) none)))
 
-next_at : (p : ℕ) (g h : Node) (t : Bool) (u : RunExtent) (x : List Step) → (IsNext p g u x → IsNext p h u x) → IsNext p (cond t h g) u x → IsNext p h u x
+next_at : (p : ℕ) (g h : Node) (t : Bool) (u : RunExtent) (x : List SegmentStep) → (IsNextSegment p g u x → IsNextSegment p h u x) →
+    IsNextSegment p (cond t h g) u x → IsNextSegment p h u x
 next_at p g h true u x each i = i
 next_at p g h false u x each i = each i
 
-next_behind : (p : ℕ) (l : CaseLabel) (arms : Arms) (u : RunExtent) (x : List Step) → IsNext p (row_behind l arms) u x → IsNext p (arms_row arms) u x
+next_behind : (p : ℕ) (l : CaseLabel) (arms : Arms) (u : RunExtent) (x : List SegmentStep) → IsNextSegment p (row_behind l arms) u x →
+    IsNextSegment p (arms_row arms) u x
 next_behind p l no_arms u x i = i
 next_behind p l (entry k arms) u x i = next_at p (row_behind l arms) (arms_row arms) (is_same_case l k) u x (next_behind p l arms u x) i
 next_behind p l (arm g arms) u x i = next_in_second p g (arms_row arms) u x (next_behind p l arms u x i)
 
-select_next : (p q base : ℕ) (e : Expr) (l : CaseLabel) (arms : Arms) (u : RunExtent) (x : List Step) → IsNext p (row_behind l arms) u x
-    → IsNext p (select q base e arms) u x
+select_next : (p q base : ℕ) (e : Expr) (l : CaseLabel) (arms : Arms) (u : RunExtent) (x : List SegmentStep) → IsNextSegment p (row_behind l arms) u x
+    → IsNextSegment p (select q base e arms) u x
 select_next p q base e l arms u x i = by u (next_behind p l arms u x i)
   where
-    by : (u : RunExtent) → IsNext p (arms_row arms) u x → IsNext p (select q base e arms) u x
+    by : (u : RunExtent) → IsNextSegment p (arms_row arms) u x → IsNextSegment p (select q base e arms) u x
     by to_end i = subst (λ xs. Contains xs (record { source = p; ops = x })) (outs_row arms normal) i
     by (stopped (by_jump j)) i = subst (λ xs. Contains xs (record { source = p; ops = x })) (outs_row arms (jump j)) i
-    by (stopped (to_point r)) i = subst (λ xs. Contains xs (record { source = p; way = record { ops = x; goal = comes_to r } })) (inside_row arms) i
-    by (stopped (to_failure r)) i = subst (λ xs. Contains xs (record { source = p; way = record { ops = x; goal = denies r } })) (inside_row arms) i
+    by (stopped (to_point r)) i = subst (λ xs. Contains xs (record { source = p; to_goal = record { ops = x; goal = comes_to r } })) (inside_row arms) i
+    by (stopped (to_failure r)) i = subst (λ xs. Contains xs (record { source = p; to_goal = record { ops = x; goal = violates r } })) (inside_row arms) i
 
 -- runs -------------------------------------------------------------------------------------------------------------------
 
@@ -303,9 +314,9 @@ module _ {A : Type 0} (name : ℕ → A) where
   G = RunsUpTo name NoChange
 
   -- where only the ways and what was met before are other ones
-  lifted : (g h : Node) (a : Trace A) (u v : RunExtent) (b : Trace A) → ((x : List Step) → IsFirst g u x → IsFirst h v x) →
-      ((p : ℕ) (x : List Step) → IsNext p g u x → IsNext p h v x)
-      → ((x : List Step) (s t : State) → LeadsSo u x s t → LeadsSo v x s t) →
+  lifted : (g h : Node) (a : Trace A) (u v : RunExtent) (b : Trace A) → ((x : List SegmentStep) → IsFirstSegment g u x → IsFirstSegment h v x) →
+      ((p : ℕ) (x : List SegmentStep) → IsNextSegment p g u x → IsNextSegment p h v x)
+      → ((x : List SegmentStep) (s t : State) → LeadsSo u x s t → LeadsSo v x s t) →
       ((p : ℕ) (d : Trace A) → G g a (stopped (to_point p)) d → G h a (stopped (to_point p)) d)
       → HasGone name g a u b → HasGone name h a v b
   lifted g h a u v b first next leads at (along_first x e i l) = along_first x e (first x i) (leads x a.state b.state l)
@@ -313,10 +324,10 @@ module _ {A : Type 0} (name : ℕ → A) where
       (next p x i) (leads x m b.state l)
 
   -- past a point, and then along a way of the tree h
-  past : (q : ℕ) (g h : Node) (a w : Trace A) (u v : RunExtent) (b : Trace A) (step : Step) → w.events ≡ visit (name q) a.state ∷ a.events
-      → RunsStep step a.state w.state → ((x : List Step) → IsFirst g u x → IsNext q h v (step ∷ x))
-      → ((p : ℕ) (x : List Step) → IsNext p g u x → IsNext p h v x)
-      → ((x : List Step) (s t : State) → LeadsSo u x s t → LeadsSo v x s t) → (c : Trace A) → G h c (stopped (to_point q)) a
+  past : (q : ℕ) (g h : Node) (a w : Trace A) (u v : RunExtent) (b : Trace A) (step : SegmentStep) → w.events ≡ visit (name q) a.state ∷ a.events
+      → RunsStep step a.state w.state → ((x : List SegmentStep) → IsFirstSegment g u x → IsNextSegment q h v (step ∷ x))
+      → ((p : ℕ) (x : List SegmentStep) → IsNextSegment p g u x → IsNextSegment p h v x)
+      → ((x : List SegmentStep) (s t : State) → LeadsSo u x s t → LeadsSo v x s t) → (c : Trace A) → G h c (stopped (to_point q)) a
       → ((p : ℕ) (d : Trace A) → G g w (stopped (to_point p)) d → G h c (stopped (to_point p)) d) → HasGone name g w u b → HasGone name h c v b
   past q g h a w u v b step met o first next leads c here at (along_first x e i l) =
       along_next q a.state a.events (step ∷ x) (e ∙ met) here (first x i) (so_led v step x a.state w.state b.state o (leads x w.state b.state l))
@@ -332,8 +343,9 @@ module _ {A : Type 0} (name : ℕ → A) where
       along_next p s before (x ++ y) (f ∙ e) (inl t) (next_then_first p g h u x y i j) (so_behind u x y s m.state b.state l k)
   in_turn g h a m u b r one (along_next p s before y f t j k) = along_next p s before y f (inr (m, r, t)) (next_in_second p g h u y j) k
 
-  after_step : (g : Node) (a m : Trace A) (u : RunExtent) (b : Trace A) (step : Step) (tree : Node) → RunsStep step a.state m.state → m.events ≡ a.events
-      → ((x : List Step) → IsFirst g u x → IsFirst tree u (step ∷ x)) → ((p : ℕ) (x : List Step) → IsNext p g u x → IsNext p tree u x)
+  after_step : (g : Node) (a m : Trace A) (u : RunExtent) (b : Trace A) (step : SegmentStep) (tree : Node) → RunsStep step a.state m.state → m.events ≡ a.events
+      → ((x : List SegmentStep) → IsFirstSegment g u x → IsFirstSegment tree u (step ∷ x)) →
+      ((p : ℕ) (x : List SegmentStep) → IsNextSegment p g u x → IsNextSegment p tree u x)
       → ((p : ℕ) (d : Trace A) → G g m (stopped (to_point p)) d → G tree a (stopped (to_point p)) d) → HasGone name g m u b → HasGone name tree a u b
   after_step g a m u b step tree o met first next at (along_first x e i l) = along_first (step ∷ x) (e ∙ met) (first x i)
       (so_led u step x a.state m.state b.state o l)
@@ -423,12 +435,13 @@ module _ {A : Type 0} (name : ℕ → A) where
         (λ x s t l. l) a
         (n, m, r, inl (refl, refl)) (λ p d y. (n, m, r, inr (w, t, y))) (came g w (stopped z) b x)
     came (catch q k g) a to_end b (inl x) =
-        lifted g (catch q k g) a to_end to_end b (λ x i. Contains-append_left (through g normal) _ x i) (λ p x i. Contains-append_left (outs g normal) _ _ i)
+        lifted g (catch q k g) a to_end to_end b (λ x i. Contains-append_left (through g normal) _ x i)
+        (λ p x i. Contains-append_left (exit_suffixes g normal) _ _ i)
         (λ x s t l. l)
         (λ p d y. (not_jump p k, y)) (came g a to_end b x)
     came (catch q k g) a to_end b (inr x) =
         lifted g (catch q k g) a (stopped (by_jump k)) to_end b (λ x i. Contains-append_right _ (through g (jump k)) x i)
-        (λ p x i. Contains-append_right _ (outs g (jump k)) _ i) (λ x s t l. l)
+        (λ p x i. Contains-append_right _ (exit_suffixes g (jump k)) _ i) (λ x s t l. l)
         (λ p d y. (not_jump p k, y)) (came g a (stopped (by_jump k)) b x)
     came (catch q k g) a (stopped z) b (n, x) =
         lifted g (catch q k g) a (stopped z) (stopped z) b (λ x i. first_passed q k g z x n i) (λ p x i. next_passed p q k g z x n i) (λ x s t l. l)
@@ -437,7 +450,7 @@ module _ {A : Type 0} (name : ℕ → A) where
     came (leave n k) a (stopped z) b (i, e) =
         subst (λ y. HasGone name (leave n k) a (stopped y) b) (sym i)
         (along_first [] (ap (λ (t : Trace A). t.events) e)
-        (subst (λ c. Contains {X = List Step} (if c then [] ∷ [] else []) []) (sym (same k)) (contains_head [] []))
+        (subst (λ c. Contains {X = List SegmentStep} (if c then [] ∷ [] else []) []) (sym (same k)) (contains_head [] []))
         (ap (λ (t : Trace A). t.state) e))
     came (select q base e arms) a u b (l, m, (found, met), x) =
         after_step (row_behind l arms) a m u b (goes_in base e arms l) (select q base e arms) found met

@@ -17,14 +17,14 @@ use Rattle.lra_operations.specs.Tree.{Node}
 use Rattle.lra_operations.specs.Traces.{to_point, to_failure, stopped}
 use Rattle.lra_operations.specs.Agree.{point_of}
 use Rattle.lra_operations.specs.TracesAgree.{point_at, point_or_none, TreeRunsUpTo}
-use Rattle.lra_ways.specs.Ways.{Step, Goal, comes_to, denies, Way, Segment, enter, inside}
-use Rattle.lra_sides.specs.Sides.{written}
-use Rattle.lra_paths.specs.Paths.{same_goal, live_of, live_at, from_start, first_ways, next_segments, leading}
-use Rattle.lra_paths.specs.Covers.{HasGone, along_first, along_next, PathsCover, AreKept, HoldInAllRuns}
+use Rattle.lra_path_segments.specs.Segments.{SegmentStep, Goal, comes_to, violates, GoalSegment, Segment, enter, inside}
+use Rattle.lra_path_disjuncts.specs.Disjuncts.{written}
+use Rattle.lra_paths.specs.Paths.{same_goal, live_of, live_at, from_start, first_segments, next_segments, actions_between}
+use Rattle.lra_paths.specs.Covers.{HasGone, along_first, along_next, PathsCover, AreInductiveAlong, HoldInAllRuns}
 use Rattle.lra_paths.proofs.Came.{came}
 use Rattle.lra_paths.proofs.FollowedRuns.{FollowsRuns}
-use Rattle.lra_sides.proofs.SideSteps.{some_left, some_right}
-use Rattle.lra_sides.proofs.WrittenSteps.{written_from}
+use Rattle.lra_path_disjuncts.proofs.SideSteps.{some_left, some_right}
+use Rattle.lra_path_disjuncts.proofs.WrittenSteps.{written_from}
 use Rattle.lra_paths.proofs.StartSteps.{start_leads}
 
 -- members ----------------------------------------------------------------------------------------------------------------
@@ -41,29 +41,30 @@ same_self n = eq-eqb n n refl
 
 goal_self : (goal : Goal) → same_goal goal goal ≡ true
 goal_self (comes_to q) = same_self q
-goal_self (denies q) = same_self q
+goal_self (violates q) = same_self q
 
-first_leads : (P : Program) (g : Node) (ops : List Step) (goal : Goal) (s t : List ℤ) → Contains (enter g) (record { ops = ops; goal = goal }) → SomeLeads
-    (from_start P ops) s t → SomeLeads (leading P g 0 goal) s t
+first_leads : (P : Program) (g : Node) (ops : List SegmentStep) (goal : Goal) (s t : List ℤ) → Contains (enter g) (record { ops = ops; goal = goal }) →
+    SomeLeads
+    (from_start P ops) s t → SomeLeads (actions_between P g 0 goal) s t
 first_leads P g ops goal s t k led =
-    one_leads (λ (way : Way). from_start P way.ops) (first_ways g goal) (record { ops = ops; goal = goal }) s t
-    (filter_has (λ (way : Way). same_goal way.goal goal) (enter g) (record { ops = ops; goal = goal }) k (goal_self goal)) led
+    one_leads (λ (way : GoalSegment). from_start P way.ops) (first_segments g goal) (record { ops = ops; goal = goal }) s t
+    (filter_has (λ (way : GoalSegment). same_goal way.goal goal) (enter g) (record { ops = ops; goal = goal }) k (goal_self goal)) led
 
-next_leads : (P : Program) (g : Node) (p : ℕ) (ops : List Step) (goal : Goal) (s t : List ℤ) → Contains (inside g)
-    (record { source = p; way = record { ops = ops; goal = goal } })
-    → SomeLeads (written (live_at P p) ops) s t → SomeLeads (leading P g (suc p) goal) s t
+next_leads : (P : Program) (g : Node) (p : ℕ) (ops : List SegmentStep) (goal : Goal) (s t : List ℤ) → Contains (inside g)
+    (record { source = p; to_goal = record { ops = ops; goal = goal } })
+    → SomeLeads (written (live_at P p) ops) s t → SomeLeads (actions_between P g (suc p) goal) s t
 next_leads P g p ops goal s t k led =
-    one_leads (λ (segment : Segment). written (live_at P p) segment.way.ops) (next_segments g p goal) (record {
+    one_leads (λ (segment : Segment). written (live_at P p) segment.to_goal.ops) (next_segments g p goal) (record {
       source = p;
-      way = record {
+      to_goal = record {
         ops = ops;
         goal =
             goal;
       };
     }) s t
-    (filter_has (λ (segment : Segment). nat_eq segment.source p && same_goal segment.way.goal goal) (inside g) (record {
+    (filter_has (λ (segment : Segment). nat_eq segment.source p && same_goal segment.to_goal.goal goal) (inside g) (record {
       source = p;
-      way = record {
+      to_goal = record {
         ops = ops;
         goal = goal;
       };
@@ -113,14 +114,14 @@ module _ (P : Program) (g : Node) (has : FollowsRuns P g) where
 
   from_nothing : (draws : List ℤ) (q : ℕ) (a : Trace Point) → a.events ≡ [] → HasGone (point_at T) g (record { state = begun P draws; events = [] })
       (stopped (to_point q)) a
-      → SomeLeads (leading P g 0 (comes_to q)) [] a.state.store
+      → SomeLeads (actions_between P g 0 (comes_to q)) [] a.state.store
   from_nothing draws q a e (along_first ops same first leads) = first_leads P g ops (comes_to q) [] a.state.store first
       (start_leads P has.globals ops draws a.state leads)
   from_nothing draws q a e (along_next p m before ops met there next leads) = absurd (nothing (visit (point_at T p) m) before (sym e ∙ met))
 
   starts : (draws : List ℤ) (n : ℕ) (d : Config) (q : ℕ) (s : Site) → slice_get T q ≡ Some s → TracedSteps NoChange P n (start P draws) [] d [] →
       IsOn d (point_of s)
-      → SomeLeads (leading P g 0 (comes_to q)) [] d.state.store
+      → SomeLeads (actions_between P g 0 (comes_to q)) [] d.state.store
   starts draws n d q s at w on =
       let a : Trace Point = record { state = d.state; events = [] } in
       from_nothing draws q a refl (came (point_at T) g (record { state = begun P draws; events = [] }) (stopped (to_point q)) a
@@ -130,7 +131,7 @@ module _ (P : Program) (g : Node) (has : FollowsRuns P g) where
 
   from_last : (draws : List ℤ) (p q : ℕ) (r : Site) (m : State) (before : List (TraceEvent Point)) (a : Trace Point) → slice_get T p ≡ Some r → a.events ≡ visit
       (point_of r) m ∷ before
-      → HasGone (point_at T) g (record { state = begun P draws; events = [] }) (stopped (to_point q)) a → SomeLeads (leading P g (suc p) (comes_to q))
+      → HasGone (point_at T) g (record { state = begun P draws; events = [] }) (stopped (to_point q)) a → SomeLeads (actions_between P g (suc p) (comes_to q))
       m.store a.state.store
   from_last draws p q r m before a at e (along_first ops same first leads) = absurd (nothing (visit (point_of r) m) before (sym same ∙ e))
   from_last draws p q r m before a at e (along_next p1 m1 before1 ops met there next leads) =
@@ -139,12 +140,12 @@ module _ (P : Program) (g : Node) (has : FollowsRuns P g) where
       let state = ap (state_met m) (sym e ∙ met) in
       let led = next_leads P g p1 ops (comes_to q) m1.store a.state.store next
       (written_from ops (live_at P p1) m1 a.state (wide p1 s1 draws m1 before1 at1 there) leads) in
-      subst (λ n. SomeLeads (leading P g (suc n) (comes_to q)) m.store a.state.store) (sym number)
-      (subst (λ (u : State). SomeLeads (leading P g (suc p1) (comes_to q)) u.store a.state.store) (sym state) led)
+      subst (λ n. SomeLeads (actions_between P g (suc n) (comes_to q)) m.store a.state.store) (sym number)
+      (subst (λ (u : State). SomeLeads (actions_between P g (suc p1) (comes_to q)) u.store a.state.store) (sym state) led)
 
   goes : (c d : Config) (p q : ℕ) (r s : Site) → slice_get T p ≡ Some r → slice_get T q ≡ Some s → Reaches P c → RunSegment NoChange P (point_of r) c d → IsOn d
       (point_of s)
-      → SomeLeads (leading P g (suc p) (comes_to q)) c.state.store d.state.store
+      → SomeLeads (actions_between P g (suc p) (comes_to q)) c.state.store d.state.store
   goes c d p q r s at there run (on, n, piece) on_next =
       let (xs, w) = walk_of P run.length (start P run.draws) c [] run.steps in
       let a : Trace Point = record { state = d.state; events = visit (point_of r) c.state ∷ xs } in
@@ -157,17 +158,17 @@ module _ (P : Program) (g : Node) (has : FollowsRuns P g) where
 
   from_denied : (draws : List ℤ) (q : ℕ) (s : Site) (m : State) (before : List (TraceEvent Point)) (a : Trace Point) → slice_get T q ≡ Some s → a.events ≡ visit
       (point_of s) m ∷ before
-      → HasGone (point_at T) g (record { state = begun P draws; events = [] }) (stopped (to_failure q)) a → SomeLeads (leading P g (suc q) (denies q))
+      → HasGone (point_at T) g (record { state = begun P draws; events = [] }) (stopped (to_failure q)) a → SomeLeads (actions_between P g (suc q) (violates q))
       m.store a.state.store
   from_denied draws q s m before a at e (along_first ops same first leads) = absurd (nothing (visit (point_of s) m) before (sym same ∙ e))
   from_denied draws q s m before a at e (along_next p1 m1 before1 ops met there next (u, leads, store)) =
       let (s1, at1) = has.points p1 draws (record { state = m1; events = before1 }) there in
       let number = one_number q p1 s s1 at at1 (ap (point_met (point_of s)) (sym e ∙ met)) in
       let state = ap (state_met m) (sym e ∙ met) in
-      let led = next_leads P g p1 ops (denies q) m1.store u.store next (written_from ops (live_at P p1) m1 u (wide p1 s1 draws m1 before1 at1 there) leads) in
-      subst (λ n. SomeLeads (leading P g (suc n) (denies q)) m.store a.state.store) (sym number)
-      (subst (λ (v : State). SomeLeads (leading P g (suc p1) (denies q)) v.store a.state.store) (sym state)
-      (subst (λ (t : List ℤ). SomeLeads (leading P g (suc p1) (denies q)) m1.store t) store led))
+      let led = next_leads P g p1 ops (violates q) m1.store u.store next (written_from ops (live_at P p1) m1 u (wide p1 s1 draws m1 before1 at1 there) leads) in
+      subst (λ n. SomeLeads (actions_between P g (suc n) (violates q)) m.store a.state.store) (sym number)
+      (subst (λ (v : State). SomeLeads (actions_between P g (suc p1) (violates q)) v.store a.state.store) (sym state)
+      (subst (λ (t : List ℤ). SomeLeads (actions_between P g (suc p1) (violates q)) m1.store t) store led))
 
   -- on the trail of the run
   failing : (c : Config) (q : ℕ) (s : Site) (run : Reaches P c) → slice_get T q ≡ Some s → IsOn c (point_of s) → IsFailing c.items c.here c.state
@@ -181,18 +182,18 @@ module _ (P : Program) (g : Node) (has : FollowsRuns P g) where
       )
 
   denied : (c : Config) (q : ℕ) (s : Site) → slice_get T q ≡ Some s → Reaches P c → IsOn c (point_of s) → IsFailing c.items c.here c.state
-      → SomeLeads (leading P g (suc q) (denies q)) c.state.store c.state.store
+      → SomeLeads (actions_between P g (suc q) (violates q)) c.state.store c.state.store
   denied c q s at run on false_there =
       let (xs, x) = failing c q s run at on false_there in
       let a : Trace Point = record { state = c.state; events = visit (point_of s) c.state ∷ xs } in
       from_denied run.draws q s c.state xs a at refl (came (point_at T) g (record { state = begun P run.draws; events = [] }) (stopped (to_failure q)) a x)
 
   pub paths_cover : PathsCover P g
-  paths_cover = record { starts = starts; goes = goes; denied = denied }
+  paths_cover = record { starts = starts; goes = goes; violated = denied }
 
   -- what paths keep --------------------------------------------------------------------------------------------------
 
-  module _ (holds : Goal → List ℤ → Type 0) (k : AreKept P g holds) where
+  module _ (holds : Goal → List ℤ → Type 0) (k : AreInductiveAlong P g holds) where
     -- along a trail, from its end back
     kept_on : (xs : List (TraceEvent Point)) (draws : List ℤ) (q : ℕ) (a : Trace Point) → a.events ≡ xs → TreeRunsUpTo NoChange P g draws (to_point q) a →
         holds (comes_to q)
@@ -216,15 +217,15 @@ module _ (P : Program) (g : Node) (has : FollowsRuns P g) where
 
     kept_denied : (draws : List ℤ) (q : ℕ) (r : Site) (a : Trace Point) → slice_get T q ≡ Some r
         → HasGone (point_at T) g (record { state = begun P draws; events = [] }) (stopped (to_failure q)) a
-        → (store : List ℤ) × holds (denies q) store
+        → (store : List ℤ) × holds (violates q) store
     kept_denied draws q r a is (along_first ops same first (u, leads, store)) =
-        (u.store, k.first (denies q) u.store (r, is) (first_leads P g ops (denies q) [] u.store first (start_leads P has.globals ops draws u leads)))
+        (u.store, k.first (violates q) u.store (r, is) (first_leads P g ops (violates q) [] u.store first (start_leads P has.globals ops draws u leads)))
     kept_denied draws q r a is (along_next p m before ops met there next (u, leads, store)) =
         let b : Trace Point = record { state = m; events = before } in
         let (s, at) = has.points p draws b there in (
           u.store,
-          k.next p s (denies q) m.store u.store at (wide p s draws m before at there) (r, is) (kept_on before draws p b refl there)
-              (next_leads P g p ops (denies q) m.store u.store next (written_from ops (live_at P p) m u (wide p s draws m before at there) leads)),
+          k.next p s (violates q) m.store u.store at (wide p s draws m before at there) (r, is) (kept_on before draws p b refl there)
+              (next_leads P g p ops (violates q) m.store u.store next (written_from ops (live_at P p) m u (wide p s draws m before at there) leads)),
         )
 
     comes : (q : ℕ) (s : Site) (store : List ℤ) → slice_get T q ≡ Some s → At P (point_of s) store → holds (comes_to q) store
@@ -233,7 +234,7 @@ module _ (P : Program) (g : Node) (has : FollowsRuns P g) where
         let a : Trace Point = record { state = c.state; events = xs } in
         subst (λ t. holds (comes_to q) t) same (kept_on xs run.draws q a refl ((has.trails.comes q s run.draws a at).0 (run.length, c, w, on, refl)))
 
-    fails : (q : ℕ) (s : Site) → slice_get T q ≡ Some s → Fails P (point_of s) → (store : List ℤ) × holds (denies q) store
+    fails : (q : ℕ) (s : Site) → slice_get T q ≡ Some s → Fails P (point_of s) → (store : List ℤ) × holds (violates q) store
     fails q s at (c, run, on, false_there) =
         let (xs, x) = failing c q s run at on false_there in
         let a : Trace Point = record { state = c.state; events = visit (point_of s) c.state ∷ xs } in

@@ -5,11 +5,11 @@ use Rattle.lra_program.specs.Program.{Program}
 use Rattle.lra_program.specs.WellFormed.{IsWellFormed}
 use Rattle.lra_operations.specs.Tree.{Node}
 use Rattle.lra_operations.specs.Agree.{IsInlinedTree}
-use Rattle.lra_ways.specs.Ways.{Goal}
+use Rattle.lra_path_segments.specs.Segments.{Goal}
 use Rattle.lra_program.specs.Traces.{Trace, NoChange}
 use Rattle.lra_operations.specs.Traces.{RunExtent, RunsUpTo}
 use Rattle.lra_paths.proofs.Came.{came}
-use Rattle.lra_paths.specs.Covers.{HasGone, PathsCover, AreKept, HoldInAllRuns}
+use Rattle.lra_paths.specs.Covers.{HasGone, PathsCover, AreInductiveAlong, HoldInAllRuns}
 use Rattle.lra_paths.proofs.FollowedRuns.{graphs_follow_runs}
 use Rattle.lra_paths.proofs.CoverSteps.{paths_cover, kept}
 
@@ -17,7 +17,7 @@ pub all_paths_cover : (P : Program) (g : Node) → IsWellFormed P → IsInlinedT
 all_paths_cover P g well is = paths_cover P g (graphs_follow_runs P g well is)
 
 pub what_is_kept : (P : Program) (g : Node) → IsWellFormed P → IsInlinedTree P g → (holds : Goal → List ℤ → Bool) →
-    AreKept P g (λ goal t. IsTrue (holds goal t)) →
+    AreInductiveAlong P g (λ goal t. IsTrue (holds goal t)) →
     HoldInAllRuns P (λ goal t. IsTrue (holds goal t))
 what_is_kept P g well is holds k = kept P g (graphs_follow_runs P g well is) (λ goal t. IsTrue (holds goal t)) k
 

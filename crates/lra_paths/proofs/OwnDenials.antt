@@ -22,12 +22,13 @@ use Rattle.lra_operations.specs.Inlined.{as_nothing, as_block, as_absent, as_ass
 use Rattle.lra_operations.specs.Inlined.{as_break, as_continue, as_return, as_return_value, as_return_call, as_end, as_end_value, as_end_call, as_assert}
 use Rattle.lra_operations.specs.Inlined.{as_switch, as_no_cases, as_labelled, as_stated}
 use Rattle.lra_operations.specs.Inlined.{as_assume, as_none, as_declaration, as_array, as_statement, as_fresh, as_given, is_loop, as_value, as_result, is_call}
-use Rattle.lra_ways.specs.Ways.{Step, does, goes_in, led_way, enter_arms, enter_labels}
-use Rattle.lra_ways.specs.Ways.{Goal, comes_to, denies, Way, Segment, then_way, segment_by, tested_way, into_body, out_of_body, segment_to, through, enter}
-use Rattle.lra_ways.specs.Ways.{outs, inside, Suffix, then_ways, segments_by}
-use Rattle.lra_ways.proofs.LabelLaws.{enter_row, inside_row}
-use Rattle.lra_sides.specs.Sides.{written}
-use Rattle.lra_paths.specs.Paths.{same_goal, started, live_at, leading, path_by, paths_between, denials_of}
+use Rattle.lra_path_segments.specs.Segments.{SegmentStep, does, goes_in, prepend_step_to_goal, enter_arms, enter_labels}
+use Rattle.lra_path_segments.specs.Segments.{Goal, comes_to, violates, GoalSegment, Segment, then_way, segment_by, tested_way, into_body, out_of_body}
+use Rattle.lra_path_segments.specs.Segments.{segment_to, through, enter}
+use Rattle.lra_path_segments.specs.Segments.{exit_suffixes, inside, Suffix, then_ways, segments_by}
+use Rattle.lra_path_segments.proofs.LabelLaws.{enter_row, inside_row}
+use Rattle.lra_path_disjuncts.specs.Disjuncts.{written}
+use Rattle.lra_paths.specs.Paths.{same_goal, started, live_at, actions_between, path_by, paths_between, violations_of}
 
 -- lists ------------------------------------------------------------------------------------------------------------------
 
@@ -70,22 +71,22 @@ module _ {B : Type 0} (f : ℕ → List B) (p : ℕ) (h : (k : ℕ) → k ≢ p 
 -- it is a point
 abbrev IsPoint : Goal → Type 0
 IsPoint (comes_to q) = Unit {0}
-IsPoint (denies q) = ⊥
+IsPoint (violates q) = ⊥
 
 -- or where the assertion at this point is false
 abbrev IsOwn : ℕ → Goal → Type 0
 IsOwn p (comes_to q) = Unit {0}
-IsOwn p (denies q) = p ≡ q
+IsOwn p (violates q) = p ≡ q
 
 point_own : (p : ℕ) (goal : Goal) → IsPoint goal → IsOwn p goal
 point_own p (comes_to q) h = tt
-point_own p (denies q) h = absurd h
+point_own p (violates q) h = absurd h
 
-abbrev EndsAtPoint : Way → Type 0
+abbrev EndsAtPoint : GoalSegment → Type 0
 EndsAtPoint way = IsPoint way.goal
 
 abbrev EndsAtOwn : Segment → Type 0
-EndsAtOwn segment = IsOwn segment.source segment.way.goal
+EndsAtOwn segment = IsOwn segment.source segment.to_goal.goal
 
 -- the ways of a tree from its start, and from its points
 pub record AreOwn (g : Node) : Type 0 where
@@ -111,19 +112,19 @@ own_leave n k = record { first = All-nil EndsAtPoint; next = All-nil EndsAtOwn }
 own_check : (q base : ℕ) (c : Cond) → AreOwn (seq (point q) (check q base c))
 own_check q base c = record {
   first = All-cons EndsAtPoint (record { ops = []; goal = comes_to q }) [] tt (All-nil EndsAtPoint);
-  next = All-cons EndsAtOwn (record { source = q; way = record { ops = does (test base c false) ∷ []; goal = denies q } }) [] refl (All-nil EndsAtOwn);
+  next = All-cons EndsAtOwn (record { source = q; to_goal = record { ops = does (test base c false) ∷ []; goal = violates q } }) [] refl (All-nil EndsAtOwn);
 }
 
 own_seq : (a b : Node) → AreOwn a → AreOwn b → AreOwn (seq a b)
 own_seq a b x y =
-    let first = all_flat EndsAtPoint EndsAtPoint (λ (way : Way). map (then_way way) (through a normal))
-    (λ (way : Way) h. any_made EndsAtPoint (then_way way) (λ ops. h) (through a normal)) (enter b) y.first in
-    let next = all_flat EndsAtPoint EndsAtOwn (λ (way : Way). map (segment_by way) (outs a normal))
-    (λ (way : Way) h. any_made EndsAtOwn (segment_by way) (λ (z : Suffix). point_own z.source way.goal h) (outs a normal)) (enter b) y.first in
+    let first = all_flat EndsAtPoint EndsAtPoint (λ (way : GoalSegment). map (then_way way) (through a normal))
+    (λ (way : GoalSegment) h. any_made EndsAtPoint (then_way way) (λ ops. h) (through a normal)) (enter b) y.first in
+    let next = all_flat EndsAtPoint EndsAtOwn (λ (way : GoalSegment). map (segment_by way) (exit_suffixes a normal))
+    (λ (way : GoalSegment) h. any_made EndsAtOwn (segment_by way) (λ (z : Suffix). point_own z.source way.goal h) (exit_suffixes a normal)) (enter b) y.first in
     record {
       first = All-append EndsAtPoint (enter a) (then_ways (through a normal) (enter b)) x.first first;
-      next = All-append EndsAtOwn (inside a ++ segments_by (outs a normal) (enter b)) (inside b)
-          (All-append EndsAtOwn (inside a) (segments_by (outs a normal) (enter b)) x.next next) y.next;
+      next = All-append EndsAtOwn (inside a ++ segments_by (exit_suffixes a normal) (enter b)) (inside b)
+          (All-append EndsAtOwn (inside a) (segments_by (exit_suffixes a normal) (enter b)) x.next next) y.next;
     }
 
 own_choose : (q base : ℕ) (c : Cond) (a b : Node) → AreOwn a → AreOwn b → AreOwn (choose q base c a b)
@@ -138,10 +139,10 @@ own_iterate : (q base : ℕ) (c : Cond) (a : Node) → AreOwn a → AreOwn (iter
 own_iterate q base c a x =
     let entering : List Segment = map (into_body q base c) (enter a) in
     let round : List Segment = map (λ ops. segment_to q (out_of_body q base c ops)) (through a normal) in
-    let back : List Segment = map (segment_to q) (outs a normal) in
-    let one = all_made EndsAtPoint EndsAtOwn (into_body q base c) (λ (way : Way) h. point_own q way.goal h) (enter a) x.first in
+    let back : List Segment = map (segment_to q) (exit_suffixes a normal) in
+    let one = all_made EndsAtPoint EndsAtOwn (into_body q base c) (λ (way : GoalSegment) h. point_own q way.goal h) (enter a) x.first in
     let two = any_made EndsAtOwn (λ ops. segment_to q (out_of_body q base c ops)) (λ ops. tt) (through a normal) in
-    let three = any_made EndsAtOwn (segment_to q) (λ z. tt) (outs a normal) in
+    let three = any_made EndsAtOwn (segment_to q) (λ z. tt) (exit_suffixes a normal) in
     record {
       first = All-cons EndsAtPoint (record { ops = []; goal = comes_to q }) [] tt (All-nil EndsAtPoint);
       next = All-append EndsAtOwn ((entering ++ round) ++ back) (inside a)
@@ -154,7 +155,7 @@ own_catch q k a x = record { first = x.first; next = x.next }
 -- arms: of their trees in a row, and from their labels
 record ArmsOwn (arms : Arms) : Type 0 where
   row : AreOwn (arms_row arms)
-  labels : (go : CaseLabel → Step) → All EndsAtPoint (enter_labels go arms)
+  labels : (go : CaseLabel → SegmentStep) → All EndsAtPoint (enter_labels go arms)
 
 own_no_arms : ArmsOwn no_arms
 own_no_arms = record { row = own_empty; labels = λ go. All-nil EndsAtPoint }
@@ -162,8 +163,9 @@ own_no_arms = record { row = own_empty; labels = λ go. All-nil EndsAtPoint }
 own_entry : (l : CaseLabel) (arms : Arms) → ArmsOwn arms → ArmsOwn (entry l arms)
 own_entry l arms x = record {
   row = x.row;
-  labels = λ go. All-append EndsAtPoint (map (led_way (go l)) (enter_arms arms)) (enter_labels go arms)
-      (all_made EndsAtPoint EndsAtPoint (led_way (go l)) (λ way h. h) (enter_arms arms) (subst (All EndsAtPoint) (enter_row arms) x.row.first)) (x.labels go);
+  labels = λ go. All-append EndsAtPoint (map (prepend_step_to_goal (go l)) (enter_arms arms)) (enter_labels go arms)
+      (all_made EndsAtPoint EndsAtPoint (prepend_step_to_goal (go l)) (λ way h. h) (enter_arms arms) (subst (All EndsAtPoint) (enter_row arms) x.row.first))
+      (x.labels go);
 }
 
 own_arm : (a : Node) (arms : Arms) → AreOwn a → ArmsOwn arms → ArmsOwn (arm a arms)
@@ -242,28 +244,29 @@ not_false : (b : Bool) → (b && false) ≡ false
 not_false true = refl
 not_false false = refl
 
-point_denied : (goal : Goal) (q : ℕ) → IsPoint goal → same_goal goal (denies q) ≡ false
+point_denied : (goal : Goal) (q : ℕ) → IsPoint goal → same_goal goal (violates q) ≡ false
 point_denied (comes_to p) q h = refl
-point_denied (denies p) q h = absurd h
+point_denied (violates p) q h = absurd h
 
-other_denied : (s p q : ℕ) (goal : Goal) → p ≢ q → IsOwn s goal → (nat_eq s p && same_goal goal (denies q)) ≡ false
+other_denied : (s p q : ℕ) (goal : Goal) → p ≢ q → IsOwn s goal → (nat_eq s p && same_goal goal (violates q)) ≡ false
 other_denied s p q (comes_to r) other h = not_false (nat_eq s p)
-other_denied s p q (denies r) other h = never_both (nat_eq s p) (nat_eq r q) (λ b d. other (sym (eqb-true s p b) ∙ h ∙ eqb-true r q d))
+other_denied s p q (violates r) other h = never_both (nat_eq s p) (nat_eq r q) (λ b d. other (sym (eqb-true s p b) ∙ h ∙ eqb-true r q d))
 
 module _ (P : Program) (g : Node) (is : IsInlinedTree P g) (q : ℕ) where
-  none_lead : (p : ℕ) → p ≢ suc q → leading P g p (denies q) ≡ []
-  none_lead zero other = ap (flat_map (λ (way : Way). started P.globals way.ops))
-      (none_pass (λ (way : Way). same_goal way.goal (denies q)) (enter g)
-      (All-weaker EndsAtPoint (λ (way : Way). same_goal way.goal (denies q) ≡ false) (λ (way : Way) h. point_denied way.goal q h) (enter g)
+  none_lead : (p : ℕ) → p ≢ suc q → actions_between P g p (violates q) ≡ []
+  none_lead zero other = ap (flat_map (λ (way : GoalSegment). started P.globals way.ops))
+      (none_pass (λ (way : GoalSegment). same_goal way.goal (violates q)) (enter g)
+      (All-weaker EndsAtPoint (λ (way : GoalSegment). same_goal way.goal (violates q) ≡ false) (λ (way : GoalSegment) h. point_denied way.goal q h) (enter g)
       (own_graph P g is).first))
-  none_lead (suc p) other = ap (flat_map (λ (segment : Segment). written (live_at P p) segment.way.ops))
-      (none_pass (λ (segment : Segment). nat_eq segment.source p && same_goal segment.way.goal (denies q)) (inside g)
-      (All-weaker EndsAtOwn (λ (segment : Segment). (nat_eq segment.source p && same_goal segment.way.goal (denies q)) ≡ false)
-      (λ (segment : Segment) h. other_denied segment.source p q segment.way.goal (λ e. other (ap suc e)) h) (inside g) (own_graph P g is).next))
+  none_lead (suc p) other = ap (flat_map (λ (segment : Segment). written (live_at P p) segment.to_goal.ops))
+      (none_pass (λ (segment : Segment). nat_eq segment.source p && same_goal segment.to_goal.goal (violates q)) (inside g)
+      (All-weaker EndsAtOwn (λ (segment : Segment). (nat_eq segment.source p && same_goal segment.to_goal.goal (violates q)) ≡ false)
+      (λ (segment : Segment) h. other_denied segment.source p q segment.to_goal.goal (λ e. other (ap suc e)) h) (inside g) (own_graph P g is).next))
 
-  pub own_denials : q < length (sites_of P) → denials_of P g q ≡ paths_between P g (suc q) (denies q)
-  own_denials inside_sites = only_one (λ p. paths_between P g p (denies q)) (suc q) (λ p other. ap (map (path_by p (denies q))) (none_lead p other)) 0
+  pub own_denials : q < length (sites_of P) → violations_of P g q ≡ paths_between P g (suc q) (violates q)
+  own_denials inside_sites = only_one (λ p. paths_between P g p (violates q)) (suc q) (λ p other. ap (map (path_by p (violates q))) (none_lead p other)) 0
       (suc (length (sites_of P))) (omega arith) (omega (arith, inside_sites))
 
-pub denials_are_own : (P : Program) (g : Node) (q : ℕ) → IsInlinedTree P g → q < length (sites_of P) → denials_of P g q ≡ paths_between P g (suc q) (denies q)
-denials_are_own P g q is less = own_denials P g is q less
+pub violations_are_own : (P : Program) (g : Node) (q : ℕ) → IsInlinedTree P g → q < length (sites_of P) →
+    violations_of P g q ≡ paths_between P g (suc q) (violates q)
+violations_are_own P g q is less = own_denials P g is q less

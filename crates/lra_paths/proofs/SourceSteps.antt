@@ -7,17 +7,17 @@ use Rattle.std.proofs.Math.Seq.{take-suc}
 use Rattle.std.proofs.lemmas.Grind.{flat_map-append}
 use Rattle.std.proofs.lemmas.List.Folds.{length-flat_map-take}
 use Rattle.lra_domain.specs.Actions.{Action}
-use Rattle.lra_ways.specs.Ways.{Goal, comes_to, denies}
-use Rattle.lra_sides.specs.Sides.{sides, greatest_paths}
+use Rattle.lra_path_segments.specs.Segments.{Goal, comes_to, violates}
+use Rattle.lra_path_disjuncts.specs.Disjuncts.{disjuncts, greatest_paths}
 use Rattle.lra_paths.specs.Paths.{same_goal}
 use Rattle.lra_paths.specs.Sources.{AreFewFor, AreFewTo, to_goal, to_goal_by}
-use Rattle.lra_ways.specs.StretchViews.{goal_view}
-use Rattle.lra_sides.specs.Tables.{capped, moves_at}
-use Rattle.lra_paths.specs.declared.sources.SourceWay.{SourceWay}
-use Rattle.lra_sides.specs.declared.tables.Entry.{Entry}
-use Rattle.lra_sides.proofs.TableSteps.{capped_few, capped_many, capped_plus}
+use Rattle.lra_path_segments.specs.TreeSegmentViews.{goal_view}
+use Rattle.lra_path_disjuncts.specs.Tables.{capped, moves_at}
+use Rattle.lra_paths.specs.declared.sources.SourceSegment.{SourceSegment}
+use Rattle.lra_path_disjuncts.specs.declared.tables.MovesEntry.{MovesEntry}
+use Rattle.lra_path_disjuncts.proofs.TableSteps.{capped_few, capped_many, capped_plus}
 
-module _ (es : List Entry) (goal : Goal) (ways : List SourceWay) (i : ℕ) (d : SourceWay) (inside : i < length ways) where
+module _ (es : List MovesEntry) (goal : Goal) (ways : List SourceSegment) (i : ℕ) (d : SourceSegment) (inside : i < length ways) where
   pub few_at : (n : ℕ) → length (to_goal es ways goal) ≤ n → length (to_goal_by es goal (get_or ways i d)) ≤ n
   few_at n few = let least = length-flat_map-take (to_goal_by es goal) ways i d inside in omega (arith, few, least)
 
@@ -55,19 +55,19 @@ under n count is less = elim (cases_lt n 1025) [
 
 pub alike : (a b : Goal) → same_goal a b ≡ true → a ≡ b
 alike (comes_to p) (comes_to q) same = ap comes_to (eqb-true p q same)
-alike (comes_to p) (denies q) same = absurd (let no : false ≡ true = same in cc)
-alike (denies p) (comes_to q) same = absurd (let no : false ≡ true = same in cc)
-alike (denies p) (denies q) same = ap denies (eqb-true p q same)
+alike (comes_to p) (violates q) same = absurd (let no : false ≡ true = same in cc)
+alike (violates p) (comes_to q) same = absurd (let no : false ≡ true = same in cc)
+alike (violates p) (violates q) same = ap violates (eqb-true p q same)
 
-module _ (es : List Entry) (all : List SourceWay) where
-  few_or : (w : SourceWay) (ws : List SourceWay) (goal : Goal) (b : Bool) → same_goal (goal_view w.goal) goal ≡ b
+module _ (es : List MovesEntry) (all : List SourceSegment) where
+  few_or : (w : SourceSegment) (ws : List SourceSegment) (goal : Goal) (b : Bool) → same_goal (goal_view w.goal) goal ≡ b
       → length (to_goal es all (goal_view w.goal)) ≤ greatest_paths → (to_goal es ws goal ≡ []) ⊎ (length (to_goal es all goal) ≤ greatest_paths)
       → (to_goal es (w ∷ ws) goal ≡ []) ⊎ (length (to_goal es all goal) ≤ greatest_paths)
   few_or w ws goal true is here rest = inr (subst (λ g. length (to_goal es all g) ≤ greatest_paths) (alike (goal_view w.goal) goal is) here)
-  few_or w ws goal false is here (inl none) = inl (ap (λ b. cond b (sides (moves_at es w.place)) [] ++ to_goal es ws goal) is ∙ none)
+  few_or w ws goal false is here (inl none) = inl (ap (λ b. cond b (disjuncts (moves_at es w.place)) [] ++ to_goal es ws goal) is ∙ none)
   few_or w ws goal false is here (inr few) = inr few
 
-  none_or : (ws : List SourceWay) (goal : Goal) → AreFewFor es all ws → (to_goal es ws goal ≡ []) ⊎ (length (to_goal es all goal) ≤ greatest_paths)
+  none_or : (ws : List SourceSegment) (goal : Goal) → AreFewFor es all ws → (to_goal es ws goal ≡ []) ⊎ (length (to_goal es all goal) ≤ greatest_paths)
   none_or [] goal are = inl refl
   none_or (w ∷ ws) goal (here, are) = few_or w ws goal (same_goal (goal_view w.goal) goal) refl here (none_or ws goal are)
 
@@ -77,16 +77,16 @@ module _ (es : List Entry) (all : List SourceWay) where
     | inr few ↦ few
   ]
 
-  few_last : (ws : List SourceWay) (w : SourceWay) → AreFewFor es all ws → length (to_goal es all (goal_view w.goal)) ≤ greatest_paths →
+  few_last : (ws : List SourceSegment) (w : SourceSegment) → AreFewFor es all ws → length (to_goal es all (goal_view w.goal)) ≤ greatest_paths →
       AreFewFor es all (ws ++ w ∷ [])
   few_last [] w are few = (few, tt)
   few_last (x ∷ ws) w (here, are) few = (here, few_last ws w are few)
 
-  pub few_next : (ws : List SourceWay) (i : ℕ) (d : SourceWay) → i < length ws → AreFewFor es all (take i ws)
+  pub few_next : (ws : List SourceSegment) (i : ℕ) (d : SourceSegment) → i < length ws → AreFewFor es all (take i ws)
       → length (to_goal es all (goal_view (get_or ws i d).goal)) ≤ greatest_paths → AreFewFor es all (take (i + 1) ws)
   few_next ws i d inside are few =
       let next : suc i ≡ i + 1 = omega arith in
       subst (AreFewFor es all) (sym (take-suc ws i d inside) ∙ ap (λ n. take n ws) next) (few_last (take i ws) (get_or ws i d) are few)
 
-  pub few_at_end : (ws : List SourceWay) (i : ℕ) → length ws ≤ i → ws ≡ all → AreFewFor es all (take i ws) → AreFewTo es all
+  pub few_at_end : (ws : List SourceSegment) (i : ℕ) → length ws ≤ i → ws ≡ all → AreFewFor es all (take i ws) → AreFewTo es all
   few_at_end ws i past is are = few_to_all (subst (AreFewFor es all) (take_all i ws past ∙ is) are)

@@ -9,17 +9,17 @@ use Rattle.lra_program.specs.Run.{begun}
 use Rattle.lra_analysis_spec.specs.MovesOf.{first_values}
 use Rattle.lra_analysis_spec.proofs.Keeping.{first_lead}
 use Rattle.std.proofs.lemmas.List.{length-map}
-use Rattle.lra_ways.specs.Ways.{Step, RunsOps}
-use Rattle.lra_sides.specs.Sides.{sides, written}
+use Rattle.lra_path_segments.specs.Segments.{SegmentStep, RunsOps}
+use Rattle.lra_path_disjuncts.specs.Disjuncts.{disjuncts, written}
 use Rattle.lra_paths.specs.Paths.{from_start}
-use Rattle.lra_sides.proofs.SideSteps.{sides_lead, then_leads}
-use Rattle.lra_sides.proofs.WrittenSteps.{written_from}
+use Rattle.lra_path_disjuncts.proofs.SideSteps.{disjuncts_lead, then_leads}
+use Rattle.lra_path_disjuncts.proofs.WrittenSteps.{written_from}
 
 -- from the start, where the globals come to their first values
-pub start_leads : (P : Program) → AreGoodGlobals P.globals → (ops : List Step) (draws : List ℤ) (t : State) → RunsOps ops (begun P draws) t → SomeLeads
+pub start_leads : (P : Program) → AreGoodGlobals P.globals → (ops : List SegmentStep) (draws : List ℤ) (t : State) → RunsOps ops (begun P draws) t → SomeLeads
     (from_start P ops) [] t.store
 start_leads P good ops draws t r =
     let values : List ℤ = map (λ (g : GlobalVariable). g.value) P.globals in
-    let one = (sides_lead (first_values 0 P.globals) [] values).0 (first_lead P.globals good []) in
-    then_leads [] t.store (sides (first_values 0 P.globals)) (written (length P.globals) ops) values one
+    let one = (disjuncts_lead (first_values 0 P.globals) [] values).0 (first_lead P.globals good []) in
+    then_leads [] t.store (disjuncts (first_values 0 P.globals)) (written (length P.globals) ops) values one
     (written_from ops (length P.globals) (begun P draws) t (length-map P.globals (λ (g : GlobalVariable). g.value)) r)

@@ -13,8 +13,8 @@ use Rattle.lra_domain.specs.Moves.{make, first_then, join_of, cases}
 use Rattle.lra_base.specs.declared.case_labels.CaseLabel.{CaseLabel}
 use Rattle.lra_base.specs.declared.case_labels.CaseLabel.TheVariants.{Case, Default}
 use Rattle.lra_operations.specs.Tree.{select, no_arms, entry, arm}
-use Rattle.lra_ways.specs.Ways.{Step, does, goes, comes_to, denies, through, enter, outs, inside}
-use Rattle.lra_sides.specs.Sides.{sides, written}
+use Rattle.lra_path_segments.specs.Segments.{SegmentStep, does, goes, comes_to, violates, through, enter, exit_suffixes, inside}
+use Rattle.lra_path_disjuncts.specs.Disjuncts.{disjuncts, written}
 
 abbrev x : Expr
 x = read (long_variable (local 0))
@@ -35,7 +35,7 @@ two_points = seq (point 0) (seq (act 0 drop_all) (point 1))
 two_first : enter two_points ≡ record { ops = []; goal = comes_to 0 } ∷ []
 two_first = refl
 
-two_next : inside two_points ≡ record { source = 0; way = record { ops = does drop_all ∷ []; goal = comes_to 1 } } ∷ []
+two_next : inside two_points ≡ record { source = 0; to_goal = record { ops = does drop_all ∷ []; goal = comes_to 1 } } ∷ []
 two_next = refl
 
 -- a loop: into its body, back to its point, and out of it; catches a way past the loop's point
@@ -45,36 +45,36 @@ a_loop = iterate 0 0 is_so (seq (point 1) (act 1 drop_all))
 no_way_past : through a_loop normal ≡ []
 no_way_past = refl
 
-loop_next : inside a_loop ≡ record { source = 0; way = record { ops = does (test 0 is_so true) ∷ []; goal = comes_to 1 } }
-    ∷ record { source = 1; way = record { ops = does drop_all ∷ []; goal = comes_to 0 } } ∷ []
+loop_next : inside a_loop ≡ record { source = 0; to_goal = record { ops = does (test 0 is_so true) ∷ []; goal = comes_to 1 } }
+    ∷ record { source = 1; to_goal = record { ops = does drop_all ∷ []; goal = comes_to 0 } } ∷ []
 loop_next = refl
 
-loop_outs : outs a_loop normal ≡ record { source = 0; ops = does (test 0 is_so false) ∷ [] } ∷ []
+loop_outs : exit_suffixes a_loop normal ≡ record { source = 0; ops = does (test 0 is_so false) ∷ [] } ∷ []
 loop_outs = refl
 
 -- `continue` goes to the step, and with it to the loop's point: catches a step that is skipped
 abbrev with_step : Node
 with_step = iterate 0 0 is_so (seq (catch 0 continued (seq (point 1) (leave 1 continued))) (act 0 drop_more))
 
-step_next : inside with_step ≡ record { source = 0; way = record { ops = does (test 0 is_so true) ∷ []; goal = comes_to 1 } }
-    ∷ record { source = 1; way = record { ops = does drop_more ∷ []; goal = comes_to 0 } } ∷ []
+step_next : inside with_step ≡ record { source = 0; to_goal = record { ops = does (test 0 is_so true) ∷ []; goal = comes_to 1 } }
+    ∷ record { source = 1; to_goal = record { ops = does drop_more ∷ []; goal = comes_to 0 } } ∷ []
 step_next = refl
 
 -- `break` goes behind the loop, and on
 abbrev broken_off : Node
 broken_off = seq (catch 0 broken (iterate 0 0 is_so (seq (point 1) (leave 1 broken)))) (point 2)
 
-broken_next : inside broken_off ≡ record { source = 0; way = record { ops = does (test 0 is_so true) ∷ []; goal = comes_to 1 } }
-    ∷ record { source = 0; way = record { ops = does (test 0 is_so false) ∷ []; goal = comes_to 2 } }
-    ∷ record { source = 1; way = record { ops = []; goal = comes_to 2 } } ∷ []
+broken_next : inside broken_off ≡ record { source = 0; to_goal = record { ops = does (test 0 is_so true) ∷ []; goal = comes_to 1 } }
+    ∷ record { source = 0; to_goal = record { ops = does (test 0 is_so false) ∷ []; goal = comes_to 2 } }
+    ∷ record { source = 1; to_goal = record { ops = []; goal = comes_to 2 } } ∷ []
 broken_next = refl
 
 -- an assertion: on where it is true, and a goal of its own where it is false
 abbrev asserted : Node
 asserted = seq (point 0) (seq (check 0 0 is_so) (point 1))
 
-asserted_next : inside asserted ≡ record { source = 0; way = record { ops = does (test 0 is_so false) ∷ []; goal = denies 0 } }
-    ∷ record { source = 0; way = record { ops = does (test 0 is_so true) ∷ []; goal = comes_to 1 } } ∷ []
+asserted_next : inside asserted ≡ record { source = 0; to_goal = record { ops = does (test 0 is_so false) ∷ []; goal = violates 0 } }
+    ∷ record { source = 0; to_goal = record { ops = does (test 0 is_so true) ∷ []; goal = comes_to 1 } } ∷ []
 asserted_next = refl
 
 -- a branch without a point is passed at once, on its own side
@@ -90,14 +90,14 @@ abbrev a_switch : Node
 a_switch = seq (point 1) (catch 1 broken (select 1 0 x
     (entry (Case (pos 1)) (entry (Case (pos 2)) (arm (seq (point 2) (act 2 drop_all)) (entry Default (arm (point 3) no_arms)))))))
 
-abbrev to_label : CaseLabel → Step
+abbrev to_label : CaseLabel → SegmentStep
 to_label l = goes 0 x its_labels l
 
 -- catches a way from a label past the statement behind it, one for all labels of it, and a fall through that is lost
-switch_next : inside a_switch ≡ record { source = 1; way = record { ops = to_label (Case (pos 1)) ∷ []; goal = comes_to 2 } }
-    ∷ record { source = 1; way = record { ops = to_label (Case (pos 2)) ∷ []; goal = comes_to 2 } }
-    ∷ record { source = 1; way = record { ops = to_label Default ∷ []; goal = comes_to 3 } }
-    ∷ record { source = 2; way = record { ops = does drop_all ∷ []; goal = comes_to 3 } } ∷ []
+switch_next : inside a_switch ≡ record { source = 1; to_goal = record { ops = to_label (Case (pos 1)) ∷ []; goal = comes_to 2 } }
+    ∷ record { source = 1; to_goal = record { ops = to_label (Case (pos 2)) ∷ []; goal = comes_to 2 } }
+    ∷ record { source = 1; to_goal = record { ops = to_label Default ∷ []; goal = comes_to 3 } }
+    ∷ record { source = 2; to_goal = record { ops = does drop_all ∷ []; goal = comes_to 3 } } ∷ []
 switch_next = refl
 
 -- past all labels there is a way only where none of them is `default`
@@ -127,7 +127,7 @@ abbrev d : Action
 d = action.forget 3
 
 -- of one join behind another the later's sides are the outer ones: catches the other order
-outer_sides : sides (first_then (join_of (make a) (make b)) (join_of (make c) (make d)))
+outer_sides : disjuncts (first_then (join_of (make a) (make b)) (join_of (make c) (make d)))
     ≡ (a ∷ c ∷ []) ∷ (b ∷ c ∷ []) ∷ (a ∷ d ∷ []) ∷ (b ∷ d ∷ []) ∷ []
 outer_sides = refl
 

@@ -7,35 +7,35 @@ use Rattle.lra_domain.specs.Moves.{Moves, stay, first_then}
 use Rattle.lra_program.specs.declared.program.GlobalVariable.{GlobalVariable}
 use Rattle.lra_program.specs.Sites.{Site}
 use Rattle.lra_analysis_spec.specs.MovesOf.{first_values}
-use Rattle.lra_ways.specs.Ways.{Step, Goal}
-use Rattle.lra_sides.specs.Sides.{sides, greatest_paths}
+use Rattle.lra_path_segments.specs.Segments.{SegmentStep, Goal}
+use Rattle.lra_path_disjuncts.specs.Disjuncts.{disjuncts, greatest_paths}
 use Rattle.lra_paths.specs.Paths.{live_of, same_goal}
-use Rattle.lra_ways.specs.Stretches.{End, leaves, meets, Stretch}
-use Rattle.lra_ways.specs.StretchViews.{goal_view}
-use Rattle.lra_sides.specs.Tables.{Has, IsTable, Grows, moves_at}
-use Rattle.lra_sides.specs.WayMoves.{way_moves}
+use Rattle.lra_path_segments.specs.TreeSegments.{End, exits, reaches, TreeSegment}
+use Rattle.lra_path_segments.specs.TreeSegmentViews.{goal_view}
+use Rattle.lra_path_disjuncts.specs.Tables.{Has, IsTable, Grows, moves_at}
+use Rattle.lra_path_disjuncts.specs.SegmentMoves.{segment_moves}
 use Rattle.lra_paths.specs.declared.paths.Departure.{Departure}
-use Rattle.lra_paths.specs.declared.sources.SourceWay.{SourceWay}
+use Rattle.lra_paths.specs.declared.sources.SourceSegment.{SourceSegment}
 use Rattle.lra_paths.specs.declared.sources.Source.{Source}
-use Rattle.lra_sides.specs.declared.tables.Entry.{Entry}
+use Rattle.lra_path_disjuncts.specs.declared.tables.MovesEntry.{MovesEntry}
 
 -- the paths of a way, where it has this goal
-abbrev pub to_goal_by : List Entry → Goal → SourceWay → List (List Action)
-to_goal_by es goal way = cond (same_goal (goal_view way.goal) goal) (sides (moves_at es way.place)) []
+abbrev pub to_goal_by : List MovesEntry → Goal → SourceSegment → List (List Action)
+to_goal_by es goal way = cond (same_goal (goal_view way.goal) goal) (disjuncts (moves_at es way.place)) []
 
 -- in the order of the ways
-abbrev pub to_goal : List Entry → List SourceWay → Goal → List (List Action)
+abbrev pub to_goal : List MovesEntry → List SourceSegment → Goal → List (List Action)
 to_goal es ways goal = flat_map (to_goal_by es goal) ways
 
 -- no more than may be lead to each goal, or more to one
-abbrev pub AreFewTo : List Entry → List SourceWay → Type 0
+abbrev pub AreFewTo : List MovesEntry → List SourceSegment → Type 0
 AreFewTo es ways = (goal : Goal) → length (to_goal es ways goal) ≤ greatest_paths
 
-abbrev pub AreManyTo : List Entry → List SourceWay → Type 0
+abbrev pub AreManyTo : List MovesEntry → List SourceSegment → Type 0
 AreManyTo es ways = (goal : Goal) × (greatest_paths < length (to_goal es ways goal))
 
 -- to the goals of these ways
-abbrev pub AreFewFor : List Entry → List SourceWay → List SourceWay → Type 0
+abbrev pub AreFewFor : List MovesEntry → List SourceSegment → List SourceSegment → Type 0
 AreFewFor es ways [] = Unit {0}
 AreFewFor es ways (w ∷ ws) = (length (to_goal es ways (goal_view w.goal)) ≤ greatest_paths) × AreFewFor es ways ws
 
@@ -48,15 +48,16 @@ same_point (Some p) None = false
 same_point (Some p) (Some q) = nat_eq p q
 
 -- what is done first, and then these operations, where a goal is met that is this one
-abbrev pub ending : Moves → ℕ → Goal → List Step → End → List (List Action)
-ending before live goal ops (leaves h) = []
-ending before live goal ops (meets g) = cond (same_goal g goal) (sides (first_then before (way_moves live ops))) []
+abbrev pub ending : Moves → ℕ → Goal → List SegmentStep → End → List (List Action)
+ending before live goal ops (exits h) = []
+ending before live goal ops (reaches g) =
+    cond (same_goal g goal) (disjuncts (first_then before (segment_moves live ops))) []
 
 -- of a stretch, where it is from this point
-abbrev pub departing : Moves → ℕ → Option ℕ → Goal → Stretch → List (List Action)
+abbrev pub departing : Moves → ℕ → Option ℕ → Goal → TreeSegment → List (List Action)
 departing before live point goal s = cond (same_point s.source point) (ending before live goal s.ops s.end) []
 
-abbrev pub all_departing : Moves → ℕ → Option ℕ → List Stretch → Goal → List (List Action)
+abbrev pub all_departing : Moves → ℕ → Option ℕ → List TreeSegment → Goal → List (List Action)
 all_departing before live point ss goal = flat_map (departing before live point goal) ss
 
 -- what is done first from the source of this number, how many variables live behind that, and which point it is
@@ -72,7 +73,8 @@ abbrev pub point_from : ℕ → Option ℕ
 point_from zero = None
 point_from (suc p) = Some p
 
-pub record IsDeparture (globals : List GlobalVariable) (sites : List Site) (p : ℕ) (es : List Entry) (d : Departure) :
+pub record IsDeparture (globals : List GlobalVariable) (sites : List Site) (p : ℕ) (es : List MovesEntry)
+    (d : Departure) :
     Type 0 where
   pub first : Has es d.before (first_from globals p)
   pub live : d.live ≡ live_from globals sites p
@@ -81,17 +83,17 @@ pub record IsDeparture (globals : List GlobalVariable) (sites : List Site) (p : 
 -- tables -----------------------------------------------------------------------------------------------------------
 
 -- the moves of each way stand in the table
-abbrev pub ArePlaced : List Entry → List SourceWay → Type 0
+abbrev pub ArePlaced : List MovesEntry → List SourceSegment → Type 0
 ArePlaced es [] = Unit {0}
 ArePlaced es (w ∷ ws) = (w.place < length es) × ArePlaced es ws
 
 pub record IsSource (s : Source) : Type 0 where
   pub table : IsTable s.entries.items
-  pub placed : ArePlaced s.entries.items s.ways.items
+  pub placed : ArePlaced s.entries.items s.segments.items
 
 -- these paths come behind the others
 pub record Adds (s t : Source) (paths : Goal → List (List Action)) : Type 0 where
   pub is : IsSource t
   pub grows : Grows s.entries.items t.entries.items
-  pub more : (goal : Goal) → to_goal t.entries.items t.ways.items goal ≡
-      to_goal s.entries.items s.ways.items goal ++ paths goal
+  pub more : (goal : Goal) → to_goal t.entries.items t.segments.items goal ≡
+      to_goal s.entries.items s.segments.items goal ++ paths goal

@@ -1,12 +1,12 @@
 //! Laws: each of these does nothing, and its contract is the theorem.
 
-ghost use Rattle.lra_paths.specs.Covers.{AllPathsCover, WaysCover, WhatPathsKeepHolds};
-ghost use Rattle.lra_paths.specs.Denials.{DenialsAreOwn};
+ghost use Rattle.lra_paths.specs.Covers.{AllPathsCover, SegmentsCover, InductiveHolds};
+ghost use Rattle.lra_paths.specs.Violations.{ViolationsAreOwn};
 ghost use Rattle.lra_paths.specs.FewPaths.{FewExcludeMany};
 
 /// What a run of a tree has done since the last point that it met goes along a way of the tree.
-pub fn ways_cover()
-    ensures { WaysCover }
+pub fn segments_cover()
+    ensures { SegmentsCover }
 {}
 
 /// Each piece of a run, from its start or a point to the next point or to where an assertion is false, goes along a
@@ -18,8 +18,8 @@ pub fn paths_cover()
 
 /// What the paths from the start give and the paths between points keep holds in all runs.
 #[tactic(auto, using(crate::proofs::LawsOfPaths::what_is_kept))]
-pub fn kept_in_runs()
-    ensures { WhatPathsKeepHolds }
+pub fn inductive_holds()
+    ensures { InductiveHolds }
 {}
 
 /// No program has few paths and too many.
@@ -29,7 +29,7 @@ pub fn few_exclude_many()
 {}
 
 /// Where the assertion at a point is false, no paths lead but those from that point.
-#[tactic(auto, using(crate::proofs::OwnDenials::denials_are_own))]
-pub fn denials_are_own()
-    ensures { DenialsAreOwn }
+#[tactic(auto, using(crate::proofs::OwnDenials::violations_are_own))]
+pub fn violations_are_own()
+    ensures { ViolationsAreOwn }
 {}

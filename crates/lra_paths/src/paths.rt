@@ -4,22 +4,22 @@
 ghost use Rattle.std.specs.Prelude.{◌≡◌, ◌<◌, ℕ, length, map, slice_get, Err, IfOk, OnOk};
 ghost use Rattle.lra_operations.specs.Tree.{Node};
 ghost use Rattle.lra_operations.specs.TreeViews.{node_view, site_view};
-ghost use Rattle.lra_paths.specs.Paths.{AreFewIn, HasTooManyIn, leading_in, live_of};
+ghost use Rattle.lra_paths.specs.Paths.{AreFewIn, HasTooManyIn, actions_between_in, live_of};
 ghost use Rattle.lra_paths.specs.Sources as sources;
 ghost use Rattle.lra_paths.specs.Sources.{Adds, IsDeparture, IsSource, all_departing, departing, ending};
 ghost use Rattle.lra_paths.specs.Sources.{same_point, to_goal};
-ghost use Rattle.lra_ways.specs.Stretches as ways;
-ghost use Rattle.lra_ways.specs.Stretches.{AreWays};
-ghost use Rattle.lra_ways.specs.StretchViews.{end_view, goal_view, move_view, seen, stretch_view};
-ghost use Rattle.lra_sides.specs.Tables.{IsTable, moves_at};
-ghost use Rattle.lra_ways.specs.Ways as trees;
+ghost use Rattle.lra_path_segments.specs.TreeSegments as ways;
+ghost use Rattle.lra_path_segments.specs.TreeSegments.{AreSegmentsOf};
+ghost use Rattle.lra_path_segments.specs.TreeSegmentViews.{end_view, goal_view, move_view, seen, tree_segment_view};
+ghost use Rattle.lra_path_disjuncts.specs.Tables.{IsTable, moves_at};
+ghost use Rattle.lra_path_segments.specs.Segments as trees;
 ghost use Rattle.lra_paths.specs.declared.paths.PathsFailure.TheVariants.{TooMany};
 
-use crate::sources::{Source, SourceWay};
+use crate::sources::{Source, SourceSegment};
 use lra_operations::{InlinedProgram, Site};
+use lra_path_disjuncts::{MovesEntry, push_first_then, push_globals, push_segment, push_stay};
+use lra_path_segments::{End, Goal, Move, TreeSegment, segments_of};
 use lra_program::GlobalVariable;
-use lra_sides::{Entry, push_first_then, push_globals, push_stay, push_way};
-use lra_ways::{End, Goal, Move, Stretch, ways_of};
 use std::alloc::{AllocError, Global};
 
 /// The globals and the points of a program, and all its ways.
@@ -27,7 +27,7 @@ use std::alloc::{AllocError, Global};
 pub struct Paths<'g> {
     pub globals: &'g [GlobalVariable],
     pub sites: &'g [Site],
-    pub ways: Vec<Stretch<'g>>,
+    pub segments: Vec<TreeSegment<'g>>,
 }
 
 /// Why a program has no paths: more than 1,024 lead from the source of this number to one goal, or the memory fails.
@@ -82,11 +82,11 @@ fn push_source_way(
     requires before { departure.before < length source.old.entries.items }
     ensures { OnOk result (Adds source.old source.new (λ g.
         ending (moves_at source.old.entries.items departure.before) departure.live g
-        (map move_view moves.now) (ways.meets (goal_view goal)))) }
+        (map move_view moves.now) (ways.reaches (goal_view goal)))) }
 {
-    let way = push_way(alloc, departure.live, moves, &mut source.entries)?;
+    let way = push_segment(alloc, departure.live, moves, &mut source.entries)?;
     let place = push_first_then(&mut source.entries, departure.before, way)?;
-    source.ways.push(SourceWay { goal, place })?;
+    source.segments.push(SourceSegment { goal, place })?;
     Ok(())
 }
 
@@ -94,7 +94,7 @@ fn push_source_way(
 fn push_meeting(
     alloc: Global,
     departure: Departure,
-    stretch: &Stretch<'_>,
+    stretch: &TreeSegment<'_>,
     source: &mut Source,
 ) -> Result<(), AllocError>
     requires is { IsSource source.old }
@@ -104,8 +104,8 @@ fn push_meeting(
         (map move_view stretch.now.moves.items) (end_view stretch.now.end))) }
 {
     match stretch.end {
-        End::Leaves(_) => Ok(()),
-        End::Meets(goal) => push_source_way(
+        End::Exits(_) => Ok(()),
+        End::Reaches(goal) => push_source_way(
             alloc,
             departure,
             goal,
@@ -119,14 +119,14 @@ fn push_meeting(
 fn push_departing(
     alloc: Global,
     departure: Departure,
-    stretch: &Stretch<'_>,
+    stretch: &TreeSegment<'_>,
     source: &mut Source,
 ) -> Result<(), AllocError>
     requires is { IsSource source.old }
     requires before { departure.before < length source.old.entries.items }
     ensures { OnOk result (Adds source.old source.new (λ g.
         departing (moves_at source.old.entries.items departure.before) departure.live
-        departure.point g (stretch_view stretch.now))) }
+        departure.point g (tree_segment_view stretch.now))) }
 {
     if is_same_point(stretch.source, departure.point) {
         push_meeting(alloc, departure, stretch, source)
@@ -139,7 +139,7 @@ fn push_departing(
 fn push_all_departing(
     alloc: Global,
     departure: Departure,
-    ways: &[Stretch<'_>],
+    ways: &[TreeSegment<'_>],
     source: &mut Source,
 ) -> Result<(), AllocError>
     requires is { IsSource source.old }
@@ -172,7 +172,7 @@ impl Paths<'_> {
         &self,
         alloc: Global,
         source: usize,
-        entries: &mut Vec<Entry>,
+        entries: &mut Vec<MovesEntry>,
     ) -> Result<Departure, AllocError>
         requires { IsTable entries.old.items }
         ensures table { OnOk result (IsTable entries.new.items) }
@@ -196,17 +196,18 @@ impl Paths<'_> {
     /// The ways from the source of this number: 0 is the start, and the points have the numbers from 1 on.
     pub fn from(&self, alloc: Global, source: usize) -> Result<Source, AllocError>
         ensures table { IfOk result (λ s. IsTable s.entries.items) }
-        ensures leads { IfOk result (λ s. (g : Node) → AreWays (seen self.now.ways.items) g →
-            (goal : trees.Goal) → to_goal s.entries.items s.ways.items goal ≡ leading_in
+        ensures leads { IfOk result
+            (λ s. (g : Node) → AreSegmentsOf (seen self.now.segments.items) g →
+            (goal : trees.Goal) → to_goal s.entries.items s.segments.items goal ≡ actions_between_in
             self.now.globals.now (map site_view self.now.sites.now) g source goal) }
     {
         let mut entries = Vec::new(alloc);
         let departure = self.depart(alloc, source, &mut entries)?;
         let mut found = Source {
             entries,
-            ways: Vec::new(alloc),
+            segments: Vec::new(alloc),
         };
-        push_all_departing(alloc, departure, self.ways.as_slice(), &mut found)?;
+        push_all_departing(alloc, departure, self.segments.as_slice(), &mut found)?;
         Ok(found)
     }
 }
@@ -221,14 +222,14 @@ pub fn find_paths<'g>(
         (node_view graph.now.tree)) }
     ensures of { IfOk result (λ p. (p.globals.now ≡ globals.now) ×
         (p.sites.now ≡ graph.now.sites.items) ×
-        AreWays (seen p.ways.items) (node_view graph.now.tree)) }
+        AreSegmentsOf (seen p.segments.items) (node_view graph.now.tree)) }
     ensures many { (q : ℕ) → result ≡ Err (TooMany q) → HasTooManyIn globals.now
         (map site_view graph.now.sites.items) (node_view graph.now.tree) q }
 {
     let paths = Paths {
         globals,
         sites: graph.sites.as_slice(),
-        ways: ways_of(alloc, &graph.tree)?,
+        segments: segments_of(alloc, &graph.tree)?,
     };
     'sources: for source in 0..=graph.sites.len() {
         let found = paths.from(alloc, source)?;

@@ -1,21 +1,21 @@
 //! The paths from one source, written out for one goal at a time.
 
 ghost use Rattle.std.specs.Prelude.{[], ◌≡◌, ◌≤◌, ◌++◌, length, cond, true, false, OnOk, IfOk};
-ghost use Rattle.lra_sides.specs.Sides.{greatest_paths, sides};
+ghost use Rattle.lra_path_disjuncts.specs.Disjuncts.{greatest_paths, disjuncts};
 ghost use Rattle.lra_paths.specs.Paths.{same_goal};
 ghost use Rattle.lra_paths.specs.Sources.{AreFewTo, AreManyTo, to_goal};
-ghost use Rattle.lra_ways.specs.StretchViews.{goal_view};
-ghost use Rattle.lra_sides.specs.TableSides.{lists_done};
-ghost use Rattle.lra_sides.specs.Tables.{IsTable, capped, count_of, moves_at};
+ghost use Rattle.lra_path_segments.specs.TreeSegmentViews.{goal_view};
+ghost use Rattle.lra_path_disjuncts.specs.TableDisjuncts.{lists_done};
+ghost use Rattle.lra_path_disjuncts.specs.Tables.{IsTable, capped, count_of, moves_at};
 
 use lra_domain::Change;
-use lra_sides::{Entry, GREATEST_PATHS, add_capped, sides_at, write_sides};
-use lra_ways::Goal;
+use lra_path_disjuncts::{GREATEST_PATHS, MovesEntry, add_capped, disjuncts_at, write_disjuncts};
+use lra_path_segments::Goal;
 use std::alloc::{AllocError, Global};
 
 /// A way from the source: its goal, and where its moves stand in the source's table.
 #[derive(Clone, Copy)]
-pub struct SourceWay {
+pub struct SourceSegment {
     pub goal: Goal,
     pub place: usize,
 }
@@ -23,8 +23,8 @@ pub struct SourceWay {
 /// All ways from one source, with a table of their moves.
 #[derive(Drop)]
 pub struct Source {
-    pub entries: Vec<Entry>,
-    pub ways: Vec<SourceWay>,
+    pub entries: Vec<MovesEntry>,
+    pub segments: Vec<SourceSegment>,
 }
 
 fn is_same_goal(one: Goal, other: Goal) -> bool
@@ -33,11 +33,11 @@ fn is_same_goal(one: Goal, other: Goal) -> bool
     match one {
         Goal::ComesTo(point) => match other {
             Goal::ComesTo(wanted) => point == wanted,
-            Goal::Denies(_) => false,
+            Goal::Violates(_) => false,
         },
-        Goal::Denies(point) => match other {
+        Goal::Violates(point) => match other {
             Goal::ComesTo(_) => false,
-            Goal::Denies(wanted) => point == wanted,
+            Goal::Violates(wanted) => point == wanted,
         },
     }
 }
@@ -45,40 +45,40 @@ fn is_same_goal(one: Goal, other: Goal) -> bool
 /// The paths of a way that is to be written come behind the others.
 fn write_if<'s>(
     alloc: Global,
-    entries: &'s [Entry],
+    entries: &'s [MovesEntry],
     place: usize,
     is: bool,
     all: &mut Vec<Vec<&'s Change>>,
 ) -> Result<(), AllocError>
     requires table { IsTable entries.now }
-    requires few { length (cond is (sides (moves_at entries.now place)) []) ≤ greatest_paths }
+    requires few { length (cond is (disjuncts (moves_at entries.now place)) []) ≤ greatest_paths }
     ensures { OnOk result (lists_done all.new.items ≡
-        lists_done all.old.items ++ cond is (sides (moves_at entries.now place)) []) }
+        lists_done all.old.items ++ cond is (disjuncts (moves_at entries.now place)) []) }
 {
     if is {
-        write_sides(alloc, entries, place, all)
+        write_disjuncts(alloc, entries, place, all)
     } else {
         Ok(())
     }
 }
 
 /// How many paths a way has that is to be counted, else none.
-fn count_if(entries: &[Entry], place: usize, is: bool) -> usize
+fn count_if(entries: &[MovesEntry], place: usize, is: bool) -> usize
     requires { IsTable entries.now }
-    ensures { result ≡ capped (length (cond is (sides (moves_at entries.now place)) [])) }
+    ensures { result ≡ capped (length (cond is (disjuncts (moves_at entries.now place)) [])) }
 {
-    if is { sides_at(entries, place) } else { 0 }
+    if is { disjuncts_at(entries, place) } else { 0 }
 }
 
 impl Source {
     /// How many paths lead to the goal, counted no further than to 1,025.
     pub fn count_to(&self, goal: Goal) -> usize
         requires { IsTable self.now.entries.items }
-        ensures { result ≡ capped (length (to_goal self.now.entries.items self.now.ways.items
+        ensures { result ≡ capped (length (to_goal self.now.entries.items self.now.segments.items
             (goal_view goal))) }
     {
         let mut count = 0;
-        'ways: for way in &self.ways {
+        'ways: for way in &self.segments {
             let is = is_same_goal(way.goal, goal);
             count = add_capped(count, count_if(self.entries.as_slice(), way.place, is));
         }
@@ -88,10 +88,10 @@ impl Source {
     /// Whether more than 1,024 paths lead to one goal.
     pub fn has_too_many(&self) -> bool
         requires { IsTable self.now.entries.items }
-        ensures many { result ≡ true → AreManyTo self.now.entries.items self.now.ways.items }
-        ensures few { result ≡ false → AreFewTo self.now.entries.items self.now.ways.items }
+        ensures many { result ≡ true → AreManyTo self.now.entries.items self.now.segments.items }
+        ensures few { result ≡ false → AreFewTo self.now.entries.items self.now.segments.items }
     {
-        'ways: for way in &self.ways {
+        'ways: for way in &self.segments {
             if self.count_to(way.goal) > GREATEST_PATHS {
                 return true;
             }
@@ -106,13 +106,13 @@ impl Source {
         goal: Goal,
     ) -> Result<Vec<Vec<&'s Change>>, AllocError>
         requires table { IsTable self.now.entries.items }
-        requires few { length (to_goal self.now.entries.items self.now.ways.items
+        requires few { length (to_goal self.now.entries.items self.now.segments.items
             (goal_view goal)) ≤ greatest_paths }
         ensures { IfOk result (λ v. lists_done v.items ≡
-            to_goal self.now.entries.items self.now.ways.items (goal_view goal)) }
+            to_goal self.now.entries.items self.now.segments.items (goal_view goal)) }
     {
         let mut all = Vec::new(alloc);
-        'ways: for way in &self.ways {
+        'ways: for way in &self.segments {
             let is = is_same_goal(way.goal, goal);
             write_if(alloc, self.entries.as_slice(), way.place, is, &mut all)?;
         }

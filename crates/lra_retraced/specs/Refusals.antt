@@ -5,7 +5,7 @@ use Rattle.lra_base.specs.declared.error.SourceError.TheVariants as of_source
 use Rattle.lra_program.specs.Program.{Program}
 use Rattle.lra_program.specs.Sites.{sites_of}
 use Rattle.lra_operations.specs.Tree.{Node}
-use Rattle.lra_paths.specs.Paths.{HasTooMany}
+use Rattle.lra_paths.specs.Paths.{HasTooManyPaths}
 use Rattle.lra_back.specs.Traced.{IsAssertion}
 use Rattle.lra_back.specs.declared.backs.BackFailure.{BackFailure}
 use Rattle.lra_back.specs.declared.backs.BackFailure.TheVariants as of_back
@@ -26,7 +26,7 @@ error_by of_back.Memory = Memory
 -- why a program isn't gone back over from the point
 abbrev pub IsFailure : Program → Node → ℕ → BackFailure → Type 0
 IsFailure P g p of_back.NoAssertion = IsAssertion (sites_of P) p → ⊥
-IsFailure P g p (of_back.TooMany q) = IsAssertion (sites_of P) p × HasTooMany P g q
+IsFailure P g p (of_back.TooMany q) = IsAssertion (sites_of P) p × HasTooManyPaths P g q
 IsFailure P g p of_back.Memory = ⊤
 
 -- a fact of the refusal, if there is one

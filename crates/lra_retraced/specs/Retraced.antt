@@ -29,7 +29,7 @@ use Rattle.lra_analysis_spec.specs.Accesses.{JudgesAccesses}
 use Rattle.lra_analysis_spec.specs.Analysis.{ExactIteration, IsSolution, StrainsAtPoint}
 use Rattle.lra_analysis_spec.specs.Operations as iteration
 use Rattle.lra_analysis_spec.specs.Pass.{PassResult}
-use Rattle.lra_paths.specs.Paths.{AreFewPaths, HasTooMany}
+use Rattle.lra_paths.specs.Paths.{AreFewPaths, HasTooManyPaths}
 use Rattle.lra_certificate.specs.Claims.{IsProgram, program_of}
 use Rattle.lra_poly_domain.specs.Abstraction.{polyhedron_abstraction}
 use Rattle.lra_poly_domain.specs.Backward.{polyhedron_backward}
@@ -166,7 +166,7 @@ abbrev pub IsRefusedSo : List ℕ → ℕ → BackRefusal → Type 0
 IsRefusedSo source p (Source r) = Refuse Spells source r.cause r.place
 IsRefusedSo source p NoAssertion = (x : IsProgram source) × (IsAssertion (sites_of (program_of x)) p → ⊥)
 IsRefusedSo source p (Paths q) = (x : IsProgram source) × IsAssertion (sites_of (program_of x)) p ×
-    HasTooMany (program_of x) x.operations q
+    HasTooManyPaths (program_of x) x.operations q
 
 -- the assertion is there, and its program has few paths
 pub record CanGoBack (source : List ℕ) (p : ℕ) : Type 0 where

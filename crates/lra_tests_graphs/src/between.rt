@@ -1,12 +1,12 @@
 //! Paths of programs from point to point, as they are counted and written.
 
-ghost use Rattle.lra_sides.specs.Tables.{IsTable};
+ghost use Rattle.lra_path_disjuncts.specs.Tables.{IsTable};
 
 use crate::sources::{program_of, tree_of};
 use lra_base::SourceError;
 use lra_inline::build;
+use lra_path_segments::Goal;
 use lra_paths::{PathsFailure, Source, find_paths};
-use lra_ways::Goal;
 use std::alloc::{AllocError, Global};
 
 /// What paths are looked for: how many lead from the source of this number to the goal; the least source with too many;
@@ -77,14 +77,14 @@ const COUNTS: [(&str, usize, Goal, Found); 17] = [
     (STRAIGHT, 1, Goal::ComesTo(1), Found::Paths(1)),
     (STRAIGHT, 1, Goal::ComesTo(2), Found::Paths(0)),
     (STRAIGHT, 3, Goal::ComesTo(3), Found::Paths(1)),
-    (STRAIGHT, 3, Goal::Denies(2), Found::Paths(1)),
-    (STRAIGHT, 2, Goal::Denies(2), Found::Paths(0)),
+    (STRAIGHT, 3, Goal::Violates(2), Found::Paths(1)),
+    (STRAIGHT, 2, Goal::Violates(2), Found::Paths(0)),
     (COUNTER, 2, Goal::ComesTo(2), Found::Paths(1)),
     (COUNTER, 2, Goal::ComesTo(6), Found::Paths(1)),
     (COUNTER, 4, Goal::ComesTo(4), Found::Paths(1)),
     (COUNTER, 4, Goal::ComesTo(5), Found::Paths(2)),
     (COUNTER, 6, Goal::ComesTo(1), Found::Paths(1)),
-    (COUNTER, 7, Goal::Denies(6), Found::Paths(1)),
+    (COUNTER, 7, Goal::Violates(6), Found::Paths(1)),
     (CALLED, 0, Goal::ComesTo(0), Found::Paths(1)),
     (CALLED, 3, Goal::ComesTo(3), Found::Paths(2)),
     (TEN, 2, Goal::ComesTo(2), Found::Paths(1024)),

@@ -1,7 +1,7 @@
 -- A source that isn't gone back over from an assertion is refused in one way.
 use Rattle.std.proofs.Common.{refl, ap}
 use Rattle.lra_front_end.proofs.EachAnswer.{each_answer}
-use Rattle.lra_paths.specs.Paths.{HasTooMany}
+use Rattle.lra_paths.specs.Paths.{HasTooManyPaths}
 use Rattle.lra_certificate.specs.Claims.{program_of}
 use Rattle.lra_certificate.proofs.OneProgram.{as_said}
 use Rattle.lra_certified.proofs.OneRefusal.{one_source}
@@ -21,4 +21,4 @@ one_refusal bytes p NoAssertion (Paths q) (x, none) (y, asserts, many) = absurd 
 one_refusal bytes p (Paths q) (Source s) (x, asserts, many) also = accepted bytes p x s also
 one_refusal bytes p (Paths q) NoAssertion (x, asserts, many) (y, none) = absurd (none (same_assertion bytes p y x asserts))
 one_refusal bytes p (Paths q) (Paths k) (x, asserts, many) (y, also, more) =
-    ap Paths (one_source (program_of x) x.operations q k many (as_said (λ P g. HasTooMany P g k) bytes x y more))
+    ap Paths (one_source (program_of x) x.operations q k many (as_said (λ P g. HasTooManyPaths P g k) bytes x y more))

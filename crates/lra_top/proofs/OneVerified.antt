@@ -7,7 +7,7 @@ use Rattle.lra_syntax.specs.Grammar.{Spells}
 use Rattle.lra_resolution_spec.specs.Refuse.{Refuse}
 use Rattle.lra_program.specs.Sites.{sites_of}
 use Rattle.lra_front_end.proofs.EachAnswer.{each_answer}
-use Rattle.lra_paths.specs.Paths.{AreFewPaths, HasTooMany}
+use Rattle.lra_paths.specs.Paths.{AreFewPaths, HasTooManyPaths}
 use Rattle.lra_paths.proofs.ManyPaths.{not_both}
 use Rattle.lra_certificate.specs.Judged.{Judged, Head, too_long, bad_line, judged, head_of}
 use Rattle.lra_certificate.specs.Claims.{IsProgram, program_of, VerifyAnswer, verified, source_refused, paths_refused, line_refused, Deserves, HasHead}
@@ -25,7 +25,7 @@ answer_of (Err r) = line_refused r
 -- of an input with this head: its source is refused, or more paths than are taken lead from one of its points, or its lines are judged
 data Below (h : Head) (a : VerifyAnswer) : Type 0 where
   refuses : (cause : Cause) (place : Place) → Refuse Spells h.source cause place → a ≡ source_refused cause place → Below h a
-  many : (x : IsProgram h.source) (p : ℕ) → HasTooMany (program_of x) x.operations p → a ≡ paths_refused p → Below h a
+  many : (x : IsProgram h.source) (p : ℕ) → HasTooManyPaths (program_of x) x.operations p → a ≡ paths_refused p → Below h a
   judges : (x : IsProgram h.source) → AreFewPaths (program_of x) x.operations → a ≡ answer_of (judged (program_of x) x.operations h.rest) → Below h a
 
 one_below : (h : Head) (a b : VerifyAnswer) → Below h a → Below h b → a ≡ b
@@ -35,12 +35,12 @@ one_below h a b (refuses c p r e) (many x q s f) = absurd ((each_answer h.source
 one_below h a b (refuses c p r e) (judges x s f) = absurd ((each_answer h.source).2 x.tree c p (accepted_of h.source x) r)
 one_below h a b (many x p r e) (refuses d q s f) = absurd ((each_answer h.source).2 x.tree d q (accepted_of h.source x) s)
 one_below h a b (many x p r e) (many y q s f) =
-    let both = one_source (program_of x) x.operations p q r (as_said (λ P g. HasTooMany P g q) h.source x y s) in e ∙ ap paths_refused both ∙ sym f
+    let both = one_source (program_of x) x.operations p q r (as_said (λ P g. HasTooManyPaths P g q) h.source x y s) in e ∙ ap paths_refused both ∙ sym f
 one_below h a b (many x p r e) (judges y s f) =
     absurd (not_both (program_of x).globals (sites_of (program_of x)) x.operations p (as_said (λ P g. AreFewPaths P g) h.source x y s) r)
 one_below h a b (judges x r e) (refuses d q s f) = absurd ((each_answer h.source).2 x.tree d q (accepted_of h.source x) s)
 one_below h a b (judges x r e) (many y q s f) =
-    absurd (not_both (program_of x).globals (sites_of (program_of x)) x.operations q r (as_said (λ P g. HasTooMany P g q) h.source x y s))
+    absurd (not_both (program_of x).globals (sites_of (program_of x)) x.operations q r (as_said (λ P g. HasTooManyPaths P g q) h.source x y s))
 one_below h a b (judges x r e) (judges y s f) =
     as_said (λ P g. a ≡ answer_of (judged P g h.rest)) h.source y x e ∙ sym f
 

@@ -19,10 +19,10 @@ use Rattle.lra_front_end.specs.Claims.{IsAccepted}
 use Rattle.lra_front_end.specs.Stages.{HasTree}
 use Rattle.lra_front_end.proofs.SomeAnswer.{some_answer}
 use Rattle.lra_front_end.proofs.StageSteps.{well}
-use Rattle.lra_ways.specs.Ways.{Goal, comes_to, denies, Way, Segment, enter, inside}
-use Rattle.lra_sides.specs.Sides.{written}
-use Rattle.lra_paths.specs.Paths.{same_goal, live_at, started, leading, AreFewFrom, AreFewPaths, HasTooMany}
-use Rattle.lra_sides.specs.Sides.{greatest_paths}
+use Rattle.lra_path_segments.specs.Segments.{Goal, comes_to, violates, GoalSegment, Segment, enter, inside}
+use Rattle.lra_path_disjuncts.specs.Disjuncts.{written}
+use Rattle.lra_paths.specs.Paths.{same_goal, live_at, started, actions_between, AreFewFrom, AreFewPaths, HasTooManyPaths}
+use Rattle.lra_path_disjuncts.specs.Disjuncts.{greatest_paths}
 use Rattle.lra_certificate.specs.Judged.{Judged, Head, too_long, bad_line, judged, head_of}
 use Rattle.lra_certificate.specs.Claims.{IsProgram, program_of, VerifyAnswer, verified, source_refused, paths_refused, line_refused, Deserves, HasHead}
 use Rattle.lra_certificate.specs.Claims.{greatest_certificate, EachVerified}
@@ -89,26 +89,26 @@ module _ {A : Type 0} (goal_of : A → Goal) (test : Goal → A → Bool) (sound
 
 goal_found : (goal found : Goal) → same_goal found goal ≡ true → found ≡ goal
 goal_found (comes_to q) (comes_to p) e = ap comes_to (eqb-true p q e)
-goal_found (comes_to q) (denies p) e = absurd (let no : false ≡ true = e in cc)
-goal_found (denies q) (comes_to p) e = absurd (let no : false ≡ true = e in cc)
-goal_found (denies q) (denies p) e = ap denies (eqb-true p q e)
+goal_found (comes_to q) (violates p) e = absurd (let no : false ≡ true = e in cc)
+goal_found (violates q) (comes_to p) e = absurd (let no : false ≡ true = e in cc)
+goal_found (violates q) (violates p) e = ap violates (eqb-true p q e)
 
 -- those to which something may lead from the source
 goals_from : Node → ℕ → List Goal
-goals_from g zero = map (λ (way : Way). way.goal) (enter g)
-goals_from g (suc p) = map (λ (segment : Segment). segment.way.goal) (inside g)
+goals_from g zero = map (λ (way : GoalSegment). way.goal) (enter g)
+goals_from g (suc p) = map (λ (segment : Segment). segment.to_goal.goal) (inside g)
 
-none_leads : (P : Program) (g : Node) (p : ℕ) (goal : Goal) → (length (leading P g p goal) ≡ 0) ⊎ Among (goals_from g p) goal
+none_leads : (P : Program) (g : Node) (p : ℕ) (goal : Goal) → (length (actions_between P g p goal) ≡ 0) ⊎ Among (goals_from g p) goal
 unfolding goals_from
 none_leads P g zero goal =
-    elim (none_or_among (λ (way : Way). way.goal) (λ goal way. same_goal way.goal goal) (λ goal way e. goal_found goal way.goal e) (enter g) goal) [
-      | inl none ↦ inl (ap (λ ways. length (flat_map (λ (way : Way). started P.globals way.ops) ways)) none)
+    elim (none_or_among (λ (way : GoalSegment). way.goal) (λ goal way. same_goal way.goal goal) (λ goal way e. goal_found goal way.goal e) (enter g) goal) [
+      | inl none ↦ inl (ap (λ ways. length (flat_map (λ (way : GoalSegment). started P.globals way.ops) ways)) none)
       | inr there ↦ inr there
     ]
 none_leads P g (suc p) goal =
-    elim (none_or_among (λ (segment : Segment). segment.way.goal) (λ goal segment. nat_eq segment.source p && same_goal segment.way.goal goal)
-    (λ goal segment e. goal_found goal segment.way.goal (and_second (nat_eq segment.source p) (same_goal segment.way.goal goal) e)) (inside g) goal) [
-      | inl none ↦ inl (ap (λ segments. length (flat_map (λ (segment : Segment). written (live_at P p) segment.way.ops) segments)) none)
+    elim (none_or_among (λ (segment : Segment). segment.to_goal.goal) (λ goal segment. nat_eq segment.source p && same_goal segment.to_goal.goal goal)
+    (λ goal segment e. goal_found goal segment.to_goal.goal (and_second (nat_eq segment.source p) (same_goal segment.to_goal.goal goal) e)) (inside g) goal) [
+      | inl none ↦ inl (ap (λ segments. length (flat_map (λ (segment : Segment). written (live_at P p) segment.to_goal.ops) segments)) none)
       | inr there ↦ inr there
     ]
 
@@ -153,10 +153,10 @@ module _ (P : Program) (g : Node) where
   FewAt p = AreFewFrom P.globals (sites_of P) g p
 
   abbrev ManyAt : ℕ → Type 0
-  ManyAt p = (goal : Goal) × (greatest_paths < length (leading P g p goal))
+  ManyAt p = (goal : Goal) × (greatest_paths < length (actions_between P g p goal))
 
   at_source : (p : ℕ) → FewAt p ⊎ ManyAt p
-  at_source p = all_or_many (λ goal. length (leading P g p goal)) (goals_from g p) (none_leads P g p)
+  at_source p = all_or_many (λ goal. length (actions_between P g p goal)) (goals_from g p) (none_leads P g p)
 
   one_further : (n : ℕ) → ((p : ℕ) → p < n → FewAt p) → FewAt n → (p : ℕ) → p < suc n → FewAt p
   one_further n before here p less = elim (cases_lt p n) [
@@ -165,7 +165,7 @@ module _ (P : Program) (g : Node) where
   ]
 
   abbrev UpTo : ℕ → Type 0
-  UpTo n = ((p : ℕ) → p < n → FewAt p) ⊎ ((q : ℕ) × HasTooMany P g q)
+  UpTo n = ((p : ℕ) → p < n → FewAt p) ⊎ ((q : ℕ) × HasTooManyPaths P g q)
 
   up_to : (n : ℕ) → n ≤ suc (length (sites_of P)) → UpTo n
   up_to zero h = inl (λ p less. absurd (let no : ⊥ = omega (arith, less) in no))
@@ -176,7 +176,7 @@ module _ (P : Program) (g : Node) where
       by (inl before) (inl few) = inl (one_further n before few)
       by (inl before) (inr (goal, many)) = inr (n, record { source = omega (arith, h); goal = goal; many = many; first = before })
 
-  few_paths : AreFewPaths P g ⊎ ((q : ℕ) × HasTooMany P g q)
+  few_paths : AreFewPaths P g ⊎ ((q : ℕ) × HasTooManyPaths P g q)
   few_paths = elim (up_to (suc (length (sites_of P))) (omega arith)) [
     | inl few ↦ inl (λ p within. few p (omega (arith, within)))
     | inr found ↦ inr found

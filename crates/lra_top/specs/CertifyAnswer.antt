@@ -5,7 +5,7 @@ use Rattle.lra_row_text.specs.Texts.{text_line}
 use Rattle.lra_report.specs.Report.{Report}
 use Rattle.lra_report.specs.RefusalText.{refusal_text}
 use Rattle.lra_front_end.specs.Claims.{HasRefusal}
-use Rattle.lra_paths.specs.Paths.{HasTooMany}
+use Rattle.lra_paths.specs.Paths.{HasTooManyPaths}
 use Rattle.lra_certificate.specs.Claims.{IsProgram, program_of}
 use Rattle.lra_certify.specs.declared.failures.StrainedAt.TheVariants.{Edge, Assertion}
 use Rattle.lra_source.specs.Answers.{IsAnswered}
@@ -47,7 +47,7 @@ DeservesCertified bytes text status =
 
 -- its program has too many paths
 abbrev pub HasManyPaths : List ℕ → Type 0
-HasManyPaths bytes = (x : IsProgram bytes) × (p : ℕ) × HasTooMany (program_of x) x.operations p
+HasManyPaths bytes = (x : IsProgram bytes) × (p : ℕ) × HasTooManyPaths (program_of x) x.operations p
 
 -- it is refused where it is as a source, or has too many paths; else it may strain
 abbrev pub CallsCertified : List ℕ → List Status → Type 0

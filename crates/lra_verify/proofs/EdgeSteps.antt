@@ -13,11 +13,11 @@ use Rattle.lra_linear_spec.specs.declared.ConKind.{ConKind}
 use Rattle.lra_linear_spec.specs.declared.Excess.{Excess}
 use Rattle.lra_linear_spec.specs.Descriptions.{LinearRow}
 use Rattle.lra_systems.specs.LinearSystems.{LinearSystem, constraints}
-use Rattle.lra_ways.specs.Ways.{Goal, comes_to, denies}
+use Rattle.lra_path_segments.specs.Segments.{Goal, comes_to, violates}
 use Rattle.lra_paths.specs.Paths.{Path, path_by}
 use Rattle.lra_paths.specs.Sources.{to_goal}
 use Rattle.lra_paths.specs.declared.sources.Source.{Source}
-use Rattle.lra_sides.specs.TableSides.{all_done, lists_done}
+use Rattle.lra_path_disjuncts.specs.TableDisjuncts.{all_done, lists_done}
 use Rattle.lra_multipliers.specs.Symbols.{Walked, walk_of, tests_in}
 use Rattle.lra_multipliers.specs.Multipliers.{Multipliers}
 use Rattle.lra_certificate.specs.Certificates.{Along, nothing_left, state_from, state_to}
@@ -57,18 +57,18 @@ module _ (live : ℕ) (rows : List LinearRow) (steps : List Action) where
   along p goal = record { live = live; rows = rows; path = path_by p goal steps }
 
   same_walk : (p : ℕ) (goal : Goal) (r : Result Walked Excess) (m : Multipliers) (l : Left) →
-      judged_walk (along 0 (denies 0)) r (λ w. Ok (nothing_left (along 0 (denies 0)))) m l ≡
+      judged_walk (along 0 (violates 0)) r (λ w. Ok (nothing_left (along 0 (violates 0)))) m l ≡
       judged_walk (along p goal) r (λ w. Ok (nothing_left (along p goal))) m l
   same_walk p goal (Ok w) m l = refl
   same_walk p goal (Err e) m l = refl
 
   same_given : (p : ℕ) (goal : Goal) (o : Option Multipliers) (l : Left) →
-      judged_multipliers (along 0 (denies 0)) (λ w. Ok (nothing_left (along 0 (denies 0)))) o l ≡
+      judged_multipliers (along 0 (violates 0)) (λ w. Ok (nothing_left (along 0 (violates 0)))) o l ≡
       judged_multipliers (along p goal) (λ w. Ok (nothing_left (along p goal))) o l
   same_given p goal None l = refl
   same_given p goal (Some m) l = same_walk p goal (walk_of live steps) m l
 
-  pub dead_same : (p : ℕ) (goal : Goal) (l : Left) → judged_dead (along 0 (denies 0)) l ≡ judged_dead (along p goal) l
+  pub dead_same : (p : ℕ) (goal : Goal) (l : Left) → judged_dead (along 0 (violates 0)) l ≡ judged_dead (along p goal) l
   dead_same p goal l = same_given p goal (multipliers_in (codes "dead") (length rows + tests_in steps) (line_or_empty (line_on l.pieces))) l
 
 -- ---- which way a source has to a point
@@ -87,7 +87,7 @@ module _ (from to : Option (Bor (LinearSystem ConKind))) (p q : ℕ) where
       by (Some r) h = ap (λ (n : ℕ). edge_by n (Some (constraints r.now)) (rows_of to) (path_by p (comes_to q) steps) l) h
 
   module _ (w : Ways) (s : Source) (lists : List (List Action)) (got : slice_get w.sources.now p ≡ Some s)
-      (led : lists ≡ to_goal s.entries.items s.ways.items (comes_to q)) (rows : rows_of from ≡ state_from (states_in w) p)
+      (led : lists ≡ to_goal s.entries.items s.segments.items (comes_to q)) (rows : rows_of from ≡ state_from (states_in w) p)
       (target : rows_of to ≡ state_to (states_in w) (comes_to q)) (dims : IfSome from (λ r. r.now.dims ≡ live_by (sites_in w) p)) where
     step_same : (steps : List Action) (l : Left) → path_of edge steps l ≡ step_by w p q steps l
     step_same steps l =
@@ -108,19 +108,19 @@ none_dead live (steps ∷ lists) l = none_dead live lists l
 module _ (w : Ways) (p q : ℕ) (from : Option (Bor (LinearSystem ConKind))) (rows : rows_of from ≡ state_from (states_in w) p) where
   pub denial_none : (l : Left) → from ≡ None → denial_by w q p l ≡ Ok l
   denial_none l none =
-      ap (λ (x : State). in_turn (dead_by (live_by (sites_in w) p) x) (led_by w p (denies q)) l)
+      ap (λ (x : State). in_turn (dead_by (live_by (sites_in w) p) x) (led_by w p (violates q)) l)
       (sym rows ∙ ap (λ (o : Option (Bor (LinearSystem ConKind))). rows_of o) none) ∙
-      none_dead (live_by (sites_in w) p) (led_by w p (denies q)) l
+      none_dead (live_by (sites_in w) p) (led_by w p (violates q)) l
 
   pub denial_same : (s : Source) (r : Bor (LinearSystem ConKind)) (lists : List (List Action)) (l : Left) → from ≡ Some r → slice_get w.sources.now p ≡ Some s →
-      lists ≡ to_goal s.entries.items s.ways.items (denies q) → r.now.dims ≡ live_by (sites_in w) p →
+      lists ≡ to_goal s.entries.items s.segments.items (violates q) → r.now.dims ≡ live_by (sites_in w) p →
       in_turn (dead_by r.now.dims (Some (constraints r.now))) lists l ≡ denial_by w q p l
   denial_same s r lists l some got led dims =
       ap (λ (n : ℕ). in_turn (dead_by n (Some (constraints r.now))) lists l) dims ∙
       ap (λ (x : State). in_turn (dead_by (live_by (sites_in w) p) x) lists l)
       (sym (ap (λ (o : Option (Bor (LinearSystem ConKind))). rows_of o) some) ∙ rows) ∙
       ap (λ (xs : List (List Action)). in_turn (dead_by (live_by (sites_in w) p) (state_from (states_in w) p)) xs l)
-      (led ∙ ap (λ (o : Option Source). led_from o (denies q)) (sym got))
+      (led ∙ ap (λ (o : Option Source). led_from o (violates q)) (sym got))
 
 -- ---- a path, behind its own line
 abbrev pub edge_words : ℕ → ℕ → List ℕ
@@ -167,4 +167,4 @@ module _ (e : Edge) (steps : List Action) (text : List ℕ) (l : Left)
 
 pub dead_told : (rows : LinearSystem ConKind) (steps : List Action) (t : Track) (l : Left) → IsTrack rows.dims (constraints rows) steps t →
     line_by t (codes "dead") None l ≡ dead_by rows.dims (Some (constraints rows)) steps l
-dead_told rows steps t l track = dead_is (record { live = rows.dims; rows = constraints rows; path = path_by 0 (denies 0) steps }) t track l
+dead_told rows steps t l track = dead_is (record { live = rows.dims; rows = constraints rows; path = path_by 0 (violates 0) steps }) t track l

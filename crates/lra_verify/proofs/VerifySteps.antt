@@ -10,7 +10,7 @@ use Rattle.std.proofs.lemmas.Bool.Decides.{leb_tells}
 use Rattle.std.proofs.lemmas.Option.{slice_get-get_or, slice_get-map}
 use Rattle.lra_front_end.specs.Claims.{AreFew}
 use Rattle.lra_operations.specs.declared.tree.Site as declared
-use Rattle.lra_sides.proofs.TableSteps.{get_left, get_seam}
+use Rattle.lra_path_disjuncts.proofs.TableSteps.{get_left, get_seam}
 use Rattle.lra_domain.specs.Actions.{Action}
 use Rattle.lra_linear_spec.specs.declared.ConKind.{ConKind}
 use Rattle.lra_linear_spec.specs.Kinds.{is_equality}
@@ -20,11 +20,11 @@ use Rattle.lra_program.specs.Program.{Program}
 use Rattle.lra_program.specs.Sites.{Site, sites_of}
 use Rattle.lra_operations.specs.Tree.{Node}
 use Rattle.lra_operations.specs.TreeViews.{site_view}
-use Rattle.lra_ways.specs.Ways.{Goal, comes_to, denies}
-use Rattle.lra_paths.specs.Paths.{Path, path_by, paths_between, paths_of, denials_of, sources_of, points_of, leading, leading_in}
-use Rattle.lra_sides.specs.Sides.{greatest_paths}
-use Rattle.lra_paths.specs.Paths.{AreFewIn, AreFewPaths, HasTooManyIn, HasTooMany}
-use Rattle.lra_sides.specs.Tables.{IsTable}
+use Rattle.lra_path_segments.specs.Segments.{Goal, comes_to, violates}
+use Rattle.lra_paths.specs.Paths.{Path, path_by, paths_between, paths_of, violations_of, sources_of, points_of, actions_between, actions_between_in}
+use Rattle.lra_path_disjuncts.specs.Disjuncts.{greatest_paths}
+use Rattle.lra_paths.specs.Paths.{AreFewIn, AreFewPaths, HasTooManyIn, HasTooManyPaths}
+use Rattle.lra_path_disjuncts.specs.Tables.{IsTable}
 use Rattle.lra_paths.specs.Sources.{to_goal, AreFewTo}
 use Rattle.lra_paths.specs.declared.sources.Source.{Source}
 use Rattle.lra_program.specs.declared.program.GlobalVariable.{GlobalVariable}
@@ -101,7 +101,7 @@ module _ (P : Program) (g : Node) (w : Ways) (ways : AreWays w) (sites : sites_i
   way_is p h q l =
       turn_same (step_by w p q) (λ steps. judged_path P g (states_in w) (path_by p (comes_to q) steps)) (step_is p q) (led_by w p (comes_to q)) l ∙
       ap (λ (xs : List (List Action)). in_turn (λ steps. judged_path P g (states_in w) (path_by p (comes_to q) steps)) xs l) (lead p (comes_to q) h) ∙
-      sym (turn_map (judged_path P g (states_in w)) (path_by p (comes_to q)) (leading P g p (comes_to q)) l)
+      sym (turn_map (judged_path P g (states_in w)) (path_by p (comes_to q)) (actions_between P g p (comes_to q)) l)
 
   source_is : (p : ℕ) → p < length w.sources.now → (l : Left) → source_by w p l ≡
       in_turn (judged_path P g (states_in w)) (flat_map (λ q. paths_between P g p (comes_to q)) (points_of P)) l
@@ -124,28 +124,28 @@ module _ (P : Program) (g : Node) (w : Ways) (ways : AreWays w) (sites : sites_i
 
   -- to where an assertion is false
   dead_is : (p q : ℕ) (steps : List Action) (l : Left) → dead_by (live_by (sites_in w) p) (state_from (states_in w) p) steps l ≡
-      denied P g (states_in w) (path_by p (denies q) steps) l
+      denied P g (states_in w) (path_by p (violates q) steps) l
   dead_is p q steps l = ap (λ (live : ℕ). dead_by live (state_from (states_in w) p) steps l) (live_is p) ∙ by (state_from (states_in w) p)
     where
-      by : (from : State) → dead_by (live_from P p) from steps l ≡ denied_from (live_from P p) (path_by p (denies q) steps) from l
+      by : (from : State) → dead_by (live_from P p) from steps l ≡ denied_from (live_from P p) (path_by p (violates q) steps) from l
       by None = refl
-      by (Some rows) = dead_same (live_from P p) rows steps p (denies q) l
+      by (Some rows) = dead_same (live_from P p) rows steps p (violates q) l
 
   denial_is : (q p : ℕ) → p < length w.sources.now → (l : Left) → denial_by w q p l ≡
-      in_turn (denied P g (states_in w)) (paths_between P g p (denies q)) l
+      in_turn (denied P g (states_in w)) (paths_between P g p (violates q)) l
   denial_is q p h l =
-      turn_same (dead_by (live_by (sites_in w) p) (state_from (states_in w) p)) (λ steps. denied P g (states_in w) (path_by p (denies q) steps))
-      (dead_is p q) (led_by w p (denies q)) l ∙
-      ap (λ (xs : List (List Action)). in_turn (λ steps. denied P g (states_in w) (path_by p (denies q) steps)) xs l) (lead p (denies q) h) ∙
-      sym (turn_map (denied P g (states_in w)) (path_by p (denies q)) (leading P g p (denies q)) l)
+      turn_same (dead_by (live_by (sites_in w) p) (state_from (states_in w) p)) (λ steps. denied P g (states_in w) (path_by p (violates q) steps))
+      (dead_is p q) (led_by w p (violates q)) l ∙
+      ap (λ (xs : List (List Action)). in_turn (λ steps. denied P g (states_in w) (path_by p (violates q) steps)) xs l) (lead p (violates q) h) ∙
+      sym (turn_map (denied P g (states_in w)) (path_by p (violates q)) (actions_between P g p (violates q)) l)
 
-  all_denied : (q : ℕ) (l : Left) → denials_by w q l ≡ judged_denials P g (states_in w) (denials_of P g q) l
+  all_denied : (q : ℕ) (l : Left) → denials_by w q l ≡ judged_denials P g (states_in w) (violations_of P g q) l
   all_denied q l =
-      turn_numbers (denial_by w q) (λ p. in_turn (denied P g (states_in w)) (paths_between P g p (denies q))) 0 (length w.sources.now)
+      turn_numbers (denial_by w q) (λ p. in_turn (denied P g (states_in w)) (paths_between P g p (violates q))) 0 (length w.sources.now)
       (λ p h m. denial_is q p (omega (arith, h)) m) l ∙
-      ap (λ (n : ℕ). in_turn (λ p. in_turn (denied P g (states_in w)) (paths_between P g p (denies q))) (range_with_len 0 n) l) all_sources ∙
-      sym (turn_flat (denied P g (states_in w)) (λ p. paths_between P g p (denies q)) (sources_of P) l) ∙
-      sym (denials_are P g (states_in w) (denials_of P g q) l)
+      ap (λ (n : ℕ). in_turn (λ p. in_turn (denied P g (states_in w)) (paths_between P g p (violates q))) (range_with_len 0 n) l) all_sources ∙
+      sym (turn_flat (denied P g (states_in w)) (λ p. paths_between P g p (violates q)) (sources_of P) l) ∙
+      sym (denials_are P g (states_in w) (violations_of P g q) l)
 
   listed_is : (q : ℕ) (sites : List Site) (l : Left) → listed_by (denials_by w) q sites l ≡ judged_listed P g (states_in w) q sites l
   listed_is q [] l = refl
@@ -155,11 +155,11 @@ module _ (P : Program) (g : Node) (w : Ways) (ways : AreWays w) (sites : sites_i
       by : (b : Bool) → ((m : Left) → listed_by (denials_by w) (suc q) more m ≡ judged_listed P g (states_in w) (suc q) more m) →
           (if b then then_judged (denials_by w q (behind_line l)) (λ next. one_more (listed_by (denials_by w) (suc q) more next))
           else listed_by (denials_by w) (suc q) more l) ≡
-          (if b then then_judged (judged_denials P g (states_in w) (denials_of P g q) (behind_line l))
+          (if b then then_judged (judged_denials P g (states_in w) (violations_of P g q) (behind_line l))
           (λ next. one_more (judged_listed P g (states_in w) (suc q) more next)) else judged_listed P g (states_in w) (suc q) more l)
       by true h =
           ap (λ (j : Judged Left). then_judged j (λ next. one_more (listed_by (denials_by w) (suc q) more next))) (all_denied q (behind_line l)) ∙
-          then_same (judged_denials P g (states_in w) (denials_of P g q) (behind_line l))
+          then_same (judged_denials P g (states_in w) (violations_of P g q) (behind_line l))
           (λ next. one_more (listed_by (denials_by w) (suc q) more next)) (λ next. one_more (judged_listed P g (states_in w) (suc q) more next))
           (λ m. ap one_more (h m))
       by false h = h l
@@ -185,7 +185,7 @@ module _ (P : Program) (g : Node) (w : Ways) (ways : AreWays w) (sites : sites_i
 module _ (F : ℕ → Goal → List (List Action)) where
   pub leads_pushed : (old : List Source) (s : Source) (n : ℕ) → length old ≡ n →
       ((p : ℕ) (goal : Goal) → p < n → led_from (slice_get old p) goal ≡ F p goal) →
-      ((goal : Goal) → to_goal s.entries.items s.ways.items goal ≡ F n goal) →
+      ((goal : Goal) → to_goal s.entries.items s.segments.items goal ≡ F n goal) →
       (p : ℕ) (goal : Goal) → p < n + 1 → led_from (slice_get (old ++ s ∷ []) p) goal ≡ F p goal
   leads_pushed old s n e so_far this p goal h = by (leb_tells n p)
     where
@@ -200,8 +200,8 @@ module _ (F : ℕ → Goal → List (List Action)) where
           ap (λ (o : Option Source). led_from o goal) (get_left old (s ∷ []) p (omega (arith, before, e))) ∙ so_far p goal before
 
 pub sources_few : (globals : List GlobalVariable) (sites : List Site) (g : Node) (sources : List Source) → length sources ≡ suc (length sites) →
-    ((p : ℕ) (goal : Goal) → p ≤ length sites → led_from (slice_get sources p) goal ≡ leading_in globals sites g p goal) →
-    AreFewIn globals sites g → All (λ s. AreFewTo s.entries.items s.ways.items) sources
+    ((p : ℕ) (goal : Goal) → p ≤ length sites → led_from (slice_get sources p) goal ≡ actions_between_in globals sites g p goal) →
+    AreFewIn globals sites g → All (λ s. AreFewTo s.entries.items s.segments.items) sources
 sources_few globals sites g sources n leads few = λ k d h goal.
     let low : k ≤ length sites = omega (arith, h, n) in
     subst (λ (xs : List (List Action)). length xs ≤ greatest_paths)
@@ -247,7 +247,7 @@ ways_ready w states none no_dims said count dims sources short live = record {
 -- ---- the sources of a program, and what is found of its paths
 module _ (g : Node) (globals : List GlobalVariable) (sites : List declared.Site) (items sources : List Source) (same : sources ≡ items)
     (count : length items ≡ suc (length sites))
-    (leads : (p : ℕ) (goal : Goal) → p ≤ length sites → led_from (slice_get items p) goal ≡ leading_in globals (map site_view sites) g p goal) where
+    (leads : (p : ℕ) (goal : Goal) → p ≤ length sites → led_from (slice_get items p) goal ≡ actions_between_in globals (map site_view sites) g p goal) where
   pub sources_ready : (given : List GlobalVariable) (all seen : List declared.Site) → globals ≡ given → sites ≡ all → seen ≡ all →
       All (λ s. IsTable s.entries.items) items → AreFewIn given (map site_view all) g → AreSources (length seen) sources
   sources_ready given all seen of_globals of_sites is tables few =
@@ -264,8 +264,8 @@ module _ (g : Node) (globals : List GlobalVariable) (sites : List declared.Site)
 
   pub lead_ready : (P : Program) → globals ≡ P.globals → map site_view sites ≡ sites_of P → LeadAs P g sources
   lead_ready P of_globals of_sites = subst (λ (xs : List Source). LeadAs P g xs) (sym same) (λ p goal h.
-      leads p goal (omega (arith, h, count)) ∙ ap (λ (gs : List GlobalVariable). leading_in gs (map site_view sites) g p goal) of_globals ∙
-      ap (λ (xs : List Site). leading_in P.globals xs g p goal) of_sites)
+      leads p goal (omega (arith, h, count)) ∙ ap (λ (gs : List GlobalVariable). actions_between_in gs (map site_view sites) g p goal) of_globals ∙
+      ap (λ (xs : List Site). actions_between_in P.globals xs g p goal) of_sites)
 
 module _ (P : Program) (g : Node) (globals : List GlobalVariable) (sites : List Site) (of_globals : globals ≡ P.globals)
     (of_sites : sites ≡ sites_of P) where
@@ -274,9 +274,9 @@ module _ (P : Program) (g : Node) (globals : List GlobalVariable) (sites : List 
       subst (λ (gs : List GlobalVariable). AreFewIn gs (sites_of P) g) of_globals
       (subst (λ (xs : List Site). AreFewIn globals xs g) of_sites few)
 
-  pub many_ready : (q n : ℕ) → q ≡ n → HasTooManyIn globals sites g q → HasTooMany P g n
+  pub many_ready : (q n : ℕ) → q ≡ n → HasTooManyIn globals sites g q → HasTooManyPaths P g n
   many_ready q n is many =
-      subst (HasTooMany P g) is
+      subst (HasTooManyPaths P g) is
       (subst (λ (gs : List GlobalVariable). HasTooManyIn gs (sites_of P) g q) of_globals
       (subst (λ (xs : List Site). HasTooManyIn globals xs g q) of_sites many))
 

@@ -8,10 +8,10 @@ use Rattle.lra_systems.specs.LinearSystems.{LinearSystem, constraints}
 use Rattle.lra_domain.specs.Actions.{Action}
 use Rattle.lra_program.specs.Sites.{Site}
 use Rattle.lra_operations.specs.TreeViews.{site_view}
-use Rattle.lra_ways.specs.Ways.{Goal, comes_to, denies}
+use Rattle.lra_path_segments.specs.Segments.{Goal, comes_to, violates}
 use Rattle.lra_paths.specs.Paths.{Path, path_by, live_of}
 use Rattle.lra_paths.specs.Sources.{to_goal, AreFewTo}
-use Rattle.lra_sides.specs.Tables.{IsTable}
+use Rattle.lra_path_disjuncts.specs.Tables.{IsTable}
 use Rattle.lra_paths.specs.declared.sources.Source.{Source}
 use Rattle.lra_certificate.specs.Certificates.{state_from, state_to}
 use Rattle.lra_certificate.specs.CertificateText.{edge_text, assert_text}
@@ -41,7 +41,7 @@ path_of e steps l =
 abbrev pub dead_by : ℕ → State → List Action → Left → Judged Left
 dead_by live None steps l = Ok l
 dead_by live (Some rows) steps l =
-    judged_dead (record { live = live; rows = rows; path = path_by 0 (denies 0) steps }) l
+    judged_dead (record { live = live; rows = rows; path = path_by 0 (violates 0) steps }) l
 
 -- a program with what is said of its points ------------------------------------------------------------------------
 
@@ -53,7 +53,7 @@ states_in w = map state_view w.states.now
 
 abbrev pub led_from : Option Source → Goal → List (List Action)
 led_from None goal = []
-led_from (Some s) goal = to_goal s.entries.items s.ways.items goal
+led_from (Some s) goal = to_goal s.entries.items s.segments.items goal
 
 abbrev pub led_by : Ways → ℕ → Goal → List (List Action)
 led_by w p goal = led_from (slice_get w.sources.now p) goal
@@ -79,7 +79,7 @@ sources_by w l = in_turn (source_by w) (range_with_len 0 (length w.sources.now))
 
 -- to where the assertion at a point is false
 abbrev pub denial_by : Ways → ℕ → ℕ → Left → Judged Left
-denial_by w q p l = in_turn (dead_by (live_by (sites_in w) p) (state_from (states_in w) p)) (led_by w p (denies q)) l
+denial_by w q p l = in_turn (dead_by (live_by (sites_in w) p) (state_from (states_in w) p)) (led_by w p (violates q)) l
 
 abbrev pub denials_by : Ways → ℕ → Left → Judged Left
 denials_by w q l = in_turn (denial_by w q) (range_with_len 0 (length w.sources.now)) l
@@ -110,7 +110,7 @@ pub record AreWays (w : Ways) : Type 0 where
   pub sources : length w.sources.now ≡ suc (length w.sites.now)
   pub many : length w.sites.now < 2 ^ 31
   pub tables : All (λ s. IsTable s.entries.items) w.sources.now
-  pub few : All (λ s. AreFewTo s.entries.items s.ways.items) w.sources.now
+  pub few : All (λ s. AreFewTo s.entries.items s.segments.items) w.sources.now
   pub start_rows : constraints w.start.now ≡ []
   pub start_dims : w.start.now.dims ≡ 0
   pub dims : HaveDims (sites_in w) w.states.now

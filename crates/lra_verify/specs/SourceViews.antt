@@ -3,10 +3,10 @@ use Rattle.std.specs.Prelude.{◌≡◌, ◌<◌, ℕ, suc, List, length, slice_
 use Rattle.std.specs.List.{All}
 use Rattle.lra_program.specs.Program.{Program}
 use Rattle.lra_operations.specs.Tree.{Node}
-use Rattle.lra_ways.specs.Ways.{Goal}
-use Rattle.lra_paths.specs.Paths.{leading, AreFewPaths, HasTooMany}
+use Rattle.lra_path_segments.specs.Segments.{Goal}
+use Rattle.lra_paths.specs.Paths.{actions_between, AreFewPaths, HasTooManyPaths}
 use Rattle.lra_paths.specs.Sources.{AreFewTo}
-use Rattle.lra_sides.specs.Tables.{IsTable}
+use Rattle.lra_path_disjuncts.specs.Tables.{IsTable}
 use Rattle.lra_paths.specs.declared.sources.Source.{Source}
 use Rattle.lra_lines.specs.declared.refusals.VerifyError.{VerifyError}
 use Rattle.lra_lines.specs.declared.refusals.VerifyError.TheVariants as of_error
@@ -20,17 +20,17 @@ use Rattle.lra_verify.specs.EdgeViews.{led_from}
 pub record AreSources (points : ℕ) (sources : List Source) : Type 0 where
   pub count : length sources ≡ suc points
   pub tables : All (λ s. IsTable s.entries.items) sources
-  pub few : All (λ s. AreFewTo s.entries.items s.ways.items) sources
+  pub few : All (λ s. AreFewTo s.entries.items s.segments.items) sources
 
 -- the paths out of the tables are those of the program
 abbrev pub LeadAs : Program → Node → List Source → Type 0
 LeadAs P g sources = (p : ℕ) (goal : Goal) → p < length sources →
-    led_from (slice_get sources p) goal ≡ leading P g p goal
+    led_from (slice_get sources p) goal ≡ actions_between P g p goal
 
 -- what is answered of a program, and of the lines behind its source
 abbrev pub IsRefusalOf : Program → Node → List ℕ → VerifyRefusal → Type 0
 IsRefusalOf P g rest (of_refusal.Source r) = ⊥
-IsRefusalOf P g rest (of_refusal.Paths p) = HasTooMany P g p
+IsRefusalOf P g rest (of_refusal.Paths p) = HasTooManyPaths P g p
 IsRefusalOf P g rest (of_refusal.Line n fault) = AreFewPaths P g ×
     (judged P g rest ≡ Err (record { line = n; fault = fault_view fault }))
 

@@ -3,7 +3,7 @@
 ghost use Rattle.std.specs.Prelude.{◌≡◌, ◌≤◌, ◌<◌, ◌++◌, ◌^◌, length, codes, string_bytes, Some, IfOk, IfSome};
 ghost use Rattle.std.specs.Fmt.{decimal};
 ghost use Rattle.lra_systems.specs.LinearSystems.{constraints};
-ghost use Rattle.lra_sides.specs.TableSides.{all_done, lists_done};
+ghost use Rattle.lra_path_disjuncts.specs.TableDisjuncts.{all_done, lists_done};
 ghost use Rattle.lra_verify.specs.EdgeViews.{dead_by, path_of};
 ghost use Rattle.lra_certificate.specs.Lines.{in_turn, left_at};
 ghost use Rattle.lra_lines.specs.LineViews.{IsToldAs};

@@ -10,7 +10,7 @@ ghost use Rattle.lra_lines.specs.LineViews.{IsToldAs};
 use crate::edges::take_all_dead;
 use crate::ways::Ways;
 use lra_lines::{VerifyError, behind_text};
-use lra_ways::Goal;
+use lra_path_segments::Goal;
 use std::alloc::{AllocError, Global};
 
 /// How many assertions are listed, and where the next line begins.
@@ -48,7 +48,7 @@ impl Ways<'_> {
         match self.from(source) {
             None => Ok(at),
             Some(rows) => {
-                let paths = self.sources[source].paths_to(alloc, Goal::Denies(point))?;
+                let paths = self.sources[source].paths_to(alloc, Goal::Violates(point))?;
                 take_all_dead(alloc, bytes, at, rows, paths.as_slice())
             }
         }

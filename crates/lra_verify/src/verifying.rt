@@ -8,11 +8,11 @@ ghost use Rattle.lra_program.specs.ProgramViews.{program_view};
 ghost use Rattle.lra_program.specs.Sites.{sites_of};
 ghost use Rattle.lra_operations.specs.Tree.{Node};
 ghost use Rattle.lra_operations.specs.TreeViews.{node_view, site_view};
-ghost use Rattle.lra_paths.specs.Paths.{leading_in};
-ghost use Rattle.lra_ways.specs.Stretches.{AreWays};
-ghost use Rattle.lra_ways.specs.StretchViews.{seen};
-ghost use Rattle.lra_sides.specs.Tables.{IsTable};
-ghost use Rattle.lra_ways.specs.Ways.{Goal};
+ghost use Rattle.lra_paths.specs.Paths.{actions_between_in};
+ghost use Rattle.lra_path_segments.specs.TreeSegments.{AreSegmentsOf};
+ghost use Rattle.lra_path_segments.specs.TreeSegmentViews.{seen};
+ghost use Rattle.lra_path_disjuncts.specs.Tables.{IsTable};
+ghost use Rattle.lra_path_segments.specs.Segments.{Goal};
 ghost use Rattle.lra_certificate.specs.Claims.{Deserves, verified};
 ghost use Rattle.lra_verify.specs.EdgeViews.{led_from};
 ghost use Rattle.lra_certificate.specs.Judged.{judged};
@@ -40,10 +40,10 @@ pub fn all_sources(alloc: Global, paths: &Paths<'_>) -> Result<Vec<Source>, Allo
     requires { length paths.now.sites.now < 2 ^ 31 }
     ensures count { IfOk result (λ v. length v.items ≡ suc (length paths.now.sites.now)) }
     ensures tables { IfOk result (λ v. All (λ s. IsTable s.entries.items) v.items) }
-    ensures leads { IfOk result (λ v. (g : Node) → AreWays (seen paths.now.ways.items) g →
+    ensures leads { IfOk result (λ v. (g : Node) → AreSegmentsOf (seen paths.now.segments.items) g →
         (p : ℕ) (goal : Goal) → p ≤ length paths.now.sites.now →
         led_from (slice_get v.items p) goal ≡
-        leading_in paths.now.globals.now (map site_view paths.now.sites.now) g p goal) }
+        actions_between_in paths.now.globals.now (map site_view paths.now.sites.now) g p goal) }
 {
     let mut sources = Vec::new(alloc);
     for source in 0..paths.sites.len() + 1 {

@@ -3,7 +3,7 @@
 ghost use Rattle.std.specs.Prelude.{◌≡◌, ◌≤◌, ◌<◌, ◌^◌, length, slice_get, IfOk, IfSome};
 ghost use Rattle.std.specs.List.{range_with_len};
 ghost use Rattle.lra_paths.specs.Paths.{live_of};
-ghost use Rattle.lra_ways.specs.Ways.{comes_to};
+ghost use Rattle.lra_path_segments.specs.Segments.{comes_to};
 ghost use Rattle.lra_certificate.specs.Certificates.{state_from, state_to};
 ghost use Rattle.lra_verify.specs.EdgeViews.{AreWays, live_by, sites_in, states_in};
 ghost use Rattle.lra_verify.specs.EdgeViews.{way_by, source_by, sources_by};
@@ -14,9 +14,9 @@ ghost use Rattle.lra_lines.specs.TrackViews.{rows_of};
 use crate::edges::{Edge, take_paths};
 use lra_lines::VerifyError;
 use lra_operations::Site;
+use lra_path_segments::Goal;
 use lra_paths::Source;
 use lra_systems::ConSys;
-use lra_ways::Goal;
 use std::alloc::Global;
 
 /// The points of a program with the rows that are said of them, none where nothing comes there; no row of its start;

@@ -2,7 +2,7 @@
 use Rattle.std.proofs.Common.{Err, List, ap, map, refl, subst, sym, ◌∙◌}
 use Rattle.lra_operations.specs.TreeViews.{node_view, site_view}
 use Rattle.lra_program.specs.Sites.{Site}
-use Rattle.lra_ways.specs.StretchViews.{seen}
+use Rattle.lra_path_segments.specs.TreeSegmentViews.{seen}
 use Rattle.lra_back.specs.Traced.{AreWide}
 use Rattle.lra_back.proofs.Transfer.{traced}
 use Rattle.lra_back.proofs.BackSteps.{asserts_is, backs_over, left_over, needs_over, too_many}
@@ -27,7 +27,7 @@ trace-requires g c =
     let asks = rw c.as_slice.ensures.value at c.is_assertion.ensures in (
       node_view graph.tree,
       needs_over m c.args.globals.now paths.globals.now sites (map site_view paths.sites.now) (node_view graph.tree) of.0
-          (ap (map site_view) of.1) (seen paths.ways.items) c.args.forward.now c.args.point (record {
+          (ap (map site_view) of.1) (seen paths.segments.items) c.args.forward.now c.args.point (record {
             is_tree = of.2;
             few = c.in_ok-paths.ensures.few;
             wide = c.requires.wide;
@@ -50,7 +50,7 @@ returns-clause-traced g c =
     let points = map site_view paths.sites.now in
     let same = ap (map site_view) of.1 in
     let found = c.in_ok-found.found in
-    let needs = needs_over m globals paths.globals.now sites points (node_view graph.tree) of.0 same (seen paths.ways.items) c.args.forward.now c.args.point
+    let needs = needs_over m globals paths.globals.now sites points (node_view graph.tree) of.0 same (seen paths.segments.items) c.args.forward.now c.args.point
     (record {
       is_tree = of.2;
       few = c.in_ok-paths.ensures.few;

@@ -3,9 +3,9 @@ use Rattle.std.proofs.Common.{List, ap, arith, map, subst, sym, ◌∙◌}
 use Rattle.std.proofs.lemmas.Option.{none-some}
 use Rattle.lra_operations.specs.TreeViews.{site_view}
 use Rattle.lra_program.specs.ProgramViews.{cond_view}
-use Rattle.lra_ways.specs.Stretches.{AreWays}
-use Rattle.lra_ways.specs.StretchViews.{seen}
-use Rattle.lra_ways.specs.declared.stretches.Stretch.{Stretch}
+use Rattle.lra_path_segments.specs.TreeSegments.{AreSegmentsOf}
+use Rattle.lra_path_segments.specs.TreeSegmentViews.{seen}
+use Rattle.lra_path_segments.specs.declared.segments.TreeSegment.{TreeSegment}
 use Rattle.lra_back.specs.Going.{condition_seen}
 use Rattle.lra_back.proofs.PathSteps.{read_at, same_there}
 use Rattle.lra_back.proofs.BackSteps.{asserted_found, is_task}
@@ -16,7 +16,7 @@ pub unreachable-requires : goal.unreachable-requires
 unreachable-requires g c =
     let needs = c.requires.1 in
     let asks = needs.asserted c.args.point needs.asserts in
-    let tree = subst (λ (xs : List Stretch). AreWays (seen xs) c.requires.0) (sym c.as_slice.ensures.value) needs.is_tree in
+    let tree = subst (λ (xs : List TreeSegment). AreSegmentsOf (seen xs) c.requires.0) (sym c.as_slice.ensures.value) needs.is_tree in
     none-some (asks.0, asks.1) (sym (ap condition_seen c.in_default.is) ∙ c.find_asserted.ensures c.requires.0 asks.0 asks.1 tree asks.2)
 
 pub offset_bounds-forward-point : goal.offset_bounds-forward-point
@@ -51,7 +51,7 @@ returns-clause-task g c =
     let x = c.index-forward-point.result in
     let inside = assertion_inside m sites forward needs.wide p needs.asserts in
     let at = read_at forward p x inside c.index-forward-point.is in
-    is_task m paths.globals.now sites (seen paths.ways.items) p c.requires.0 (record {
+    is_task m paths.globals.now sites (seen paths.segments.items) p c.requires.0 (record {
       alloc = c.args.alloc;
       sources = c.in_ok-sources_of.field-0;
       forward = c.args.forward;
@@ -69,7 +69,7 @@ returns-clause-prepared g c tree needs =
     let x = c.index-forward-point.result in
     let inside = assertion_inside m sites forward needs.wide p needs.asserts in
     let asserted = c.in-Some.asserted in
-    let is_tree = subst (λ (xs : List Stretch). AreWays (seen xs) tree) (sym c.as_slice.ensures.value) needs.is_tree in
+    let is_tree = subst (λ (xs : List TreeSegment). AreSegmentsOf (seen xs) tree) (sym c.as_slice.ensures.value) needs.is_tree in
     record {
       base = asserted.base;
       condition = cond_view asserted.condition.now;

@@ -2,7 +2,7 @@
 use Rattle.std.proofs.Common.{◌≡◌, ℕ, List, Option, Some, ap, length, map, slice_get, subst, sym, ◌∙◌}
 use Rattle.std.proofs.lemmas.Result.{IfOk-weaker}
 use Rattle.lra_operations.specs.TreeViews.{site_view}
-use Rattle.lra_ways.specs.StretchViews.{seen}
+use Rattle.lra_path_segments.specs.TreeSegmentViews.{seen}
 use Rattle.lra_back.specs.Operations.{dropping}
 use Rattle.lra_back.specs.Traced.{AreWide, Backs}
 use Rattle.lra_back.specs.Going.{IsGoneOver, task_view}
@@ -22,7 +22,8 @@ returns-clause-traced g c tree needs =
     let met = c.in_ok-met.met in
     let gone = subst (λ (f : Option ℕ). IsGoneOver (dropping m b) (task_view r.task) f met.values.items met.flag) c.note.ensures
     c.in_ok-met.ensures.gone in
-    let backs = all_backs m b globals sites (seen c.args.paths.now.ways.items) c.args.point tree r.task forward of.0 of.1 r.exactness c.args.flagged met.flag
+    let backs = all_backs m b globals sites (seen c.args.paths.now.segments.items) c.args.point tree r.task forward of.0 of.1 r.exactness c.args.flagged
+    met.flag
     met.values.items gone needs (c.in_ok-task.ensures.prepared tree needs) in
     IfOk-weaker c.finish.result _ _ (λ found same.
     subst (λ (vs : List g.row.D.Denot). Backs (dropping m b) globals sites tree forward c.args.flagged c.args.point vs found.flagged) (sym same.0)

@@ -4,7 +4,7 @@ use Rattle.std.specs.Borrow.{Bor}
 use Rattle.lra_domain.specs.Changes.{action_of, dims_after_actions}
 use Rattle.lra_domain.specs.declared.Exactness.{Exactness}
 use Rattle.lra_domain.specs.declared.changes.Change.{Change}
-use Rattle.lra_sides.specs.TableSides.{all_done}
+use Rattle.lra_path_disjuncts.specs.TableDisjuncts.{all_done}
 use Rattle.lra_back.specs.Operations.{dropping}
 use Rattle.lra_back.proofs.PathSteps.{IsOverFrom, over_one, read_mapped, undo_fits}
 use Rattle.lra_back.proofs.paths.go_over.Goals as goal

@@ -1,6 +1,6 @@
 -- Goals of `join_paths`: what the paths bring back comes to what is joined so far, one after the other.
 use Rattle.std.proofs.Common.{◌+◌, add-one}
-use Rattle.lra_sides.specs.TableSides.{all_done, lists_done}
+use Rattle.lra_path_disjuncts.specs.TableDisjuncts.{all_done, lists_done}
 use Rattle.lra_back.specs.Operations.{dropping}
 use Rattle.lra_back.proofs.PathSteps.{contains_at, mapped_past, read_mapped}
 use Rattle.lra_back.proofs.JoinSteps.{first_comes, last_comes, next_comes}

@@ -1,4 +1,4 @@
-use Rattle.lra_sides.specs.TableSides.{lists_done}
+use Rattle.lra_path_disjuncts.specs.TableDisjuncts.{lists_done}
 use Rattle.lra_back.specs.Operations.{dropping}
 use Rattle.lra_back.specs.Going.{IfThereHas}
 use Rattle.lra_back.proofs.JoinSteps.{StillComes}

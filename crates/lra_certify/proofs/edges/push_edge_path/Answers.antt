@@ -1,8 +1,8 @@
 -- Goals of `push_edge_path`: the lines of a path from a source to a point.
 use Rattle.std.proofs.Common.{Some, ap, sym, ◌∙◌, append-nil, string_bytes, arith}
 use Rattle.lra_paths.specs.Paths.{path_by}
-use Rattle.lra_sides.specs.TableSides.{all_done}
-use Rattle.lra_ways.specs.Ways.{comes_to}
+use Rattle.lra_path_disjuncts.specs.TableDisjuncts.{all_done}
+use Rattle.lra_path_segments.specs.Segments.{comes_to}
 use Rattle.lra_systems.specs.LinearSystems.{constraints}
 use Rattle.lra_lines.specs.TrackViews.{rows_of}
 use Rattle.lra_certificate.specs.Certificates.{none}

@@ -3,9 +3,9 @@ use Rattle.std.proofs.Common.{length, ap, sym, ◌∙◌, refl, arith, map, List
 use Rattle.std.proofs.lemmas.Option.{slice_get_read}
 use Rattle.lra_domain.specs.Actions.{Action}
 use Rattle.lra_paths.specs.Paths.{path_by}
-use Rattle.lra_ways.specs.Ways.{comes_to}
+use Rattle.lra_path_segments.specs.Segments.{comes_to}
 use Rattle.lra_paths.specs.Sources.{to_goal}
-use Rattle.lra_sides.specs.TableSides.{lists_done}
+use Rattle.lra_path_disjuncts.specs.TableDisjuncts.{lists_done}
 use Rattle.lra_paths.specs.declared.sources.Source.{Source}
 use Rattle.lra_certify.specs.declared.failures.CertifyFailure.{CertifyFailure}
 use Rattle.lra_certify.specs.GroundViews.{IfStrained}
@@ -22,7 +22,7 @@ push_edge_paths-requires-clause-stay c =
     let led = led_lists w p (comes_to c.args.point) c.index-ways-source.result (lists_done c.as_slice.result.now)
     (slice_get_read w.sources.now (length w.sources.now) p c.index-ways-source.result refl (omega (arith, h, n)) c.index-ways-source.is)
     (ap lists_done c.as_slice.ensures.value ∙ c.in_ok-paths.ensures ∙
-    ap (λ (s : Source). to_goal s.entries.items s.ways.items (comes_to c.args.point)) (sym c.index-ways-source.is)) in
+    ap (λ (s : Source). to_goal s.entries.items s.segments.items (comes_to c.args.point)) (sym c.index-ways-source.is)) in
     subst (λ (l : List (List Action)). AllStay w (map (path_by p (comes_to c.args.point)) l)) (sym led) c.requires.stay
 
 pub returns-in-Ok-clause-adds : goal.returns-in-Ok-clause-adds
@@ -34,7 +34,7 @@ returns-in-Ok-clause-adds c =
     let led = led_lists w p (comes_to c.args.point) c.index-ways-source.result (lists_done c.as_slice.result.now)
     (slice_get_read w.sources.now (length w.sources.now) p c.index-ways-source.result refl (omega (arith, h, n)) c.index-ways-source.is)
     (ap lists_done c.as_slice.ensures.value ∙ c.in_ok-paths.ensures ∙
-    ap (λ (s : Source). to_goal s.entries.items s.ways.items (comes_to c.args.point)) (sym c.index-ways-source.is)) in
+    ap (λ (s : Source). to_goal s.entries.items s.segments.items (comes_to c.args.point)) (sym c.index-ways-source.is)) in
     subst (λ (l : List (List Action)). AddsPaths w edge_lines (map (path_by p (comes_to c.args.point)) l) (string_bytes c.args.text.now)
     (string_bytes c.push_edge_paths.new.text)) led c.in-Ok.ensures.adds
 
@@ -47,7 +47,7 @@ returns-clause-failure c =
     let led = led_lists w p (comes_to c.args.point) c.index-ways-source.result (lists_done c.as_slice.result.now)
     (slice_get_read w.sources.now (length w.sources.now) p c.index-ways-source.result refl (omega (arith, h, n)) c.index-ways-source.is)
     (ap lists_done c.as_slice.ensures.value ∙ c.in_ok-paths.ensures ∙
-    ap (λ (s : Source). to_goal s.entries.items s.ways.items (comes_to c.args.point)) (sym c.index-ways-source.is)) in
+    ap (λ (s : Source). to_goal s.entries.items s.segments.items (comes_to c.args.point)) (sym c.index-ways-source.is)) in
     subst (λ (e : CertifyFailure). IfStopped (SomeStops w (paths_to w p (comes_to c.args.point))) e) (sym c.at.ensures)
     (failed_edge w p c.args.point c.in-Err.failure
     (subst (λ (l : List (List Action)). IfStrained (SomePathStops w (map (path_by p (comes_to c.args.point)) l)) c.in-Err.failure) led

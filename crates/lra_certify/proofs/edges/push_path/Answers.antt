@@ -1,6 +1,6 @@
 -- Goals of `push_path`: what is said of a path from a source with rows.
 use Rattle.std.proofs.Common.{string_bytes}
-use Rattle.lra_sides.specs.TableSides.{all_done}
+use Rattle.lra_path_disjuncts.specs.TableDisjuncts.{all_done}
 use Rattle.lra_lines.specs.TrackViews.{rows_of}
 use Rattle.lra_certify.proofs.EdgeFound.{walk_strained, grounds_lead, evidence_told, evidence_failed, grounds_are}
 use Rattle.lra_certify.proofs.FarkasLaws.{laws}

@@ -1,6 +1,6 @@
 use Rattle.std.proofs.Common.{drop, string_bytes}
 use Rattle.lra_systems.specs.LinearSystems.{constraints}
-use Rattle.lra_sides.specs.TableSides.{lists_done}
+use Rattle.lra_path_disjuncts.specs.TableDisjuncts.{lists_done}
 use Rattle.lra_certify.specs.WrittenPaths.{DeadLeft}
 use Rattle.lra_certify.proofs.listed.push_dead_paths.Given as goal
 

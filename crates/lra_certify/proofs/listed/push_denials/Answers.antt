@@ -2,7 +2,7 @@
 use Rattle.std.proofs.Common.{◌+◌, ◌-◌, ℕ, length, arith, string_bytes}
 use native.Mathlib.Numerals.{unary_clauses}
 use Rattle.std.specs.List.{flat_map, range_with_len}
-use Rattle.lra_ways.specs.Ways.{denies}
+use Rattle.lra_path_segments.specs.Segments.{violates}
 use Rattle.lra_certify.specs.WrittenPaths.{denial_lines, paths_to, denied_paths}
 use Rattle.lra_certify.proofs.PathSteps.{stay_denied, paths_begin, paths_next, paths_stop, paths_end, numbers_flat, no_numbers}
 use Rattle.lra_certify.proofs.listed.push_denials.Goals as goal
@@ -20,7 +20,7 @@ loop-source-preserved c =
     let w = c.args.ways.now in
     let n = length w.sources.now in
     let i = c.loop-source.source in
-    let f = λ (p : ℕ). paths_to w p (denies c.args.point) in
+    let f = λ (p : ℕ). paths_to w p (violates c.args.point) in
     paths_next w denial_lines (f i) (flat_map f (range_with_len (i + 1) (n - (i + 1)))) (flat_map f (range_with_len i (n - i)))
     (denied_paths w c.args.point) (numbers_flat f i n c.loop-source-test.true) (string_bytes c.loop-source.text) (string_bytes c.args.text.now)
     c.loop-source.invariant (string_bytes c.push_denials_from.new.text) c.in_ok-push_denials_from.ensures.adds
@@ -30,7 +30,7 @@ returns-in_err-push_denials_from-clause-failure c =
     let w = c.args.ways.now in
     let n = length w.sources.now in
     let i = c.loop-source.source in
-    let f = λ (p : ℕ). paths_to w p (denies c.args.point) in
+    let f = λ (p : ℕ). paths_to w p (violates c.args.point) in
     paths_stop w denial_lines (f i) (flat_map f (range_with_len (i + 1) (n - (i + 1)))) (flat_map f (range_with_len i (n - i)))
     (denied_paths w c.args.point) (numbers_flat f i n c.loop-source-test.true) (string_bytes c.loop-source.text) (string_bytes c.args.text.now)
     c.loop-source.invariant c.from_residual.result _ c.from_residual.ensures.1 c.in_err-push_denials_from.ensures.failure
@@ -41,6 +41,6 @@ returns-clause-adds c =
     let n = length w.sources.now in
     let i = c.loop-source.source in
     let h = c.loop-source-test.false in
-    let f = λ (p : ℕ). paths_to w p (denies c.args.point) in
+    let f = λ (p : ℕ). paths_to w p (violates c.args.point) in
     paths_end w denial_lines (flat_map f (range_with_len i (n - i))) (denied_paths w c.args.point) (string_bytes c.loop-source.text)
     (string_bytes c.args.text.now) (no_numbers f i n (omega (arith, h))) c.loop-source.invariant

@@ -2,9 +2,9 @@
 use Rattle.std.proofs.Common.{length, ap, sym, ◌∙◌, refl, arith, string_bytes}
 use Rattle.std.proofs.lemmas.Option.{slice_get_read}
 use Rattle.lra_systems.specs.LinearSystems.{constraints}
-use Rattle.lra_ways.specs.Ways.{denies}
+use Rattle.lra_path_segments.specs.Segments.{violates}
 use Rattle.lra_paths.specs.Sources.{to_goal}
-use Rattle.lra_sides.specs.TableSides.{lists_done}
+use Rattle.lra_path_disjuncts.specs.TableDisjuncts.{lists_done}
 use Rattle.lra_paths.specs.declared.sources.Source.{Source}
 use Rattle.lra_lines.specs.TrackViews.{rows_of}
 use Rattle.lra_certify.proofs.PathSteps.{led_lists, none_denied, denied_told, denied_failed, denied_stay}
@@ -22,10 +22,10 @@ push_dead_paths-requires-clause-stay c =
     let n = c.requires.ways.sources in
     denied_stay w p c.args.point c.in-Some.rows.now.dims (constraints c.in-Some.rows.now) c.in-Some.ensures.dims
     (sym (ap rows_of c.in-Some.is) ∙ c.from.ensures.rows) (lists_done c.as_slice.result.now)
-    (led_lists w p (denies c.args.point) c.index-ways-source.result (lists_done c.as_slice.result.now)
+    (led_lists w p (violates c.args.point) c.index-ways-source.result (lists_done c.as_slice.result.now)
     (slice_get_read w.sources.now (length w.sources.now) p c.index-ways-source.result refl (omega (arith, h, n)) c.index-ways-source.is)
     (ap lists_done c.as_slice.ensures.value ∙ c.in_ok-paths-in-Some.ensures ∙
-    ap (λ (s : Source). to_goal s.entries.items s.ways.items (denies c.args.point)) (sym c.index-ways-source.is))) c.requires.stay
+    ap (λ (s : Source). to_goal s.entries.items s.segments.items (violates c.args.point)) (sym c.index-ways-source.is))) c.requires.stay
 
 pub returns-in_ok-paths-in-Some-clause-adds : goal.returns-in_ok-paths-in-Some-clause-adds
 returns-in_ok-paths-in-Some-clause-adds c =
@@ -35,10 +35,10 @@ returns-in_ok-paths-in-Some-clause-adds c =
     let n = c.requires.ways.sources in
     denied_told w p c.args.point c.in-Some.rows.now.dims (constraints c.in-Some.rows.now) c.in-Some.ensures.dims
     (sym (ap rows_of c.in-Some.is) ∙ c.from.ensures.rows) (lists_done c.as_slice.result.now)
-    (led_lists w p (denies c.args.point) c.index-ways-source.result (lists_done c.as_slice.result.now)
+    (led_lists w p (violates c.args.point) c.index-ways-source.result (lists_done c.as_slice.result.now)
     (slice_get_read w.sources.now (length w.sources.now) p c.index-ways-source.result refl (omega (arith, h, n)) c.index-ways-source.is)
     (ap lists_done c.as_slice.ensures.value ∙ c.in_ok-paths-in-Some.ensures ∙
-    ap (λ (s : Source). to_goal s.entries.items s.ways.items (denies c.args.point)) (sym c.index-ways-source.is)))
+    ap (λ (s : Source). to_goal s.entries.items s.segments.items (violates c.args.point)) (sym c.index-ways-source.is)))
     (string_bytes c.args.text.now) (string_bytes c.push_dead_paths.new.text) c.push_dead_paths.result c.push_dead_paths.ensures.adds
 
 pub returns-in_ok-paths-in-Some-clause-failure : goal.returns-in_ok-paths-in-Some-clause-failure
@@ -49,8 +49,8 @@ returns-in_ok-paths-in-Some-clause-failure c =
     let n = c.requires.ways.sources in
     denied_failed w p c.args.point c.in-Some.rows.now.dims (constraints c.in-Some.rows.now) c.in-Some.ensures.dims
     (sym (ap rows_of c.in-Some.is) ∙ c.from.ensures.rows) (lists_done c.as_slice.result.now)
-    (led_lists w p (denies c.args.point) c.index-ways-source.result (lists_done c.as_slice.result.now)
+    (led_lists w p (violates c.args.point) c.index-ways-source.result (lists_done c.as_slice.result.now)
     (slice_get_read w.sources.now (length w.sources.now) p c.index-ways-source.result refl (omega (arith, h, n)) c.index-ways-source.is)
     (ap lists_done c.as_slice.ensures.value ∙ c.in_ok-paths-in-Some.ensures ∙
-    ap (λ (s : Source). to_goal s.entries.items s.ways.items (denies c.args.point)) (sym c.index-ways-source.is)))
+    ap (λ (s : Source). to_goal s.entries.items s.segments.items (violates c.args.point)) (sym c.index-ways-source.is)))
     c.push_dead_paths.result c.push_dead_paths.ensures.failure

@@ -1,6 +1,6 @@
 use Rattle.std.proofs.Common.{◌≡◌, ◌≤◌, ◌+◌, drop}
 use Rattle.lra_multipliers.specs.Symbols.{tests_in}
-use Rattle.lra_sides.specs.TableSides.{all_done}
+use Rattle.lra_path_disjuncts.specs.TableDisjuncts.{all_done}
 use Rattle.lra_lines.proofs.tracks.count_tests.Given as goal
 
 abbrev pub invariant-loop-change : goal.invariant-loop-change

@@ -1,5 +1,5 @@
 -- Goals of `push_all_departing`: one stretch more.
-use Rattle.lra_sides.proofs.GuardSteps.{still_in}
+use Rattle.lra_path_disjuncts.proofs.GuardSteps.{still_in}
 use Rattle.lra_paths.proofs.DepartureSteps.{adds_next}
 use Rattle.lra_paths.proofs.paths.push_all_departing.Goals as goal
 

@@ -1,7 +1,7 @@
 use Rattle.std.proofs.Common.{take}
 use Rattle.lra_paths.specs.Sources.{Adds, all_departing}
-use Rattle.lra_ways.specs.StretchViews.{seen}
-use Rattle.lra_sides.specs.Tables.{moves_at}
+use Rattle.lra_path_segments.specs.TreeSegmentViews.{seen}
+use Rattle.lra_path_disjuncts.specs.Tables.{moves_at}
 use Rattle.lra_paths.proofs.paths.push_all_departing.Given as goal
 
 -- those of the stretches so far have come

@@ -1,6 +1,6 @@
 use Rattle.std.proofs.Common.{◌≡◌, ◌≤◌, length, drop, Some}
 use Rattle.lra_systems.specs.LinearSystems.{constraints}
-use Rattle.lra_sides.specs.TableSides.{lists_done}
+use Rattle.lra_path_disjuncts.specs.TableDisjuncts.{lists_done}
 use Rattle.lra_verify.specs.EdgeViews.{dead_by}
 use Rattle.lra_certificate.specs.Lines.{in_turn, left_at}
 use Rattle.lra_verify.proofs.edges.take_all_dead.Given as goal

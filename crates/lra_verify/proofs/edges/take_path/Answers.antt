@@ -1,6 +1,6 @@
 -- Goals of `take_path`: a path, behind its own line.
 use Rattle.std.proofs.Common.{◌∙◌}
-use Rattle.lra_sides.specs.TableSides.{all_done}
+use Rattle.lra_path_disjuncts.specs.TableDisjuncts.{all_done}
 use Rattle.lra_certificate.specs.Lines.{left_at}
 use Rattle.lra_lines.specs.TrackViews.{rows_of, lines_by}
 use Rattle.lra_verify.specs.EdgeViews.{path_of}

@@ -3,7 +3,7 @@ use Rattle.std.proofs.Common.{◌+◌, ◌∷◌, ◌∙◌, List, ap, sym, drop
 use Rattle.std.specs.Borrow.{Bor}
 use Rattle.lra_domain.specs.declared.changes.Change.{Change}
 use Rattle.lra_verify.specs.EdgeViews.{path_of}
-use Rattle.lra_sides.specs.TableSides.{all_done, lists_done}
+use Rattle.lra_path_disjuncts.specs.TableDisjuncts.{all_done, lists_done}
 use Rattle.lra_certificate.specs.Lines.{in_turn, left_at}
 use Rattle.lra_lines.proofs.ShowSteps.{turn_more, turn_fault, turn_done}
 use Rattle.lra_verify.proofs.EdgeSteps.{lists_next, lists_end}

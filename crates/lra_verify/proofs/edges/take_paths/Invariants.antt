@@ -1,5 +1,5 @@
 use Rattle.std.proofs.Common.{◌≡◌, ◌≤◌, length, drop}
-use Rattle.lra_sides.specs.TableSides.{lists_done}
+use Rattle.lra_path_disjuncts.specs.TableDisjuncts.{lists_done}
 use Rattle.lra_verify.specs.EdgeViews.{path_of}
 use Rattle.lra_certificate.specs.Lines.{in_turn, left_at}
 use Rattle.lra_verify.proofs.edges.take_paths.Given as goal

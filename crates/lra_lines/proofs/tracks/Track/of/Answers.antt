@@ -1,7 +1,7 @@
 -- Goals of `of`: a path from a source with rows, as its lines are judged.
 use Rattle.std.proofs.Common.{suc}
 use Rattle.lra_systems.specs.LinearSystems.{constraints}
-use Rattle.lra_sides.specs.TableSides.{all_done}
+use Rattle.lra_path_disjuncts.specs.TableDisjuncts.{all_done}
 use Rattle.lra_lines.specs.WalkViews.{walk_view}
 use Rattle.lra_lines.proofs.TrackSteps.{grounds_made, premises_counted}
 use Rattle.lra_lines.proofs.tracks.Track.of.Goals as goal

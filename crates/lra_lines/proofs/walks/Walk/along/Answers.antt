@@ -4,7 +4,7 @@ use Rattle.lra_domain.specs.Actions.{Action}
 use Rattle.lra_domain.specs.Changes.{action_of}
 use Rattle.lra_multipliers.specs.Symbols.{Walked, walk_of, walked, width_of}
 use Rattle.lra_lines.specs.WalkViews.{walk_view, HasWidth}
-use Rattle.lra_sides.specs.TableSides.{all_done}
+use Rattle.lra_path_disjuncts.specs.TableDisjuncts.{all_done}
 use Rattle.lra_lines.proofs.WalkChanges.{path_next, path_done, walk_begun, along_on, along_passes, free_next}
 use Rattle.lra_lines.proofs.walks.Walk.along.Goals as goal
 

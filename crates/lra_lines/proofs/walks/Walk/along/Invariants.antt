@@ -1,7 +1,7 @@
 use Rattle.std.proofs.Common.{◌≡◌, ◌≤◌, ◌+◌, drop}
 use Rattle.lra_multipliers.specs.Symbols.{new_symbols, walk_of, walked, width_of}
 use Rattle.lra_lines.specs.WalkViews.{walk_view, HasWidth}
-use Rattle.lra_sides.specs.TableSides.{all_done}
+use Rattle.lra_path_disjuncts.specs.TableDisjuncts.{all_done}
 use Rattle.lra_lines.proofs.walks.Walk.along.Given as goal
 
 abbrev pub invariant-loop-change : goal.invariant-loop-change

@@ -4,4 +4,4 @@ use Rattle.lra_paths.proofs.sources.Source.has_too_many.Given as goal
 
 -- few to the goals of the ways so far
 abbrev pub invariant-ways : goal.invariant-ways
-invariant-ways l = AreFewFor l.self.entries.items l.self.ways.items (take l.way-index l.way-items)
+invariant-ways l = AreFewFor l.self.entries.items l.self.segments.items (take l.way-index l.way-items)

@@ -2,9 +2,9 @@
 use Rattle.std.proofs.Common.{Some, length, ap, sym, ◌∙◌, refl, arith}
 use Rattle.std.proofs.lemmas.Option.{slice_get_read}
 use Rattle.lra_systems.specs.LinearSystems.{constraints}
-use Rattle.lra_ways.specs.Ways.{denies}
+use Rattle.lra_path_segments.specs.Segments.{violates}
 use Rattle.lra_paths.specs.Sources.{to_goal}
-use Rattle.lra_sides.specs.TableSides.{lists_done}
+use Rattle.lra_path_disjuncts.specs.TableDisjuncts.{lists_done}
 use Rattle.lra_paths.specs.declared.sources.Source.{Source}
 use Rattle.lra_certificate.specs.Lines.{in_turn, left_at}
 use Rattle.lra_verify.specs.EdgeViews.{dead_by, denial_by}
@@ -29,4 +29,4 @@ returns-in_ok-paths-in-Some-clause-told c =
     (denial_same w c.args.source c.args.point c.from.result c.from.ensures.rows c.index-self-source.result r lists l c.in-Some.is
     (slice_get_read w.sources.now (length w.sources.now) c.args.source c.index-self-source.result refl (omega (arith, h, n)) c.index-self-source.is)
     (ap lists_done c.as_slice.ensures.value ∙ c.in_ok-paths-in-Some.ensures ∙
-    ap (λ (s : Source). to_goal s.entries.items s.ways.items (denies c.args.point)) (sym c.index-self-source.is)) c.in-Some.ensures.dims) c.take_all_dead.ensures.told
+    ap (λ (s : Source). to_goal s.entries.items s.segments.items (violates c.args.point)) (sym c.index-self-source.is)) c.in-Some.ensures.dims) c.take_all_dead.ensures.told

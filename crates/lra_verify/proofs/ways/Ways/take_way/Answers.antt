@@ -1,9 +1,9 @@
 -- Goals of `take_way`: the paths from a source to a point.
 use Rattle.std.proofs.Common.{length, ap, sym, ◌∙◌, refl, arith}
 use Rattle.std.proofs.lemmas.Option.{slice_get_read}
-use Rattle.lra_ways.specs.Ways.{comes_to}
+use Rattle.lra_path_segments.specs.Segments.{comes_to}
 use Rattle.lra_paths.specs.Sources.{to_goal}
-use Rattle.lra_sides.specs.TableSides.{lists_done}
+use Rattle.lra_path_disjuncts.specs.TableDisjuncts.{lists_done}
 use Rattle.lra_paths.specs.declared.sources.Source.{Source}
 use Rattle.lra_certificate.specs.Lines.{in_turn, left_at}
 use Rattle.lra_verify.specs.EdgeViews.{path_of, way_by}
@@ -26,5 +26,5 @@ returns-clause-told c =
     (way_same c.from.result c.state.result p q w c.index-self-source.result lists
     (slice_get_read w.sources.now (length w.sources.now) p c.index-self-source.result refl (omega (arith, h, n)) c.index-self-source.is)
     (ap lists_done c.as_slice.ensures.value ∙ c.in_ok-paths.ensures ∙
-    ap (λ (s : Source). to_goal s.entries.items s.ways.items (comes_to q)) (sym c.index-self-source.is)) c.from.ensures.rows c.state.ensures.rows c.from.ensures.dims l)
+    ap (λ (s : Source). to_goal s.entries.items s.segments.items (comes_to q)) (sym c.index-self-source.is)) c.from.ensures.rows c.state.ensures.rows c.from.ensures.dims l)
     c.take_paths.ensures.told

@@ -1,5 +1,0 @@
--- In the order in which they are to be read.
-pub mod Points
-pub mod Closed
-pub mod Stores
-pub mod RationalPoints

@@ -1,0 +1,18 @@
+//! Laws: each of these does nothing, and its contract is the theorem.
+
+ghost use Rattle.lra_poly_domain.specs.Abstraction.{polyhedron_abstraction};
+ghost use Rattle.lra_inductive_sound.specs.Inductive.{ValuesAreInductive};
+ghost use Rattle.lra_inductive_sound.specs.RationalPoints.{rational_points};
+ghost use Rattle.lra_inductive_sound.specs.Stores.{stores};
+
+use lra_domain::Domain;
+
+/// The polyhedra of an iteration that isn't narrowed, flagged or not, are closed along paths at rational points.
+pub fn polyhedra_are_inductive()
+    ensures { ValuesAreInductive polyhedron_abstraction rational_points }
+{}
+
+/// Over any domain, what such an iteration finds is closed along paths at stores.
+pub fn stores_are_inductive<D: Domain>()
+    ensures { ValuesAreInductive D.abstraction (stores D.abstraction) }
+{}

@@ -1,0 +1,59 @@
+-- What is done on a way leads where its moves lead: a value that goes to a label has that label's value, and one that goes to
+-- none has none of them.
+use Rattle.std.proofs.Common.{◌≡◌, ℕ, ℤ, List, [], ◌∷◌, length, Bool, true, false, Some, refl, sym, ap, ◌∙◌, subst, arith}
+use Rattle.std.specs.Prelude.{if◌then◌else◌}
+use Rattle.std.specs.List.{list_any}
+use Rattle.std.specs.Ordering.{int_eq}
+use Rattle.std.proofs.lemmas.Bool.Decides.{Decides-int_eq}
+use Rattle.std.proofs.lemmas.Int.{ints}
+use Rattle.lra_base.specs.Operators.{equal}
+use Rattle.lra_base.specs.declared.case_labels.CaseLabel.{CaseLabel}
+use Rattle.lra_base.specs.declared.case_labels.CaseLabel.TheVariants.{Case, Default}
+use Rattle.lra_base.specs.CaseLabels.{is_same_case}
+use Rattle.lra_domain.specs.Moves.{MayLead}
+use Rattle.lra_program.specs.Program.{Expr}
+use Rattle.lra_program.specs.Value.{value_of, compares}
+use Rattle.lra_program.specs.Step.{State, environment_at}
+use Rattle.lra_analysis_spec.specs.Linearization.{linearized}
+use Rattle.lra_analysis_spec.proofs.CondKeeping.{value_leads}
+use Rattle.lra_analysis_spec.proofs.Keeping.{op_leads}
+use Rattle.lra_path_segments.specs.Segments.{SegmentStep, does, goes, RunsStep}
+use Rattle.lra_path_disjuncts.specs.StepMoves.{dims_after_step, label_moves, step_moves, unmatched_moves}
+use Rattle.lra_path_segments.proofs.LabelLaws.{neither}
+use Rattle.lra_path_disjuncts.proofs.OpLengths.{op_length}
+
+itself : (z : ℤ) → compares equal z z ≡ true
+itself z = grind (arith, ints)
+
+unequal : (z y : ℤ) → int_eq z y ≡ false → compares equal z y ≡ false
+unequal z y e = by (compares equal z y) refl
+  where
+    by : (b : Bool) → compares equal z y ≡ b → b ≡ false
+    by false i = refl
+    by true i = absurd (let same : z ≡ y = grind (arith, ints, i) in let no : true ≡ false = sym ((Decides-int_eq z y).1 same) ∙ e in cc)
+
+pub step_length : (step : SegmentStep) (s t : State) → RunsStep step s t → length t.store ≡ dims_after_step step (length s.store)
+step_length (does op) s t o = op_length op s t o
+step_length (goes base e labels l) s t (z, got, same, is) = ap (λ (u : State). length u.store) same
+
+module _ (base : ℕ) (e : Expr) (s : State) (z : ℤ) (left : List ℤ) (got : value_of e (environment_at base s) s.draws ≡ Some (z, left)) where
+  -- where no label names the value
+  unmatched_lead : (labels : List CaseLabel) → list_any (is_same_case (Case z)) labels ≡ false
+      → MayLead (unmatched_moves (length s.store) (linearized (length s.store) base e) labels) s.store s.store
+  unmatched_lead [] none = refl
+  unmatched_lead (Case y ∷ labels) none =
+      let (here, later) = neither (int_eq z y) (list_any (is_same_case (Case z)) labels) none in
+      (s.store, value_leads (environment_at base s) e y false s.draws left z got (unequal z y here), unmatched_lead labels later)
+  unmatched_lead (Default ∷ labels) none = unmatched_lead labels none
+
+  label_leads : (labels : List CaseLabel) (b : Bool) → list_any (is_same_case (Case z)) labels ≡ b
+      → MayLead (label_moves (length s.store) (linearized (length s.store) base e) labels (if b then Case z else Default)) s.store s.store
+  label_leads labels true is = value_leads (environment_at base s) e z true s.draws left z got (itself z)
+  label_leads labels false is = unmatched_lead labels is
+
+pub step_leads : (step : SegmentStep) (s t : State) → RunsStep step s t → MayLead (step_moves (length s.store) step) s.store t.store
+step_leads (does op) s t o = op_leads op s t o
+step_leads (goes base e labels l) s t (z, got, same, is) =
+    let led = label_leads base e s z t.draws got labels (list_any (is_same_case (Case z)) labels) refl in
+    subst (λ store. MayLead (label_moves (length s.store) (linearized (length s.store) base e) labels l) s.store store) (sym (ap (λ (u : State). u.store) same))
+    (subst (λ k. MayLead (label_moves (length s.store) (linearized (length s.store) base e) labels k) s.store s.store) (sym is) led)

@@ -1,0 +1,13 @@
+-- Goals of `push_in_turn`: one change more is made.
+use Rattle.lra_domain.specs.Changes.{action_of, actions_of}
+use Rattle.lra_domain.specs.Moves.{make}
+use Rattle.lra_path_disjuncts.proofs.TableSteps.{within}
+use Rattle.lra_path_disjuncts.proofs.GuardSteps.{turned_in}
+use Rattle.lra_path_disjuncts.proofs.conditions.push_in_turn.Goals as goal
+
+pub push_first_then-requires-clause-first : goal.push_first_then-requires-clause-first
+push_first_then-requires-clause-first c = within c.push_make.new.entries.items c.in_ok-first.first (make (action_of c.in-Some.change)) c.in_ok-first.ensures.has
+
+pub push_first_then-requires-clause-then : goal.push_first_then-requires-clause-then
+push_first_then-requires-clause-then c = turned_in c.changes.entries.items c.push_make.new.entries.items c.changes.place
+    (actions_of c.args.changes.items) c.changes.left.items c.changes.invariant.turned c.in_ok-first.ensures.grows

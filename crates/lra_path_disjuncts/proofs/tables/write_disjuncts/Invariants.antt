@@ -1,0 +1,8 @@
+use Rattle.std.proofs.Common.{◌≡◌, ◌++◌, take}
+use Rattle.lra_path_disjuncts.specs.Disjuncts.{disjuncts}
+use Rattle.lra_path_disjuncts.specs.Tables.{moves_at}
+use Rattle.lra_path_disjuncts.specs.TableDisjuncts.{lists_done}
+use Rattle.lra_path_disjuncts.proofs.tables.write_disjuncts.Given as goal
+
+abbrev pub invariant-sides : goal.invariant-sides
+invariant-sides l = lists_done l.all.items ≡ lists_done l.fn.all.items ++ take l.number (disjuncts (moves_at l.fn.entries l.fn.place))

@@ -1,0 +1,10 @@
+use Rattle.std.proofs.Common.{◌≡◌}
+use Rattle.lra_path_segments.specs.TreeSegments.{segments_of_kind, segments_not_of_kind}
+use Rattle.lra_path_segments.specs.TreeSegmentViews.{kind_view, seen}
+use Rattle.lra_path_segments.proofs.segments.part.Given as goal
+
+abbrev pub invariant-each : goal.invariant-each
+invariant-each l = record {
+  those : seen l.parts.those.items ≡ those (kind_view l.kind) (seen l.yielded);
+  segments_not_of_kind : seen l.parts.others.items ≡ segments_not_of_kind (kind_view l.kind) (seen l.yielded);
+}

@@ -1,0 +1,7 @@
+use Rattle.std.proofs.Common.{◌≡◌, ◌++◌, map}
+use Rattle.lra_path_segments.specs.TreeSegments.{ended}
+use Rattle.lra_path_segments.specs.TreeSegmentViews.{seen}
+use Rattle.lra_path_segments.proofs.segments.push_ended.Given as goal
+
+abbrev pub invariant-each : goal.invariant-each
+invariant-each l = seen l.all.items ≡ seen l.fn.all.items ++ map (λ s. ended s) (seen l.yielded)

@@ -1,0 +1,7 @@
+use Rattle.std.proofs.Common.{◌≡◌, ◌++◌, map}
+use Rattle.lra_path_segments.specs.TreeSegments.{turned}
+use Rattle.lra_path_segments.specs.TreeSegmentViews.{move_view, seen}
+use Rattle.lra_path_segments.proofs.segments.push_turned.Given as goal
+
+abbrev pub invariant-each : goal.invariant-each
+invariant-each l = seen l.all.items ≡ seen l.fn.all.items ++ map (λ s. turned l.point (move_view l.first) s) (seen l.yielded)

@@ -1,5 +1,0 @@
-use Rattle.std.proofs.Common.{length}
-use Rattle.lra_sides.proofs.changes.+push_globals_from.Given as goal
-
-abbrev pub decreases-push_globals_from : goal.decreases-push_globals_from
-decreases-push_globals_from l = length l.globals.now
