@@ -23,15 +23,15 @@ use Rattle.lra_path_disjuncts.specs.Tables.{IsTable}
 use Rattle.lra_paths.specs.Paths.{AreFewIn, actions_between_in}
 use Rattle.lra_paths.specs.Sources.{to_goal}
 use Rattle.lra_paths.specs.declared.sources.Source.{Source}
-use Rattle.lra_back.specs.Operations.{dropping}
+use Rattle.lra_back.specs.Operations.{lossy_back_operations}
 use Rattle.lra_back.specs.Rounds.{Rounds}
-use Rattle.lra_back.specs.Traced.{AreAsserted, Backs, IsAsserted, IsAssertion, NothingLeftAtStart, task_of}
-use Rattle.lra_back.specs.Going.{AreHeads, AreSources, BackNeeds, FitHeads, IsGoneOver, IsPrepared, IsSourceOf}
-use Rattle.lra_back.specs.Going.{IsTask, asserts_at, asserts_of, failed_by, paths_at, paths_from, task_view}
+use Rattle.lra_back.specs.BackwardAnalysis.{AreAsserted, BackwardAnalysis, IsAsserted, IsAssertion, NothingLeftAtStart, task_of}
+use Rattle.lra_back.specs.BackwardCalls.{AreHeads, AreSources, BackNeeds, FitHeads, IsBackwardSolution, IsPrepared, IsSourceOf}
+use Rattle.lra_back.specs.BackwardCalls.{IsTask, asserts_at, asserts_of, failed_by, paths_at, paths_from, task_view}
 use Rattle.lra_paths.specs.declared.paths.PathsFailure.{PathsFailure}
 use Rattle.lra_paths.specs.declared.paths.PathsFailure.TheVariants as paths_failure
-use Rattle.lra_back.specs.declared.backs.BackFailure.{BackFailure}
-use Rattle.lra_back.specs.declared.backs.BackFailure.TheVariants.{Memory, TooMany}
+use Rattle.lra_back.specs.declared.analysis.BackFailure.{BackFailure}
+use Rattle.lra_back.specs.declared.analysis.BackFailure.TheVariants.{Memory, TooMany}
 use Rattle.lra_back.specs.declared.tasks.Task.{Task}
 use Rattle.lra_back.proofs.RoundSteps.{same_rounds}
 
@@ -112,11 +112,11 @@ module _ {V H : Type 0} (m : Abstraction V H) (b : BackwardAbstraction V) (globa
     (tree : Node)
     (t : Task V) where
   pub rounds_of : BackNeeds m globals sites ways t.forward.now p tree → AreSources globals sites tree t.sources.items → (n : ℕ) → n ≡ length t.forward.now
-      → t.assertion ≡ p → (f : Option ℕ) (heads : List H) (g : Option ℕ) (last : List H) → Rounds (dropping m b) (task_view t) n f heads g last
-      → Rounds (dropping m b) (task_of globals sites tree t.forward.now p t.seed) n f heads g last
+      → t.assertion ≡ p → (f : Option ℕ) (heads : List H) (g : Option ℕ) (last : List H) → Rounds (lossy_back_operations m b) (task_view t) n f heads g last
+      → Rounds (lossy_back_operations m b) (task_of globals sites tree t.forward.now p t.seed) n f heads g last
   rounds_of needs sources n is here f heads g last rounds =
-      subst (λ q. Rounds (dropping m b) (task_of globals sites tree t.forward.now q t.seed) n f heads g last) here
-      (same_rounds (dropping m b) t.forward.now t.assertion t.seed (λ q r. paths_at (slice_get t.sources.items q) r)
+      subst (λ q. Rounds (lossy_back_operations m b) (task_of globals sites tree t.forward.now q t.seed) n f heads g last) here
+      (same_rounds (lossy_back_operations m b) t.forward.now t.assertion t.seed (λ q r. paths_at (slice_get t.sources.items q) r)
       (λ q r. actions_between_in globals sites tree (suc q) (comes_to r)) n
       (λ q r inside. same q r (omega arith)) f heads g last rounds) where
         same : (q r : ℕ) → q < length t.forward.now → paths_at (slice_get t.sources.items q) r ≡ actions_between_in globals sites tree (suc q) (comes_to r)
@@ -127,8 +127,8 @@ module _ {V H : Type 0} (m : Abstraction V H) (b : BackwardAbstraction V) (globa
             ap (λ (o : Option Source). paths_at o r) s.1 ∙ one.leads r
 
   from_parts : BackNeeds m globals sites ways t.forward.now p tree → t.assertion ≡ p → (e : Exactness) → IsPrepared m b globals sites tree t.forward.now p t e
-      → (f flag : Option ℕ) (values : List V) → IsGoneOver (dropping m b) (task_view t) (noted p e f) values flag
-      → Backs (dropping m b) globals sites tree t.forward.now f p values flag
+      → (f flag : Option ℕ) (values : List V) → IsBackwardSolution (lossy_back_operations m b) (task_view t) (noted p e f) values flag
+      → BackwardAnalysis (lossy_back_operations m b) globals sites tree t.forward.now f p values flag
   from_parts needs here e is f flag values gone = record {
     base = is.base;
     condition = is.condition;
@@ -137,7 +137,7 @@ module _ {V H : Type 0} (m : Abstraction V H) (b : BackwardAbstraction V) (globa
     is_there = is.is_there;
     exactness = e;
     seed = t.seed;
-    denied = is.denied;
+    violated = is.violated;
     first = gone.first;
     started = gone.started;
     last = gone.last;
@@ -147,11 +147,11 @@ module _ {V H : Type 0} (m : Abstraction V H) (b : BackwardAbstraction V) (globa
   }
 
   pub all_backs : (forward : List V) → t.forward.now ≡ forward → t.assertion ≡ p → (e : Exactness) (f flag : Option ℕ) (values : List V)
-      → IsGoneOver (dropping m b) (task_view t) (noted p e f) values flag → BackNeeds m globals sites ways forward p tree
-      → IsPrepared m b globals sites tree forward p t e → Backs (dropping m b) globals sites tree forward f p values flag
+      → IsBackwardSolution (lossy_back_operations m b) (task_view t) (noted p e f) values flag → BackNeeds m globals sites ways forward p tree
+      → IsPrepared m b globals sites tree forward p t e → BackwardAnalysis (lossy_back_operations m b) globals sites tree forward f p values flag
   all_backs forward same here e f flag values gone =
       subst (λ (xs : List V). BackNeeds m globals sites ways xs p tree → IsPrepared m b globals sites tree xs p t e
-      → Backs (dropping m b) globals sites tree xs f p values flag) same (λ needs is. from_parts needs here e is f flag values gone)
+      → BackwardAnalysis (lossy_back_operations m b) globals sites tree xs f p values flag) same (λ needs is. from_parts needs here e is f flag values gone)
 
 -- the condition that was found is the one that is asserted
 pub asserted_found : (g : Node) (p : ℕ) (sites : List Site) → AreAsserted sites g → IsAssertion sites p → (found : ℕ × Cond)
@@ -186,10 +186,11 @@ module _ {V H : Type 0} (m : Abstraction V H) (globals others : List GlobalVaria
 
   pub backs_over : (b : BackwardAbstraction V) → others ≡ globals → points ≡ sites →
       (forward : List V) (f : Option ℕ) (p : ℕ) (values : List V) (flag : Option ℕ)
-      → Backs (dropping m b) others points tree forward f p values flag → Backs (dropping m b) globals sites tree forward f p values flag
+      → BackwardAnalysis (lossy_back_operations m b) others points tree forward f p values flag →
+      BackwardAnalysis (lossy_back_operations m b) globals sites tree forward f p values flag
   backs_over b one two forward f p values flag backs =
-      subst (λ (g : List GlobalVariable). Backs (dropping m b) g sites tree forward f p values flag) one
-      (subst (λ (s : List Site). Backs (dropping m b) others s tree forward f p values flag) two backs)
+      subst (λ (g : List GlobalVariable). BackwardAnalysis (lossy_back_operations m b) g sites tree forward f p values flag) one
+      (subst (λ (s : List Site). BackwardAnalysis (lossy_back_operations m b) others s tree forward f p values flag) two backs)
 
   pub left_over : others ≡ globals → points ≡ sites → (values items : List V) → items ≡ values → (is : Bool)
       → (is ≡ true ↔ NothingLeftAtStart m others points tree items) → (is ≡ true ↔ NothingLeftAtStart m globals sites tree values)

@@ -6,16 +6,16 @@ use Rattle.std.proofs.lemmas.List.{take_all}
 use Rattle.std.proofs.lemmas.Option.{slice_get_within, get_or_from_slice_get, none-some}
 use Rattle.lra_domain.specs.Abstraction.{Abstraction}
 use Rattle.lra_domain.specs.Rank.{RankFits}
-use Rattle.lra_back.specs.Operations.{BackOperations}
+use Rattle.lra_back.specs.Operations.{BackwardOperations}
 use Rattle.lra_back.specs.Rounds.{AreStarted, no_rows}
-use Rattle.lra_back.specs.Going.{AreHeads}
+use Rattle.lra_back.specs.BackwardCalls.{AreHeads}
 
 pub take_at : {A : Type 0} (xs : List A) (j : ℕ) (x : A) → slice_get xs j ≡ Some x → take (suc j) xs ≡ take j xs ++ x ∷ []
 take_at xs j x at = take-suc xs j x (slice_get_within xs j x at) ∙ ap (λ y. take j xs ++ y ∷ []) (get_or_from_slice_get xs j x x at)
 
 -- how they start -----------------------------------------------------------------------------------------------------
 
-module _ {V H : Type 0} (ops : BackOperations V H) (m : Abstraction V H) where
+module _ {V H : Type 0} (ops : BackwardOperations V H) (m : Abstraction V H) where
   -- the head starts with an empty value of so many dimensions, and has them
   pub record IsFirst (n : ℕ) (h : H) : Type 0 where
     pub nothing : V

@@ -12,31 +12,31 @@ use Rattle.lra_program.specs.Sites.{Site}
 use Rattle.lra_operations.specs.Tree.{Node}
 use Rattle.lra_analysis_spec.specs.Pass.{JoinsRunning, RunsFrom, noted}
 use Rattle.lra_analysis_spec.proofs.Transfer.{Matters, Transfers, aligned, leaves}
-use Rattle.lra_back.specs.Operations.{BackOperations, Undoes}
-use Rattle.lra_back.specs.GoingBack.{GoesOver, ComesBack, AllComeBack, ComesFromAll, JoinsSeed, IsNext}
-use Rattle.lra_back.specs.Rounds.{Task, seed_at, no_rows, AreStarted, StaysOrGrows, IsTurned, Round, Widens, Rounds, AreMet}
-use Rattle.lra_back.specs.Traced.{Backs, task_of}
+use Rattle.lra_back.specs.Operations.{BackwardOperations, PreOfAction}
+use Rattle.lra_back.specs.Preconditions.{PreAlong, PreOfPath, PreOfPaths, PreOfAllPoints, JoinsSeed, IsNext}
+use Rattle.lra_back.specs.Rounds.{Task, seed_at, no_rows, AreStarted, StaysOrGrows, IsUpdated, Round, Widens, Rounds, AreBackwardValues}
+use Rattle.lra_back.specs.BackwardAnalysis.{BackwardAnalysis, task_of}
 
-pub record TransfersBack {V H : Type 0} (Keeps : Exactness → Type 0) (a b : BackOperations V H) : Type 0 where
+pub record TransfersBack {V H : Type 0} (Keeps : Exactness → Type 0) (a b : BackwardOperations V H) : Type 0 where
   pub forward : Transfers Keeps a.forward b.forward
-  pub undone : (step : Action) (v : V) (e : Exactness) (w : V) → Keeps e → a.undone step v e w → b.undone step v e w
-  pub met : (u v : V) (e : Exactness) (w : V) → Keeps e → a.met u v e w → b.met u v e w
+  pub undone : (step : Action) (v : V) (e : Exactness) (w : V) → Keeps e → a.pre step v e w → b.pre step v e w
+  pub met : (u v : V) (e : Exactness) (w : V) → Keeps e → a.meet u v e w → b.meet u v e w
 
 -- the second operations, with the first ones' dimensions
-abbrev pub over : {V H : Type 0} → BackOperations V H → BackOperations V H → BackOperations V H
+abbrev pub over : {V H : Type 0} → BackwardOperations V H → BackwardOperations V H → BackwardOperations V H
 over a b = record b { forward = aligned a.forward b.forward }
 
-module _ (V H : Type 0) (a b : BackOperations V H) (Keeps : Exactness → Type 0) (Fine : Option ℕ → Type 0)
+module _ (V H : Type 0) (a b : BackwardOperations V H) (Keeps : Exactness → Type 0) (Fine : Option ℕ → Type 0)
     (matters : Matters Keeps Fine) (moves : TransfersBack Keeps a b)
   where
-    undoes : (step : Action) (v : V) (e : Exactness) (w : V) → Keeps e → Undoes a step v e w → Undoes (over a b) step v e w
+    undoes : (step : Action) (v : V) (e : Exactness) (w : V) → Keeps e → PreOfAction a step v e w → PreOfAction (over a b) step v e w
     undoes (assign x f) v e w k h = moves.undone (assign x f) v e w k h
     undoes (forget x) v e w k h = moves.forward.changed (forget x) v e w k h
     undoes (test kind f) v e w k h = moves.undone (test kind f) v e w k h
     undoes (embed n) v e w k h = moves.forward.changed (remove_last n) v e w k h
     undoes (remove_last n) v e w k h = moves.forward.changed (embed n) v e w k h
 
-    goes_over : (path : List Action) (v : V) (e : Exactness) (w : V) → Keeps e → GoesOver a path v e w → GoesOver (over a b) path v e w
+    goes_over : (path : List Action) (v : V) (e : Exactness) (w : V) → Keeps e → PreAlong a path v e w → PreAlong (over a b) path v e w
     goes_over [] v e w k h = h
     goes_over (step ∷ path) v e w k (u, c, d, behind, undone, is) =
         let i = matters.parts c d (subst Keeps is k) in
@@ -50,15 +50,15 @@ module _ (V H : Type 0) (a b : BackOperations V H) (Keeps : Exactness → Type 0
     runs_from live cap None w h = moves.forward.void live cap w h
     runs_from live cap (Some running) w h = h
 
-    comes_back : (forward : V) (target : H) (path : List Action) (e : Exactness) (w : V) → Keeps e → ComesBack a forward target path e w
-        → ComesBack (over a b) forward target path e w
+    comes_back : (forward : V) (target : H) (path : List Action) (e : Exactness) (w : V) → Keeps e → PreOfPath a forward target path e w
+        → PreOfPath (over a b) forward target path e w
     comes_back forward target path e w k (v, u, c, d, i, valued, gone, met, is) =
         let j = matters.parts (worse c d) i (subst Keeps is k) in
         let l = matters.parts c d j.0 in
         (v, u, c, d, i, moves.forward.valued target c v l.0 valued, goes_over path v d u l.1 gone, moves.met u forward i w j.1 met, is)
 
     all_come_back : (forward : V) (target : H) (paths : List (List Action)) (so : Option V) (e : Exactness) (all : Option V) → Keeps e
-        → AllComeBack a forward target paths so e all → AllComeBack (over a b) forward target paths so e all
+        → PreOfPaths a forward target paths so e all → PreOfPaths (over a b) forward target paths so e all
     all_come_back forward target [] so e all k h = h
     all_come_back forward target (path ∷ paths) so e all k (u, w, c, d, i, back, joined, rest, is) =
         let j = matters.parts (worse c d) i (subst Keeps is k) in
@@ -67,7 +67,7 @@ module _ (V H : Type 0) (a b : BackOperations V H) (Keeps : Exactness → Type 0
         (u, w, c, d, i, comes_back forward target path c u l.0 back, runs_on so u d w l.1 joined, others, is)
 
     comes_from_all : (paths : ℕ → List (List Action)) (forward : V) (q : ℕ) (targets : List H) (so : Option V) (e : Exactness) (all : Option V)
-        → Keeps e → ComesFromAll a paths forward q targets so e all → ComesFromAll (over a b) paths forward q targets so e all
+        → Keeps e → PreOfAllPoints a paths forward q targets so e all → PreOfAllPoints (over a b) paths forward q targets so e all
     comes_from_all paths forward q [] so e all k h = h
     comes_from_all paths forward q (target ∷ targets) so e all k (between, c, d, back, rest, is) =
         let i = matters.parts c d (subst Keeps is k) in
@@ -108,7 +108,7 @@ module _ (V H : Type 0) (a b : BackOperations V H) (Keeps : Exactness → Type 0
     stays_or_grows mode head next e false new k h = moves.forward.grown head next mode e new k h
 
     are_met : (q : ℕ) (f : Option ℕ) (heads : List H) (forward : List V) (g : Option ℕ) (values : List V) → Fine g
-        → AreMet a q f heads forward g values → Fine f × AreMet (over a b) q f heads forward g values
+        → AreBackwardValues a q f heads forward g values → Fine f × AreBackwardValues (over a b) q f heads forward g values
     are_met q f [] [] g values k (same, is) = (subst Fine same k, (same, is))
     are_met q f [] (x ∷ forward) g values k h = absurd h
     are_met q f (head ∷ heads) [] g values k h = absurd h
@@ -120,7 +120,7 @@ module _ (V H : Type 0) (a b : BackOperations V H) (Keeps : Exactness → Type 0
 
     module _ (task : Task V) where
       turned : (mode : Mode) (p : ℕ) (f : Option ℕ) (heads : List H) (g : Option ℕ) (stable : Bool) (new : H) → Fine g
-          → IsTurned a task mode p f heads g stable new → Fine f × IsTurned (over a b) task mode p f heads g stable new
+          → IsUpdated a task mode p f heads g stable new → Fine f × IsUpdated (over a b) task mode p f heads g stable new
       turned mode p f heads g stable new k (x, next, head, d, e, at, own, is_next_one, grown, is) =
           let i = matters.before p e (noted p d f) (subst Fine is k) in
           let j = matters.before p d f i.1 in (
@@ -166,7 +166,8 @@ module _ (V H : Type 0) (a b : BackOperations V H) (Keeps : Exactness → Type 0
           (l.0, inr (i, between, more, l.1, j.1))
 
     pub backs : (globals : List GlobalVariable) (sites : List Site) (g : Node) (forward : List V) (f : Option ℕ) (p : ℕ) (values : List V)
-        (flag : Option ℕ) → Fine flag → Backs a globals sites g forward f p values flag → Backs (over a b) globals sites g forward f p values flag
+        (flag : Option ℕ) → Fine flag → BackwardAnalysis a globals sites g forward f p values flag →
+        BackwardAnalysis (over a b) globals sites g forward f p values flag
     backs globals sites g forward f p values flag k found =
         let i = are_met 0 found.rounds_flag found.last forward flag values k found.met in
         let task = task_of globals sites g forward p found.seed in
@@ -181,7 +182,7 @@ module _ (V H : Type 0) (a b : BackOperations V H) (Keeps : Exactness → Type 0
           is_there = found.is_there;
           exactness = found.exactness;
           seed = found.seed;
-          denied = made_false found.at_assertion found.exactness found.seed l.0 found.denied;
+          violated = made_false found.at_assertion found.exactness found.seed l.0 found.violated;
           first = found.first;
           started = are_started forward found.first found.started;
           last = found.last;

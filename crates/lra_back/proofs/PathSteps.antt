@@ -10,9 +10,9 @@ use Rattle.lra_domain.specs.Abstraction.{worse}
 use Rattle.lra_domain.specs.declared.Exactness.{Exactness}
 use Rattle.lra_analysis_spec.proofs.Keeping.{some_is}
 use Rattle.lra_analysis_spec.proofs.Takes.{worse_worse}
-use Rattle.lra_back.specs.Operations.{BackOperations, Undoes}
-use Rattle.lra_back.specs.GoingBack.{ComesBack, GoesOver}
-use Rattle.lra_back.specs.Going.{ComesOver, Fits, reversed}
+use Rattle.lra_back.specs.Operations.{BackwardOperations, PreOfAction}
+use Rattle.lra_back.specs.Preconditions.{PreOfPath, PreAlong}
+use Rattle.lra_back.specs.BackwardCalls.{PreAlongMet, Fits, reversed}
 
 pub drop_at : {A : Type 0} (xs : List A) (j : ℕ) (x : A) → slice_get xs j ≡ Some x → drop j xs ≡ x ∷ drop (suc j) xs
 drop_at xs j x at = drop-cons xs j x (slice_get_within xs j x at) ∙ ap (λ y. y ∷ drop (suc j) xs) (get_or_from_slice_get xs j x x at)
@@ -64,24 +64,24 @@ undo_dims path n behind j step d e at fits here made =
 -- the changes from a place on ----------------------------------------------------------------------------------------
 
 -- gone over from this place on
-pub record IsOverFrom {V H : Type 0} (ops : BackOperations V H) (dims : V → ℕ) (path : List Action) (n j : ℕ) (v : V) (e : Exactness) (w : V) : Type 0 where
-  pub over : GoesOver ops (drop j path) v e w
+pub record IsOverFrom {V H : Type 0} (ops : BackwardOperations V H) (dims : V → ℕ) (path : List Action) (n j : ℕ) (v : V) (e : Exactness) (w : V) : Type 0 where
+  pub over : PreAlong ops (drop j path) v e w
   pub has : dims w ≡ dims_after_actions (take j path) n
 
-module _ {V H : Type 0} (ops : BackOperations V H) (dims : V → ℕ) (path : List Action) (n : ℕ) (v : V) where
+module _ {V H : Type 0} (ops : BackwardOperations V H) (dims : V → ℕ) (path : List Action) (n : ℕ) (v : V) where
   pub over_one : (behind i j : ℕ) (step : Action) (u : V) (c d : Exactness) (w : V) → i ≡ suc j → slice_get path j ≡ Some step → Fits path n behind
-      → IsOverFrom ops dims path n i v c u → Undoes ops step u d w → dims w ≡ dims_after (reversed step) (dims u)
+      → IsOverFrom ops dims path n i v c u → PreOfAction ops step u d w → dims w ≡ dims_after (reversed step) (dims u)
       → IsOverFrom ops dims path n j v (worse c d) w
   over_one behind i j step u c d w next at fits before undone made =
       let so = subst (λ k. IsOverFrom ops dims path n k v c u) next before in record {
-        over = subst (λ (steps : List Action). GoesOver ops steps v (worse c d) w) (sym (drop_at path j step at)) (u, c, d, so.over, undone, refl);
+        over = subst (λ (steps : List Action). PreAlong ops steps v (worse c d) w) (sym (drop_at path j step at)) (u, c, d, so.over, undone, refl);
         has = undo_dims path n behind j step (dims u) (dims w) at fits so.has made;
       }
 
 -- and from the head of the path's target -------------------------------------------------------------------------------
 
-pub comes_back : {V H : Type 0} (ops : BackOperations V H) (forward : V) (target : H) (path : List Action) (v : V) (c e all : Exactness) (w : V)
-    → ops.forward.valued target c v → ComesOver ops forward v path e w → all ≡ worse c e → ComesBack ops forward target path all w
+pub comes_back : {V H : Type 0} (ops : BackwardOperations V H) (forward : V) (target : H) (path : List Action) (v : V) (c e all : Exactness) (w : V)
+    → ops.forward.valued target c v → PreAlongMet ops forward v path e w → all ≡ worse c e → PreOfPath ops forward target path all w
 comes_back ops forward target path v c e all w valued (u, d, i, over, met, is) made =
     (v, u, c, d, i, valued, over, met, made ∙ ap (worse c) is ∙ sym (worse_worse c d i))
 

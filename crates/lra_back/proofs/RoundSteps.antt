@@ -5,9 +5,9 @@ use Rattle.lra_domain.specs.Actions.{Action}
 use Rattle.lra_domain.specs.Abstraction.{Abstraction}
 use Rattle.lra_domain.specs.declared.Mode.{Mode}
 use Rattle.lra_domain.specs.declared.Mode.TheVariants.{Join, Widen}
-use Rattle.lra_back.specs.Operations.{BackOperations}
-use Rattle.lra_back.specs.Rounds.{Task, IsTurned, Round, Rounds, Widens, seed_at}
-use Rattle.lra_back.specs.Going.{ranks_of}
+use Rattle.lra_back.specs.Operations.{BackwardOperations}
+use Rattle.lra_back.specs.Rounds.{Task, IsUpdated, Round, Rounds, Widens, seed_at}
+use Rattle.lra_back.specs.BackwardCalls.{ranks_of}
 use Rattle.lra_back.proofs.JoinSteps.{same_next}
 
 and_assoc : (a b c : Bool) → (a && (b && c)) ≡ ((a && b) && c)
@@ -18,7 +18,7 @@ and_true : (a : Bool) → (a && true) ≡ a
 and_true true = refl
 and_true false = refl
 
-module _ {V H : Type 0} (ops : BackOperations V H) (task : Task V) where
+module _ {V H : Type 0} (ops : BackwardOperations V H) (task : Task V) where
   -- a round ------------------------------------------------------------------------------------------------------------
 
   -- whatever comes of the points before this one, comes of the round
@@ -27,7 +27,7 @@ module _ {V H : Type 0} (ops : BackOperations V H) (task : Task V) where
       (g : Option ℕ) (rest : Bool) (last : List H) → Round ops task mode p flag now g rest last → Round ops task mode n first heads g (all && rest) last
 
   pub next_turn : (mode : Mode) (n : ℕ) (first : Option ℕ) (heads : List H) (q p : ℕ) (flag : Option ℕ) (now : List H) (all : Bool) (i : Option ℕ) (own : Bool)
-      (k : H) (later : List H) (both : Bool) → q ≡ suc p → StillTurns mode n first heads q flag now all → IsTurned ops task mode p flag now i own k
+      (k : H) (later : List H) (both : Bool) → q ≡ suc p → StillTurns mode n first heads q flag now all → IsUpdated ops task mode p flag now i own k
       → later ≡ slice_set now p k → both ≡ (all && own) → StillTurns mode n first heads p i later both
   next_turn mode n first heads q p flag now all i own k later both next before turned is both_is g rest last round =
       let still = subst (λ j. StillTurns mode n first heads j flag now all) next before in
@@ -88,7 +88,7 @@ ranks_next m mode first before now false own both one two is widens =
 abbrev pub task_by : {V : Type 0} → (ℕ → ℕ → List (List Action)) → List V → ℕ → V → Task V
 task_by paths forward p seed = record { paths = paths; forward = forward; assertion = p; seed = seed }
 
-module _ {V H : Type 0} (ops : BackOperations V H) (forward : List V) (assertion : ℕ) (seed : V) (paths others : ℕ → ℕ → List (List Action)) where
+module _ {V H : Type 0} (ops : BackwardOperations V H) (forward : List V) (assertion : ℕ) (seed : V) (paths others : ℕ → ℕ → List (List Action)) where
   abbrev one : Task V
   one = task_by paths forward assertion seed
 
@@ -99,7 +99,7 @@ module _ {V H : Type 0} (ops : BackOperations V H) (forward : List V) (assertion
   AreSame n = (p q : ℕ) → p < n → paths p q ≡ others p q
 
   same_turned : (n p : ℕ) → AreSame n → p < n → (mode : Mode) (f : Option ℕ) (heads : List H) (g : Option ℕ) (stable : Bool) (k : H)
-      → IsTurned ops one mode p f heads g stable k → IsTurned ops two mode p f heads g stable k
+      → IsUpdated ops one mode p f heads g stable k → IsUpdated ops two mode p f heads g stable k
   same_turned n p same inside mode f heads g stable k (x, next, h, d, e, at, there, is, grows, flags) = (
     x,
     next,

@@ -12,8 +12,8 @@ use Rattle.lra_path_segments.specs.TreeSegments.{AreSegmentsOf, End, exits, reac
 use Rattle.lra_path_segments.specs.TreeSegmentViews.{move_view, seen, tree_segment_view}
 use Rattle.lra_path_segments.specs.declared.segments.TreeSegment.{TreeSegment as DeclaredStretch}
 use Rattle.lra_paths.specs.Paths.{same_goal}
-use Rattle.lra_back.specs.Traced.{IsAsserted, denial}
-use Rattle.lra_back.specs.Going.{denies_at, is_denial, is_source}
+use Rattle.lra_back.specs.BackwardAnalysis.{IsAsserted, violation_segment}
+use Rattle.lra_back.specs.BackwardCalls.{violates_at, is_violation, is_source}
 use Rattle.lra_back.proofs.PathSteps.{drop_at}
 
 -- of all segments those to where the assertion at the point is false
@@ -29,7 +29,7 @@ on true x is = refl
 on false x is = cc
 
 -- one with these operations
-one_at : (p : ℕ) (source : Option ℕ) (ops : List SegmentStep) (end : End) → (is_source p source && denies_at p end) ≡ true
+one_at : (p : ℕ) (source : Option ℕ) (ops : List SegmentStep) (end : End) → (is_source p source && violates_at p end) ≡ true
     → (x : Segment) × (denials p (segments_at source ops end) ≡ x ∷ []) × (x.to_goal.ops ≡ ops)
 one_at p None ops end is = cc
 one_at p (Some q) ops (exits h) is =
@@ -51,7 +51,7 @@ single p s = ap (denials p) (append-nil (met s))
 
 -- what is asserted there is among all
 asserted_in : (p : ℕ) (ss : List TreeSegment) (g : Node) (base : ℕ) (c : Cond) → AreSegmentsOf ss g → IsAsserted g p base c →
-    denials_in p ss ≡ denial p base c ∷ []
+    denials_in p ss ≡ violation_segment p base c ∷ []
 asserted_in p ss g base c ways asserted = ap (denials p) ways.reaches ∙ asserted
 
 head_same : (x y : Segment) (xs : List Segment) → x ∷ xs ≡ y ∷ [] → x ≡ y
@@ -59,7 +59,7 @@ head_same x y xs same = cc
 
 -- and the first that is found has these operations
 pub first_found : (p : ℕ) (ways : List DeclaredStretch) (i : ℕ) (x : DeclaredStretch) (g : Node) (base : ℕ) (c : Cond) → slice_get ways i ≡ Some x
-    → denials_in p (seen (take i ways)) ≡ [] → is_denial p (tree_segment_view x) ≡ true → AreSegmentsOf (seen ways) g → IsAsserted g p base c
+    → denials_in p (seen (take i ways)) ≡ [] → is_violation p (tree_segment_view x) ≡ true → AreSegmentsOf (seen ways) g → IsAsserted g p base c
     → map move_view x.moves.items ≡ does (test base c false) ∷ []
 first_found p ways i x g base c at none is tree asserted =
     let s = tree_segment_view x in
@@ -72,5 +72,5 @@ first_found p ways i x g base c at none is tree asserted =
     ap (denials_in p) parts ∙ denials_append p (seen (take i ways)) (s ∷ later)
     ∙ ap (λ xs. xs ++ denials_in p (s ∷ later)) none ∙ denials_append p (s ∷ []) later
     ∙ ap (λ xs. xs ++ denials_in p later) (single p s ∙ one.1) in
-    let same = head_same one.0 (denial p base c) (denials_in p later) (sym all ∙ asserted_in p (seen ways) g base c tree asserted) in
+    let same = head_same one.0 (violation_segment p base c) (denials_in p later) (sym all ∙ asserted_in p (seen ways) g base c tree asserted) in
     sym one.2 ∙ ap (λ (z : Segment). z.to_goal.ops) same

@@ -9,9 +9,9 @@ use Rattle.lra_domain.specs.declared.Exactness.TheVariants.{Exact, Flagged}
 use Rattle.lra_domain.specs.declared.Mode.{Mode}
 use Rattle.lra_domain.specs.declared.Mode.TheVariants.{Widen}
 use Rattle.lra_analysis_spec.specs.Pass.{noted}
-use Rattle.lra_back.specs.Operations.{BackOperations}
-use Rattle.lra_back.specs.GoingBack.{AllComeBack, ComesFromAll, IsNext}
-use Rattle.lra_back.specs.Rounds.{IsTurned, Task, seed_at}
+use Rattle.lra_back.specs.Operations.{BackwardOperations}
+use Rattle.lra_back.specs.Preconditions.{PreOfPaths, PreOfAllPoints, IsNext}
+use Rattle.lra_back.specs.Rounds.{IsUpdated, Task, seed_at}
 use Rattle.lra_back.specs.Settled.{AreSettled, IsSettled, Settles}
 use Rattle.lra_back.proofs.HeadSteps.{get_set_other}
 
@@ -39,9 +39,9 @@ set_same xs p x at = ap (slice_set xs p) (sym (get_or_from_slice_get xs p x x at
 
 -- a head to which no paths lead ----------------------------------------------------------------------------------------
 
-module _ {V H : Type 0} (ops : BackOperations V H) (forward : V) (paths : ℕ → List (List Action)) where
+module _ {V H : Type 0} (ops : BackwardOperations V H) (forward : V) (paths : ℕ → List (List Action)) where
   from_set : (heads : List H) (q p : ℕ) (k : H) (r : ℕ) → r ≡ q + p → paths r ≡ [] → (so : Option V) (e : Exactness) (all : Option V)
-      → ComesFromAll ops paths forward q heads so e all → ComesFromAll ops paths forward q (slice_set heads p k) so e all
+      → PreOfAllPoints ops paths forward q heads so e all → PreOfAllPoints ops paths forward q (slice_set heads p k) so e all
   from_set [] q p k r at none so e all come = come
   from_set (target ∷ heads) q zero k r at none so e all (some, c, d, back, come, is) =
       let here : r ≡ q = omega arith in
@@ -49,8 +49,8 @@ module _ {V H : Type 0} (ops : BackOperations V H) (forward : V) (paths : ℕ �
         some,
         c,
         d,
-        subst (λ (xs : List (List Action)). AllComeBack ops forward k xs so c some) (sym nothing)
-            (subst (λ (xs : List (List Action)). AllComeBack ops forward target xs so c some) nothing back),
+        subst (λ (xs : List (List Action)). PreOfPaths ops forward k xs so c some) (sym nothing)
+            (subst (λ (xs : List (List Action)). PreOfPaths ops forward target xs so c some) nothing back),
         come,
         is,
       )
@@ -66,10 +66,10 @@ module _ {V H : Type 0} (ops : BackOperations V H) (forward : V) (paths : ℕ �
 
 -- settled points -------------------------------------------------------------------------------------------------------
 
-module _ {V H : Type 0} (ops : BackOperations V H) (task : Task V) where
+module _ {V H : Type 0} (ops : BackwardOperations V H) (task : Task V) where
   -- a settled point needs no turn
   pub skipped : (mode : Mode) (p : ℕ) (f : Option ℕ) (heads : List H) → mode ≡ Widen → IsSettled ops task heads f p
-      → (k : H) × IsTurned ops task mode p f heads f true k × (heads ≡ slice_set heads p k)
+      → (k : H) × IsUpdated ops task mode p f heads f true k × (heads ≡ slice_set heads p k)
   skipped mode p f heads widens is =
       let next = is.is_next in (
         is.head,
@@ -134,7 +134,7 @@ module _ {V H : Type 0} (ops : BackOperations V H) (task : Task V) where
       subst (λ (hs : List H). IsSettled ops task hs g q) one (subst (λ (z : Option ℕ). IsSettled ops task heads z q) two is)
 
   pub turned_settled : (mode : Mode) (p : ℕ) (f : Option ℕ) (heads : List H) (g : Option ℕ) (stable : Bool) (k : H) (later : List H) (old new : List Bool)
-      → AreSettled ops task heads f old → IsTurned ops task mode p f heads g stable k → later ≡ slice_set heads p k → Settles task mode p stable old new
+      → AreSettled ops task heads f old → IsUpdated ops task mode p f heads g stable k → later ≡ slice_set heads p k → Settles task mode p stable old new
       → AreSettled ops task later g new
   turned_settled mode p f heads g true k later old new so (x, next, h, d, e, at, there, is, (stays, stood, exact), flags) set settles =
       let same : heads ≡ later = sym (set ∙ ap (slice_set heads p) stood ∙ set_same heads p h there) in

@@ -1,7 +1,7 @@
 -- In the order in which they are to be read.
 pub mod Operations
-pub mod GoingBack
+pub mod Preconditions
 pub mod Rounds
-pub mod Traced
-pub mod Going
+pub mod BackwardAnalysis
+pub mod BackwardCalls
 pub mod Settled

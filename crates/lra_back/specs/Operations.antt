@@ -11,44 +11,44 @@ use Rattle.lra_domain.specs.declared.Exactness.TheVariants.{Exact, Flagged}
 use Rattle.lra_analysis_spec.specs.Operations as forward
 use Rattle.lra_analysis_spec.specs.Operations.{Operations}
 
-pub record BackOperations (V H : Type 0) : Type 1 where
+pub record BackwardOperations (V H : Type 0) : Type 1 where
   pub forward : Operations V H
   -- from the value behind an assignment or a test to the one before it
-  pub undone : Action → V → Exactness → V → Type 0
-  pub met : V → V → Exactness → V → Type 0
+  pub pre : Action → V → Exactness → V → Type 0
+  pub meet : V → V → Exactness → V → Type 0
 
 -- every operation is exact and gives its defined result
-abbrev pub defined : {V H : Type 0} → Abstraction V H → BackwardAbstraction V → BackOperations V H
-defined m b = record {
+abbrev pub exact_back_operations : {V H : Type 0} → Abstraction V H → BackwardAbstraction V → BackwardOperations V H
+exact_back_operations m b = record {
   forward = forward.exact_operations m;
-  undone = λ step v e w. (e ≡ Exact) × b.pre step v w;
-  met = λ u v e w. (e ≡ Exact) × b.met u v w;
+  pre = λ step v e w. (e ≡ Exact) × b.pre step v w;
+  meet = λ u v e w. (e ≡ Exact) × b.met u v w;
 }
 
 -- one that strains on the operands that it has may be flagged; its result then covers the defined one, and has all
 -- stores that it must have
-abbrev pub dropping : {V H : Type 0} → Abstraction V H → BackwardAbstraction V → BackOperations V H
-dropping m b = record {
+abbrev pub lossy_back_operations : {V H : Type 0} → Abstraction V H → BackwardAbstraction V → BackwardOperations V H
+lossy_back_operations m b = record {
   forward = forward.lossy_operations m;
-  undone = λ step v e w. TransfersBackTo m b step v e w × (m.dims w ≡ m.dims v) × CapsWithin (m.capped v) (m.capped w);
-  met = λ u v e w. MeetsBoth m b u v e w × (m.dims v ≡ m.dims u) × (m.dims w ≡ m.dims u) ×
+  pre = λ step v e w. TransfersBackTo m b step v e w × (m.dims w ≡ m.dims v) × CapsWithin (m.capped v) (m.capped w);
+  meet = λ u v e w. MeetsBoth m b u v e w × (m.dims v ≡ m.dims u) × (m.dims w ≡ m.dims u) ×
       CapsWithin (λ c. m.capped u c × m.capped v c) (m.capped w);
 }
 
 -- one that strains may be flagged, and then gives anything: so what comes before the first flag is as it is defined, and
 -- the first flagged operation strains on the operands that the definition has there
-abbrev pub straining : {V H : Type 0} → Abstraction V H → BackwardAbstraction V → BackOperations V H
-straining m b = record {
+abbrev pub straining_back_operations : {V H : Type 0} → Abstraction V H → BackwardAbstraction V → BackwardOperations V H
+straining_back_operations m b = record {
   forward = forward.straining_operations m;
-  undone = λ step v e w. (e ≡ Exact → b.pre step v w) × (e ≡ Flagged → b.pre_strains step v);
-  met = λ u v e w. (e ≡ Exact → b.met u v w) × (e ≡ Flagged → b.meet_strains u v);
+  pre = λ step v e w. (e ≡ Exact → b.pre step v w) × (e ≡ Flagged → b.pre_strains step v);
+  meet = λ u v e w. (e ≡ Exact → b.met u v w) × (e ≡ Flagged → b.meet_strains u v);
 }
 
 -- from the value behind any change to the one before it: what was forgotten may have been anything, what was embedded
 -- goes, what was removed comes again with any value
-abbrev pub Undoes : {V H : Type 0} → BackOperations V H → Action → V → Exactness → V → Type 0
-Undoes ops (assign x f) v e w = ops.undone (assign x f) v e w
-Undoes ops (forget x) v e w = ops.forward.changed (forget x) v e w
-Undoes ops (test kind f) v e w = ops.undone (test kind f) v e w
-Undoes ops (embed k) v e w = ops.forward.changed (remove_last k) v e w
-Undoes ops (remove_last k) v e w = ops.forward.changed (embed k) v e w
+abbrev pub PreOfAction : {V H : Type 0} → BackwardOperations V H → Action → V → Exactness → V → Type 0
+PreOfAction ops (assign x f) v e w = ops.pre (assign x f) v e w
+PreOfAction ops (forget x) v e w = ops.forward.changed (forget x) v e w
+PreOfAction ops (test kind f) v e w = ops.pre (test kind f) v e w
+PreOfAction ops (embed k) v e w = ops.forward.changed (remove_last k) v e w
+PreOfAction ops (remove_last k) v e w = ops.forward.changed (embed k) v e w

@@ -10,8 +10,8 @@ use Rattle.lra_domain.specs.declared.Exactness.TheVariants.{Exact}
 use Rattle.lra_domain.specs.declared.Mode.{Mode}
 use Rattle.lra_domain.specs.declared.Mode.TheVariants.{Join, Widen}
 use Rattle.lra_analysis_spec.specs.Pass.{noted}
-use Rattle.lra_back.specs.Operations.{BackOperations}
-use Rattle.lra_back.specs.GoingBack.{IsNext}
+use Rattle.lra_back.specs.Operations.{BackwardOperations}
+use Rattle.lra_back.specs.Preconditions.{IsNext}
 
 -- what is gone back over: the paths from each point to each, the forward values at the points, and the assertion's
 -- number with the value at which it is false
@@ -28,7 +28,7 @@ seed_at task p = cond (nat_eq p task.assertion) (Some task.seed) None
 abbrev pub no_rows : ℕ → LinearSystem ConKind
 no_rows n = record { dims = n; rows = []; kinds = [] }
 
-module _ {V H : Type 0} (ops : BackOperations V H) where
+module _ {V H : Type 0} (ops : BackwardOperations V H) where
   -- each head starts with an empty value, of one part and as many dimensions as the forward value at its point
   abbrev pub AreStarted : List V → List H → Type 0
   AreStarted [] [] = Unit {0}
@@ -45,8 +45,8 @@ module _ {V H : Type 0} (ops : BackOperations V H) where
 
   module _ (task : Task V) where
     -- at one point: over these heads its own becomes the last one
-    abbrev pub IsTurned : Mode → ℕ → Option ℕ → List H → Option ℕ → Bool → H → Type 0
-    IsTurned mode p f heads g stable k =
+    abbrev pub IsUpdated : Mode → ℕ → Option ℕ → List H → Option ℕ → Bool → H → Type 0
+    IsUpdated mode p f heads g stable k =
         (x next : V) × (h : H) × (d e : Exactness) × (slice_get task.forward p ≡ Some x) × (slice_get heads p ≡ Some h) ×
         IsNext ops (task.paths p) x (seed_at task p) heads d next × StaysOrGrows mode h next e stable k ×
         (g ≡ noted p e (noted p d f))
@@ -56,7 +56,7 @@ module _ {V H : Type 0} (ops : BackOperations V H) where
     abbrev pub Round : Mode → ℕ → Option ℕ → List H → Option ℕ → Bool → List H → Type 0
     Round mode zero f heads g stable last = (last ≡ heads) × (g ≡ f) × (stable ≡ true)
     Round mode (suc p) f heads g stable last =
-        (k : H) × (i : Option ℕ) × (own others : Bool) × IsTurned mode p f heads i own k ×
+        (k : H) × (i : Option ℕ) × (own others : Bool) × IsUpdated mode p f heads i own k ×
         Round mode p i (slice_set heads p k) g others last × (stable ≡ own && others)
 
     -- so many rounds that widen, and a last one, in which all heads are stable
@@ -73,10 +73,10 @@ module _ {V H : Type 0} (ops : BackOperations V H) where
         Widens n more i between g last)
 
   -- the value of each head, met with the forward value at its point, the first of which has this number
-  abbrev pub AreMet : ℕ → Option ℕ → List H → List V → Option ℕ → List V → Type 0
-  AreMet q f [] [] g values = (g ≡ f) × (values ≡ [])
-  AreMet q f [] (x ∷ forward) g values = ⊥
-  AreMet q f (h ∷ heads) [] g values = ⊥
-  AreMet q f (h ∷ heads) (x ∷ forward) g values =
-      (v w : V) × (c d : Exactness) × (more : List V) × ops.forward.valued h c v × ops.met v x d w ×
-      AreMet (suc q) (noted q (worse c d) f) heads forward g more × (values ≡ w ∷ more)
+  abbrev pub AreBackwardValues : ℕ → Option ℕ → List H → List V → Option ℕ → List V → Type 0
+  AreBackwardValues q f [] [] g values = (g ≡ f) × (values ≡ [])
+  AreBackwardValues q f [] (x ∷ forward) g values = ⊥
+  AreBackwardValues q f (h ∷ heads) [] g values = ⊥
+  AreBackwardValues q f (h ∷ heads) (x ∷ forward) g values =
+      (v w : V) × (c d : Exactness) × (more : List V) × ops.forward.valued h c v × ops.meet v x d w ×
+      AreBackwardValues (suc q) (noted q (worse c d) f) heads forward g more × (values ≡ w ∷ more)

@@ -6,14 +6,15 @@ use Rattle.lra_domain.specs.declared.Exactness.{Exactness}
 use Rattle.lra_domain.specs.declared.Mode.{Mode}
 use Rattle.lra_domain.specs.declared.Mode.TheVariants.{Widen}
 use Rattle.lra_analysis_spec.specs.Pass.{noted}
-use Rattle.lra_back.specs.Operations.{BackOperations, dropping}
+use Rattle.lra_back.specs.Operations.{BackwardOperations, lossy_back_operations}
 use Rattle.lra_back.specs.Rounds as rounds
-use Rattle.lra_back.specs.Going.{AreHeads, IsNextAt, task_view}
-use Rattle.lra_back.specs.declared.rounds.Going.{Going}
+use Rattle.lra_back.specs.BackwardCalls.{AreHeads, IsNextAt, task_view}
+use Rattle.lra_back.specs.declared.rounds.BackwardState.{BackwardState}
 use Rattle.lra_back.specs.declared.tasks.Task.{Task}
 
 -- the point's next value over these heads lies in its own where that widens, and adds no flag
-pub record IsSettled {V H : Type 0} (ops : BackOperations V H) (task : rounds.Task V) (heads : List H) (f : Option ℕ)
+pub record IsSettled {V H : Type 0} (ops : BackwardOperations V H) (task : rounds.Task V) (heads : List H)
+    (f : Option ℕ)
     (p : ℕ) : Type 0 where
   pub head : H
   pub is_there : slice_get heads p ≡ Some head
@@ -24,7 +25,8 @@ pub record IsSettled {V H : Type 0} (ops : BackOperations V H) (task : rounds.Ta
   pub noted_before : noted p exactness f ≡ f
 
 -- each point that is marked is settled
-pub record AreSettled {V H : Type 0} (ops : BackOperations V H) (task : rounds.Task V) (heads : List H) (f : Option ℕ)
+pub record AreSettled {V H : Type 0} (ops : BackwardOperations V H) (task : rounds.Task V) (heads : List H)
+    (f : Option ℕ)
     (settled : List Bool) : Type 0 where
   pub count : length settled ≡ length task.forward
   pub each : (p : ℕ) → slice_get settled p ≡ Some true → IsSettled ops task heads f p
@@ -38,7 +40,7 @@ Settles task mode p false old new = (length new ≡ length old) × ((q : ℕ) �
     (slice_get old q ≡ Some true) × (q ≢ p) × (task.paths q p ≡ []))
 
 -- the heads are those of the task's points, and marked points are settled
-pub record IsGoing {V H : Type 0} (m : Abstraction V H) (b : BackwardAbstraction V) (t : Task V)
-    (going : Going H) : Type 0 where
+pub record IsBackwardState {V H : Type 0} (m : Abstraction V H) (b : BackwardAbstraction V) (t : Task V)
+    (going : BackwardState H) : Type 0 where
   pub heads : AreHeads m t.forward.now going.heads.items
-  pub settled : AreSettled (dropping m b) (task_view t) going.heads.items going.flag going.settled.items
+  pub settled : AreSettled (lossy_back_operations m b) (task_view t) going.heads.items going.flag going.settled.items

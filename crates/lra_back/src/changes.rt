@@ -3,17 +3,18 @@
 ghost use Rattle.std.specs.Prelude.{◌≡◌, IfOk, OnOk};
 ghost use Rattle.lra_domain.specs.Actions.{dims_after};
 ghost use Rattle.lra_domain.specs.Changes.{CanBeMade, action_of};
-ghost use Rattle.lra_back.specs.Operations.{Undoes, dropping};
-ghost use Rattle.lra_back.specs.Going.{reversed};
+ghost use Rattle.lra_back.specs.Operations.{PreOfAction, lossy_back_operations};
+ghost use Rattle.lra_back.specs.BackwardCalls.{reversed};
 
 use lra_domain::{Backward, Change, Exactness};
 use std::alloc::AllocError;
 
 /// From the value behind the change to the one before it: what was forgotten may have been anything, what was embedded
 /// goes, what was removed comes again with any value.
-pub fn undo<D: Backward>(value: &mut D, change: &Change) -> Result<Exactness, AllocError>
+pub fn pre_of_action<D: Backward>(value: &mut D, change: &Change) -> Result<Exactness, AllocError>
     requires { CanBeMade (reversed (action_of change.now)) (D.abstraction.dims value.old) }
-    ensures undoes { IfOk result (λ e. Undoes (dropping D.abstraction D.backward_abstraction)
+    ensures undoes { IfOk result
+        (λ e. PreOfAction (lossy_back_operations D.abstraction D.backward_abstraction)
         (action_of change.now) value.old e value.new) }
     ensures dims { OnOk result (D.abstraction.dims value.new ≡
         dims_after (reversed (action_of change.now)) (D.abstraction.dims value.old)) }

@@ -3,9 +3,9 @@
 ghost use Rattle.std.specs.Prelude.{◌≡◌, ◌≢◌, ◌≤◌, ◌<◌, ◌^◌, ℕ, true, false, Some, slice_get, IfOk, OnOk};
 ghost use Rattle.lra_domain.specs.declared.Mode.TheVariants.{Join};
 ghost use Rattle.lra_domain.specs.Rank.{RankFits};
-ghost use Rattle.lra_back.specs.Operations.{dropping};
+ghost use Rattle.lra_back.specs.Operations.{lossy_back_operations};
 ghost use Rattle.lra_back.specs.Rounds.{AreStarted, StaysOrGrows, no_rows};
-ghost use Rattle.lra_back.specs.Going.{AreHeads, rank_of};
+ghost use Rattle.lra_back.specs.BackwardCalls.{AreHeads, rank_of};
 
 use lra_domain::{Backward, Exactness, Grown, Mode};
 use lra_systems::ConSys;
@@ -22,8 +22,9 @@ pub struct Growth {
 fn start<D: Backward>(alloc: Global, dims: usize) -> Result<D::Head, AllocError>
     requires { dims ≤ 2 ^ 30 }
     ensures starts { IfOk result (λ h. (v : D) ×
-        (dropping D.abstraction D.backward_abstraction).forward.bottom dims 1 v ×
-        (dropping D.abstraction D.backward_abstraction).forward.started v (no_rows dims) h) }
+        (lossy_back_operations D.abstraction D.backward_abstraction).forward.bottom dims 1 v ×
+        (lossy_back_operations D.abstraction D.backward_abstraction).forward.started v
+        (no_rows dims) h) }
     ensures dims { IfOk result (λ h. D.abstraction.head_dims h ≡ dims) }
     ensures fits { IfOk result (λ h. RankFits (D.abstraction.rank h)) }
 {
@@ -37,7 +38,8 @@ fn start<D: Backward>(alloc: Global, dims: usize) -> Result<D::Head, AllocError>
 pub fn start_all<D: Backward>(alloc: Global, forward: &[D]) -> Result<Vec<D::Head>, AllocError>
     requires { (p : ℕ) (x : D) → slice_get forward.now p ≡ Some x → D.abstraction.dims x ≤ 2 ^ 30 }
     ensures started { IfOk result (λ heads.
-        AreStarted (dropping D.abstraction D.backward_abstraction) forward.now heads.items) }
+        AreStarted (lossy_back_operations D.abstraction D.backward_abstraction) forward.now
+        heads.items) }
     ensures heads { IfOk result (λ heads. AreHeads D.abstraction forward.now heads.items) }
 {
     let mut heads = Vec::new(alloc);
@@ -51,7 +53,8 @@ pub fn start_all<D: Backward>(alloc: Global, forward: &[D]) -> Result<Vec<D::Hea
 /// The head grows by the value, unless it is stable under it.
 pub fn grow<D: Backward>(head: &mut D::Head, next: &D, mode: Mode) -> Result<Growth, AllocError>
     requires { D.abstraction.dims next.now ≡ D.abstraction.head_dims head.old }
-    ensures grows { IfOk result (λ g. StaysOrGrows (dropping D.abstraction D.backward_abstraction)
+    ensures grows { IfOk result
+        (λ g. StaysOrGrows (lossy_back_operations D.abstraction D.backward_abstraction)
         mode head.old next.now g.exactness g.is_stable head.new) }
     ensures dims { D.abstraction.head_dims head.new ≡ D.abstraction.head_dims head.old }
     ensures fits { OnOk result (RankFits (D.abstraction.rank head.new)) }

@@ -2,7 +2,7 @@
 //! false.
 #![tactic(auto)]
 
-mod backs;
+mod analysis;
 mod changes;
 mod heads;
 mod meets;
@@ -11,4 +11,4 @@ mod rounds;
 mod seeds;
 mod tasks;
 
-pub use backs::{BackFailure, Backs, back};
+pub use analysis::{BackFailure, BackwardAnalysis, back};

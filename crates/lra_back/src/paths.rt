@@ -5,11 +5,11 @@ ghost use Rattle.lra_domain.specs.declared.Exactness.{Exactness};
 ghost use Rattle.lra_domain.specs.Abstraction.{worse};
 ghost use Rattle.lra_analysis_spec.specs.Pass.{JoinsRunning};
 ghost use Rattle.lra_path_disjuncts.specs.TableDisjuncts.{all_done, lists_done};
-ghost use Rattle.lra_back.specs.Operations.{dropping};
-ghost use Rattle.lra_back.specs.GoingBack.{AllComeBack, ComesBack, ComesFromAll};
-ghost use Rattle.lra_back.specs.Going.{AllFit, ComesOver, FitHeads, Fits, IfThereHas, IsWritable, paths_from};
+ghost use Rattle.lra_back.specs.Operations.{lossy_back_operations};
+ghost use Rattle.lra_back.specs.Preconditions.{PreOfPaths, PreOfPath, PreOfAllPoints};
+ghost use Rattle.lra_back.specs.BackwardCalls.{AllFit, PreAlongMet, FitHeads, Fits, IfThereHas, IsWritable, paths_from};
 
-use crate::changes::undo;
+use crate::changes::pre_of_action;
 use lra_domain::{Backward, Change, Exactness, worse};
 use lra_path_segments::Goal;
 use lra_paths::Source;
@@ -17,7 +17,7 @@ use std::alloc::{AllocError, Global};
 
 /// A value, with the exactness of what led to it.
 #[derive(Drop)]
-pub struct Found<D> {
+pub struct PreValue<D> {
     pub value: D,
     pub exactness: Exactness,
 }
@@ -37,13 +37,14 @@ fn go_over<D: Backward>(
 ) -> Result<Exactness, AllocError>
     requires { Fits (all_done path.now) (D.abstraction.dims forward.now)
         (D.abstraction.dims value.old) }
-    ensures comes { IfOk result (λ e. ComesOver (dropping D.abstraction D.backward_abstraction)
+    ensures comes { IfOk result
+        (λ e. PreAlongMet (lossy_back_operations D.abstraction D.backward_abstraction)
         forward.now value.old (all_done path.now) e value.new) }
     ensures dims { OnOk result (D.abstraction.dims value.new ≡ D.abstraction.dims forward.now) }
 {
     let mut all = Exactness::Exact;
     'changes: for index in (0..path.len()).rev() {
-        let one = undo(value, path[index])?;
+        let one = pre_of_action(value, path[index])?;
         all = worse(all, one);
     }
     let met = value.meet(forward)?;
@@ -56,37 +57,38 @@ fn come_back<D: Backward>(
     target: &D::Head,
     path: &[&Change],
     forward: &D,
-) -> Result<Found<D>, AllocError>
+) -> Result<PreValue<D>, AllocError>
     requires { Fits (all_done path.now) (D.abstraction.dims forward.now)
         (D.abstraction.head_dims target.now) }
-    ensures comes { IfOk result (λ r. ComesBack (dropping D.abstraction D.backward_abstraction)
+    ensures comes { IfOk result
+        (λ r. PreOfPath (lossy_back_operations D.abstraction D.backward_abstraction)
         forward.now target.now (all_done path.now) r.exactness r.value) }
     ensures dims { IfOk result (λ r. D.abstraction.dims r.value ≡ D.abstraction.dims forward.now) }
 {
     let (mut value, valued) = D::value(alloc, target)?;
     let gone = go_over(&mut value, path, forward)?;
-    Ok(Found {
+    Ok(PreValue {
         value,
         exactness: worse(valued, gone),
     })
 }
 
 /// Joined to what came before, where something did.
-pub fn join_to<D: Backward>(so_far: Option<D>, value: D) -> Result<Found<D>, AllocError>
+pub fn join_to<D: Backward>(so_far: Option<D>, value: D) -> Result<PreValue<D>, AllocError>
     requires { IfThereHas D.abstraction (D.abstraction.dims value) so_far }
     ensures joins { IfOk result
-        (λ r. JoinsRunning (dropping D.abstraction D.backward_abstraction).forward
+        (λ r. JoinsRunning (lossy_back_operations D.abstraction D.backward_abstraction).forward
         so_far value r.exactness r.value) }
     ensures dims { IfOk result (λ r. D.abstraction.dims r.value ≡ D.abstraction.dims value) }
 {
     match so_far {
-        None => Ok(Found {
+        None => Ok(PreValue {
             value,
             exactness: Exactness::Exact,
         }),
         Some(mut all) => {
             let exactness = all.join(&value)?;
-            Ok(Found {
+            Ok(PreValue {
                 value: all,
                 exactness,
             })
@@ -106,9 +108,11 @@ fn join_path<D: Backward>(
         (D.abstraction.head_dims target.now) }
     requires so_far { IfThereHas D.abstraction (D.abstraction.dims forward.now) so_far.value }
     ensures joins { IfOk result (λ r. (u w : D) × (c d : Exactness) ×
-        ComesBack (dropping D.abstraction D.backward_abstraction) forward.now target.now
+        PreOfPath (lossy_back_operations D.abstraction D.backward_abstraction) forward.now
+        target.now
         (all_done path.now) c u ×
-        JoinsRunning (dropping D.abstraction D.backward_abstraction).forward so_far.value u d w ×
+        JoinsRunning (lossy_back_operations D.abstraction D.backward_abstraction).forward
+        so_far.value u d w ×
         (r.value ≡ Some w) × (r.exactness ≡ worse so_far.exactness (worse c d))) }
     ensures dims { IfOk result
         (λ r. IfThereHas D.abstraction (D.abstraction.dims forward.now) r.value) }
@@ -134,7 +138,8 @@ fn join_paths<D: Backward>(
         (D.abstraction.head_dims target.now) }
     requires so_far { IfThereHas D.abstraction (D.abstraction.dims forward.now) so_far.value }
     ensures joins { IfOk result
-        (λ r. (e : Exactness) × AllComeBack (dropping D.abstraction D.backward_abstraction)
+        (λ r. (e : Exactness)
+        × PreOfPaths (lossy_back_operations D.abstraction D.backward_abstraction)
         forward.now target.now (lists_done paths.now) so_far.value e r.value ×
         (r.exactness ≡ worse so_far.exactness e)) }
     ensures dims { IfOk result
@@ -148,7 +153,7 @@ fn join_paths<D: Backward>(
 }
 
 /// What a source's paths bring back from the heads of all points, by the numbers of these.
-pub fn come_from_all<D: Backward>(
+pub fn pre_of_all_points<D: Backward>(
     alloc: Global,
     source: &Source,
     heads: &[D::Head],
@@ -156,7 +161,8 @@ pub fn come_from_all<D: Backward>(
 ) -> Result<Joined<D>, AllocError>
     requires writable { IsWritable source.now }
     requires fit { FitHeads D.abstraction source.now (D.abstraction.dims forward.now) heads.now }
-    ensures comes { IfOk result (λ r. ComesFromAll (dropping D.abstraction D.backward_abstraction)
+    ensures comes { IfOk result
+        (λ r. PreOfAllPoints (lossy_back_operations D.abstraction D.backward_abstraction)
         (paths_from source.now) forward.now 0 heads.now None r.exactness r.value) }
     ensures dims { IfOk result
         (λ r. IfThereHas D.abstraction (D.abstraction.dims forward.now) r.value) }

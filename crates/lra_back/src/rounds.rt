@@ -3,10 +3,10 @@
 ghost use Rattle.std.specs.Prelude.{◌≡◌, ◌≢◌, ◌≤◌, ◌<◌, ℕ, [], true, false, length, Some, slice_get, slice_set};
 ghost use Rattle.std.specs.Prelude.{IfOk, OnOk};
 ghost use Rattle.lra_domain.specs.declared.Mode.TheVariants.{Join, Widen};
-ghost use Rattle.lra_back.specs.Operations.{dropping};
-ghost use Rattle.lra_back.specs.Rounds.{IsTurned, Round, Rounds, Widens};
-ghost use Rattle.lra_back.specs.Going.{AreHeads, IsTask, paths_from, ranks_of, task_view};
-ghost use Rattle.lra_back.specs.Settled.{IsGoing, Settles};
+ghost use Rattle.lra_back.specs.Operations.{lossy_back_operations};
+ghost use Rattle.lra_back.specs.Rounds.{IsUpdated, Round, Rounds, Widens};
+ghost use Rattle.lra_back.specs.BackwardCalls.{AreHeads, IsTask, paths_from, ranks_of, task_view};
+ghost use Rattle.lra_back.specs.Settled.{IsBackwardState, Settles};
 ghost use Rattle.lra_path_disjuncts.specs.Tables.{IsTable};
 
 use crate::heads::grow;
@@ -20,7 +20,7 @@ use std::alloc::AllocError;
 /// The heads of the points, the first flagged point so far, and which points are settled: stable in a round that
 /// widens, while no head to which their paths lead has grown since.
 #[derive(Drop)]
-pub struct Going<H> {
+pub struct BackwardState<H> {
     pub heads: Vec<H>,
     pub flag: Option<usize>,
     pub settled: Vec<bool>,
@@ -61,12 +61,18 @@ fn leads_to(source: &Source, point: usize) -> bool
 
 impl<D: Backward> Task<'_, D> {
     /// The point's head grows by the point's next value: whether it is stable.
-    fn turn(&self, mode: Mode, point: usize, going: &mut Going<D::Head>) -> Result<bool, AllocError>
+    fn turn(
+        &self,
+        mode: Mode,
+        point: usize,
+        going: &mut BackwardState<D::Head>,
+    ) -> Result<bool, AllocError>
         requires task { IsTask D.abstraction self.now }
         requires heads { AreHeads D.abstraction self.now.forward.now going.old.heads.items }
         requires point { point < length self.now.forward.now }
         ensures turns { IfOk result (λ stable. (k : D.Head) ×
-            IsTurned (dropping D.abstraction D.backward_abstraction) (task_view self.now) mode point
+            IsUpdated (lossy_back_operations D.abstraction D.backward_abstraction)
+            (task_view self.now) mode point
             going.old.flag going.old.heads.items going.new.flag stable k ×
             (going.new.heads.items ≡ slice_set going.old.heads.items point k)) }
         ensures heads { OnOk result
@@ -120,17 +126,18 @@ impl<D: Backward> Task<'_, D> {
         &self,
         mode: Mode,
         point: usize,
-        going: &mut Going<D::Head>,
+        going: &mut BackwardState<D::Head>,
     ) -> Result<bool, AllocError>
         requires task { IsTask D.abstraction self.now }
-        requires going { IsGoing D.abstraction D.backward_abstraction self.now going.old }
+        requires going { IsBackwardState D.abstraction D.backward_abstraction self.now going.old }
         requires point { point < length self.now.forward.now }
         ensures turns { IfOk result (λ stable. (k : D.Head) ×
-            IsTurned (dropping D.abstraction D.backward_abstraction) (task_view self.now) mode point
+            IsUpdated (lossy_back_operations D.abstraction D.backward_abstraction)
+            (task_view self.now) mode point
             going.old.flag going.old.heads.items going.new.flag stable k ×
             (going.new.heads.items ≡ slice_set going.old.heads.items point k)) }
         ensures going { OnOk result
-            (IsGoing D.abstraction D.backward_abstraction self.now going.new) }
+            (IsBackwardState D.abstraction D.backward_abstraction self.now going.new) }
         ensures falls { IfOk result (λ stable. mode ≢ Join →
             (ranks_of D.abstraction going.new.heads.items ≤ ranks_of D.abstraction
             going.old.heads.items) ×
@@ -147,15 +154,16 @@ impl<D: Backward> Task<'_, D> {
     }
 
     /// All heads grow, from the last point to the first: whether all are stable.
-    fn round(&self, mode: Mode, going: &mut Going<D::Head>) -> Result<bool, AllocError>
+    fn round(&self, mode: Mode, going: &mut BackwardState<D::Head>) -> Result<bool, AllocError>
         requires task { IsTask D.abstraction self.now }
-        requires going { IsGoing D.abstraction D.backward_abstraction self.now going.old }
+        requires going { IsBackwardState D.abstraction D.backward_abstraction self.now going.old }
         ensures round { IfOk result (λ stable.
-            Round (dropping D.abstraction D.backward_abstraction) (task_view self.now) mode
+            Round (lossy_back_operations D.abstraction D.backward_abstraction) (task_view self.now)
+            mode
             (length self.now.forward.now) going.old.flag going.old.heads.items
             going.new.flag stable going.new.heads.items) }
         ensures going { OnOk result
-            (IsGoing D.abstraction D.backward_abstraction self.now going.new) }
+            (IsBackwardState D.abstraction D.backward_abstraction self.now going.new) }
         ensures falls { IfOk result (λ stable. mode ≢ Join → stable ≡ false →
             ranks_of D.abstraction going.new.heads.items < ranks_of D.abstraction
             going.old.heads.items) }
@@ -169,15 +177,15 @@ impl<D: Backward> Task<'_, D> {
     }
 
     /// Rounds that widen, until all heads are stable in one.
-    fn widen(&self, going: &mut Going<D::Head>) -> Result<(), AllocError>
+    fn widen(&self, going: &mut BackwardState<D::Head>) -> Result<(), AllocError>
         requires task { IsTask D.abstraction self.now }
-        requires going { IsGoing D.abstraction D.backward_abstraction self.now going.old }
+        requires going { IsBackwardState D.abstraction D.backward_abstraction self.now going.old }
         ensures widens { OnOk result ((more : ℕ) ×
-            Widens (dropping D.abstraction D.backward_abstraction) (task_view self.now)
+            Widens (lossy_back_operations D.abstraction D.backward_abstraction) (task_view self.now)
             (length self.now.forward.now) more going.old.flag going.old.heads.items
             going.new.flag going.new.heads.items) }
         ensures going { OnOk result
-            (IsGoing D.abstraction D.backward_abstraction self.now going.new) }
+            (IsBackwardState D.abstraction D.backward_abstraction self.now going.new) }
     {
         'rounds: loop {
             if self.round(Mode::Widen, going)? {
@@ -187,15 +195,16 @@ impl<D: Backward> Task<'_, D> {
     }
 
     /// A round that joins, and then such that widen, until all heads are stable.
-    pub fn turn_heads(&self, going: &mut Going<D::Head>) -> Result<(), AllocError>
+    pub fn iterate_rounds(&self, going: &mut BackwardState<D::Head>) -> Result<(), AllocError>
         requires task { IsTask D.abstraction self.now }
-        requires going { IsGoing D.abstraction D.backward_abstraction self.now going.old }
+        requires going { IsBackwardState D.abstraction D.backward_abstraction self.now going.old }
         ensures rounds { OnOk result
-            (Rounds (dropping D.abstraction D.backward_abstraction) (task_view self.now)
+            (Rounds (lossy_back_operations D.abstraction D.backward_abstraction)
+            (task_view self.now)
             (length self.now.forward.now) going.old.flag going.old.heads.items
             going.new.flag going.new.heads.items) }
         ensures going { OnOk result
-            (IsGoing D.abstraction D.backward_abstraction self.now going.new) }
+            (IsBackwardState D.abstraction D.backward_abstraction self.now going.new) }
     {
         if self.round(Mode::Join, going)? {
             Ok(())

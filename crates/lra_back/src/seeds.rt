@@ -10,11 +10,11 @@ ghost use Rattle.lra_path_segments.specs.TreeSegments.{AreSegmentsOf};
 ghost use Rattle.lra_path_segments.specs.TreeSegmentViews.{move_view, seen, tree_segment_view};
 ghost use Rattle.lra_analysis_spec.specs.Pass.{Filters};
 ghost use Rattle.lra_analysis_spec.specs.LiveLimit.{most_live};
-ghost use Rattle.lra_back.specs.Operations.{dropping};
-ghost use Rattle.lra_back.specs.Traced.{IsAsserted};
-ghost use Rattle.lra_back.specs.Going.{is_denial, condition_seen};
+ghost use Rattle.lra_back.specs.Operations.{lossy_back_operations};
+ghost use Rattle.lra_back.specs.BackwardAnalysis.{IsAsserted};
+ghost use Rattle.lra_back.specs.BackwardCalls.{is_violation, condition_seen};
 
-use crate::paths::Found;
+use crate::paths::PreValue;
 use lra_domain::{Backward, Exactness};
 use lra_operations::Op;
 use lra_path_segments::{End, Goal, Move, TreeSegment};
@@ -30,8 +30,8 @@ pub struct Asserted<'g> {
 }
 
 /// Whether the stretch leads from the point to where its assertion is false.
-fn is_denial(stretch: &TreeSegment<'_>, point: usize) -> bool
-    ensures { result ≡ is_denial point (tree_segment_view stretch.now) }
+fn is_violation(stretch: &TreeSegment<'_>, point: usize) -> bool
+    ensures { result ≡ is_violation point (tree_segment_view stretch.now) }
 {
     if stretch.source != Some(point) {
         return false;
@@ -76,7 +76,7 @@ pub fn find_asserted<'g>(ways: &[TreeSegment<'g>], point: usize) -> Option<Asser
         IsAsserted g point base c → condition_seen result ≡ Some (base, c) }
 {
     'ways: for stretch in ways {
-        if is_denial(stretch, point) {
+        if is_violation(stretch, point) {
             return first_tested(stretch.moves.as_slice());
         }
     }
@@ -84,14 +84,14 @@ pub fn find_asserted<'g>(ways: &[TreeSegment<'g>], point: usize) -> Option<Asser
 }
 
 /// What the value leaves where the condition is false.
-pub fn deny<D: Backward>(
+pub fn restrict_to_violation<D: Backward>(
     alloc: Global,
     asserted: Asserted<'_>,
     value: &D,
-) -> Result<Found<D>, AllocError>
+) -> Result<PreValue<D>, AllocError>
     requires { D.abstraction.dims value.now ≤ most_live }
     ensures leaves { IfOk result
-        (λ r. Filters (dropping D.abstraction D.backward_abstraction).forward
+        (λ r. Filters (lossy_back_operations D.abstraction D.backward_abstraction).forward
         asserted.entry.base (cond_view asserted.entry.condition.now) false
         value.now r.exactness r.value) }
     ensures dims { IfOk result (λ r. D.abstraction.dims r.value ≡ D.abstraction.dims value.now) }
@@ -99,7 +99,7 @@ pub fn deny<D: Backward>(
     let Asserted { base, condition } = asserted;
     let mut seed = value.copy(alloc)?;
     let exactness = filter_condition(alloc, base, condition, false, &mut seed, Exactness::Exact)?;
-    Ok(Found {
+    Ok(PreValue {
         value: seed,
         exactness,
     })

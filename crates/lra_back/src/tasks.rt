@@ -4,12 +4,12 @@ ghost use Rattle.std.specs.Prelude.{◌≡◌, ◌≤◌, ◌<◌, ◌^◌, ℕ,
 ghost use Rattle.lra_domain.specs.declared.Exactness.{Exactness};
 ghost use Rattle.lra_domain.specs.Abstraction.{worse};
 ghost use Rattle.lra_analysis_spec.specs.Pass.{RunsFrom};
-ghost use Rattle.lra_back.specs.Operations.{dropping};
-ghost use Rattle.lra_back.specs.GoingBack.{JoinsSeed};
+ghost use Rattle.lra_back.specs.Operations.{lossy_back_operations};
+ghost use Rattle.lra_back.specs.Preconditions.{JoinsSeed};
 ghost use Rattle.lra_back.specs.Rounds.{seed_at};
-ghost use Rattle.lra_back.specs.Going.{AreHeads, IfThereHas, IsNextAt, IsTask, task_view};
+ghost use Rattle.lra_back.specs.BackwardCalls.{AreHeads, IfThereHas, IsNextAt, IsTask, task_view};
 
-use crate::paths::{Found, Joined, come_from_all, join_to};
+use crate::paths::{Joined, PreValue, join_to, pre_of_all_points};
 use lra_domain::{Backward, worse};
 use lra_paths::Source;
 use std::alloc::{AllocError, Global};
@@ -30,7 +30,8 @@ fn or_empty<D: Backward>(alloc: Global, dims: usize, found: Option<D>) -> Result
     requires few { dims ≤ 2 ^ 30 }
     requires has { IfThereHas D.abstraction dims found }
     ensures runs { IfOk result (λ v.
-        RunsFrom (dropping D.abstraction D.backward_abstraction).forward dims 1 found v) }
+        RunsFrom (lossy_back_operations D.abstraction D.backward_abstraction).forward dims 1 found
+        v) }
     ensures dims { IfOk result (λ v. D.abstraction.dims v ≡ dims) }
 {
     match found {
@@ -45,7 +46,7 @@ impl<D: Backward> Task<'_, D> {
         requires { point ≡ self.now.assertion →
             IfThereHas D.abstraction (D.abstraction.dims self.now.seed) so_far.value }
         ensures joins { IfOk result (λ r. (e : Exactness) ×
-            JoinsSeed (dropping D.abstraction D.backward_abstraction)
+            JoinsSeed (lossy_back_operations D.abstraction D.backward_abstraction)
             (seed_at (task_view self.now) point)
             so_far.value e r.value ×
             (r.exactness ≡ worse so_far.exactness e)) }
@@ -67,19 +68,20 @@ impl<D: Backward> Task<'_, D> {
 
     /// The next value of the point, over the heads as they are: what its paths bring back, and last the seed; where
     /// there is none of both, it is empty.
-    pub fn next(&self, point: usize, heads: &[D::Head]) -> Result<Found<D>, AllocError>
+    pub fn next(&self, point: usize, heads: &[D::Head]) -> Result<PreValue<D>, AllocError>
         requires task { IsTask D.abstraction self.now }
         requires heads { AreHeads D.abstraction self.now.forward.now heads.now }
         requires point { point < length self.now.forward.now }
-        ensures next { IfOk result (λ r. IsNextAt (dropping D.abstraction D.backward_abstraction)
+        ensures next { IfOk result
+            (λ r. IsNextAt (lossy_back_operations D.abstraction D.backward_abstraction)
             (task_view self.now) point heads.now r.exactness r.value) }
         ensures dims { (h : D.Head) → slice_get heads.now point ≡ Some h → IfOk result (λ r.
             D.abstraction.dims r.value ≡ D.abstraction.head_dims h) }
     {
         let forward = &self.forward[point];
-        let joined = come_from_all(self.alloc, &self.sources[point], heads, forward)?;
+        let joined = pre_of_all_points(self.alloc, &self.sources[point], heads, forward)?;
         let Joined { value, exactness } = self.join_seed(point, joined)?;
         let value = or_empty(self.alloc, forward.dims(), value)?;
-        Ok(Found { value, exactness })
+        Ok(PreValue { value, exactness })
     }
 }

@@ -18,10 +18,10 @@ use Rattle.lra_certificate.specs.Claims.{IsProgram}
 use Rattle.lra_poly_domain.specs.Abstraction.{polyhedron_abstraction}
 use Rattle.lra_poly_domain.specs.Backward.{polyhedron_backward}
 use Rattle.lra_source.proofs.ReportSteps.{few_points}
-use Rattle.lra_back.specs.Operations.{dropping}
-use Rattle.lra_back.specs.Traced.{AreWide, IsAssertion, IsTraced, NothingLeftAtStart}
-use Rattle.lra_back.specs.declared.backs.BackFailure.{BackFailure}
-use Rattle.lra_back.specs.declared.backs.BackFailure.TheVariants as of_back
+use Rattle.lra_back.specs.Operations.{lossy_back_operations}
+use Rattle.lra_back.specs.BackwardAnalysis.{AreWide, IsAssertion, IsBackwardAnalysis, NothingLeftAtStart}
+use Rattle.lra_back.specs.declared.analysis.BackFailure.{BackFailure}
+use Rattle.lra_back.specs.declared.analysis.BackFailure.TheVariants as of_back
 use Rattle.lra_retraced.specs.Forward.{IsForward}
 use Rattle.lra_retraced.specs.Refusals.{IfRefusal, IsFailure, error_by}
 use Rattle.lra_retraced.specs.Retraced.{IsBackOf, IsRefusedSo, IsRetraced, ShowsAtPoints}
@@ -32,7 +32,7 @@ use Rattle.lra_retraced.proofs.Forward.{taken}
 module _ (t : FileTree) (g : Node) (sites : List Site) (has : HasInlinedTree t g sites) (globals : List GlobalVariable) (is : (resolve t).globals ≡ globals)
     (constants : List ℤ) (p : ℕ) where
   module _ (forward values : List Polyhedron) (flagged last : Option ℕ) (holds : Bool)
-      (traced : IsTraced polyhedron_abstraction polyhedron_backward globals sites g forward flagged p values last) where
+      (traced : IsBackwardAnalysis polyhedron_abstraction polyhedron_backward globals sites g forward flagged p values last) where
     pub retraced : IsForward constants (resolve t) g forward flagged → IsAssertion sites p → AreFewIn globals sites g
         → ((holds ≡ true) ↔ NothingLeftAtStart polyhedron_abstraction globals sites g values) → IsRetraced constants (resolve t) g p values last holds
     retraced ahead asserts few proved = record {
@@ -41,13 +41,15 @@ module _ (t : FileTree) (g : Node) (sites : List Site) (has : HasInlinedTree t g
       forward = forward;
       flagged = flagged;
       ahead = ahead;
-      traced = taken t g sites has globals is (λ gs T. IsTraced polyhedron_abstraction polyhedron_backward gs T g forward flagged p values last) traced;
+      traced = taken t g sites has globals is (λ gs T. IsBackwardAnalysis polyhedron_abstraction polyhedron_backward gs T g forward flagged p values last)
+          traced;
       proved = taken t g sites has globals is (λ gs T. (holds ≡ true) ↔ NothingLeftAtStart polyhedron_abstraction gs T g values) proved;
     }
 
     pub flag_at : AreWide polyhedron_abstraction sites forward → ((q : ℕ) → flagged ≡ Some q → q < length sites) → (q : ℕ) → last ≡ Some q → q < length sites
     flag_at wide low =
-        flag_below (dropping polyhedron_abstraction polyhedron_backward) globals sites g forward flagged p values last (length sites) wide.0 traced.drops low
+        flag_below (lossy_back_operations polyhedron_abstraction polyhedron_backward) globals sites g forward flagged p values last (length sites) wide.0
+        traced.drops low
 
   pub fails_so : (failure : BackFailure) → (failure ≡ of_back.NoAssertion → IsAssertion sites p → ⊥)
       → ((q : ℕ) → failure ≡ of_back.TooMany q → IsAssertion sites p × HasTooManyIn globals sites g q) → IsFailure (resolve t) g p failure

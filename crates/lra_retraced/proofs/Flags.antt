@@ -11,16 +11,16 @@ use Rattle.lra_domain.specs.declared.Exactness.TheVariants.{Exact, Flagged}
 use Rattle.lra_domain.specs.declared.Mode.{Mode}
 use Rattle.lra_domain.specs.declared.Mode.TheVariants.{Join, Widen}
 use Rattle.lra_analysis_spec.specs.Pass.{noted}
-use Rattle.lra_back.specs.Operations.{BackOperations}
-use Rattle.lra_back.specs.Rounds.{AreMet, Round, Rounds, Task, Widens}
-use Rattle.lra_back.specs.Traced.{Backs}
+use Rattle.lra_back.specs.Operations.{BackwardOperations}
+use Rattle.lra_back.specs.Rounds.{AreBackwardValues, Round, Rounds, Task, Widens}
+use Rattle.lra_back.specs.BackwardAnalysis.{BackwardAnalysis}
 use Rattle.lra_source.proofs.Flags.{IsBelow}
 
 -- noted at a point below n it stays so
 abbrev Keeps : ℕ → (Option ℕ → Type 0) → Type 0
 Keeps n So = (q : ℕ) (e : Exactness) (f : Option ℕ) → q < n → So f → So (noted q e f)
 
-module _ {V H : Type 0} (ops : BackOperations V H) (n : ℕ) (So : Option ℕ → Type 0) (keeps : Keeps n So) where
+module _ {V H : Type 0} (ops : BackwardOperations V H) (n : ℕ) (So : Option ℕ → Type 0) (keeps : Keeps n So) where
   module _ (task : Task V) (mode : Mode) where
     round_keeps : (m : ℕ) (f g : Option ℕ) (heads last : List H) (stable : Bool) → m ≤ n → Round ops task mode m f heads g stable last → So f → So g
     round_keeps zero f g heads last stable few round so = subst So (sym round.1) so
@@ -41,7 +41,7 @@ module _ {V H : Type 0} (ops : BackOperations V H) (n : ℕ) (So : Option ℕ �
     rounds_keep m f g heads last few (inr (i, between, more, round, w)) so =
         widens_keep m more i g between last few w (round_keeps task Join m f i heads between _ few round so)
 
-  met_keep : (q : ℕ) (f g : Option ℕ) (heads : List H) (forward values : List V) → q + length forward ≤ n → AreMet ops q f heads forward g values
+  met_keep : (q : ℕ) (f g : Option ℕ) (heads : List H) (forward values : List V) → q + length forward ≤ n → AreBackwardValues ops q f heads forward g values
       → So f → So g
   met_keep q f g [] [] values few met so = subst So (sym met.0) so
   met_keep q f g [] (x ∷ forward) values few met so = absurd met
@@ -52,7 +52,7 @@ module _ {V H : Type 0} (ops : BackOperations V H) (n : ℕ) (So : Option ℕ �
       met_keep (suc q) _ g heads forward more behind rest (keeps q _ f low so)
 
   pub backs_keep : (globals : List GlobalVariable) (sites : List Site) (g : Node) (forward : List V) (f : Option ℕ) (p : ℕ) (values : List V)
-      (flag : Option ℕ) → length forward ≡ n → Backs ops globals sites g forward f p values flag → So f → So flag
+      (flag : Option ℕ) → length forward ≡ n → BackwardAnalysis ops globals sites g forward f p values flag → So f → So flag
   backs_keep globals sites g forward f p values flag many b so =
       let low = slice_get_within forward p b.at_assertion b.is_there in
       let at : p < n = omega (arith, low, many) in
@@ -67,8 +67,8 @@ below n q e (Some p) low so = so
 below n q Exact None low so = tt
 below n q Flagged None low so = low
 
-pub flag_below : {V H : Type 0} (ops : BackOperations V H) (globals : List GlobalVariable) (sites : List Site) (g : Node) (forward : List V)
-    (f : Option ℕ) (p : ℕ) (values : List V) (flag : Option ℕ) (n : ℕ) → length forward ≡ n → Backs ops globals sites g forward f p values flag
+pub flag_below : {V H : Type 0} (ops : BackwardOperations V H) (globals : List GlobalVariable) (sites : List Site) (g : Node) (forward : List V)
+    (f : Option ℕ) (p : ℕ) (values : List V) (flag : Option ℕ) (n : ℕ) → length forward ≡ n → BackwardAnalysis ops globals sites g forward f p values flag
     → ((q : ℕ) → f ≡ Some q → q < n) → (q : ℕ) → flag ≡ Some q → q < n
 flag_below ops globals sites g forward f p values flag n many b low q is =
     subst (IsBelow n) is (backs_keep ops n (IsBelow n) (below n) globals sites g forward f p values flag many b (begun f low))
@@ -82,13 +82,14 @@ stays : (n q : ℕ) → Keeps n (λ (o : Option ℕ). o ≡ Some q)
 stays n q k e (Some p) low so = so
 stays n q k e None low so = absurd (none-some q so)
 
-pub first_stays : {V H : Type 0} (ops : BackOperations V H) (globals : List GlobalVariable) (sites : List Site) (g : Node) (forward : List V)
-    (f : Option ℕ) (p : ℕ) (values : List V) (flag : Option ℕ) → Backs ops globals sites g forward f p values flag → (q : ℕ) → f ≡ Some q → flag ≡ Some q
+pub first_stays : {V H : Type 0} (ops : BackwardOperations V H) (globals : List GlobalVariable) (sites : List Site) (g : Node) (forward : List V)
+    (f : Option ℕ) (p : ℕ) (values : List V) (flag : Option ℕ) → BackwardAnalysis ops globals sites g forward f p values flag → (q : ℕ) → f ≡ Some q →
+    flag ≡ Some q
 first_stays ops globals sites g forward f p values flag b q is =
     backs_keep ops (length forward) (λ (o : Option ℕ). o ≡ Some q) (stays (length forward) q) globals sites g forward f p values flag refl b is
 
-pub none_first : {V H : Type 0} (ops : BackOperations V H) (globals : List GlobalVariable) (sites : List Site) (g : Node) (forward : List V)
-    (f : Option ℕ) (p : ℕ) (values : List V) (flag : Option ℕ) → Backs ops globals sites g forward f p values flag → flag ≡ None → f ≡ None
+pub none_first : {V H : Type 0} (ops : BackwardOperations V H) (globals : List GlobalVariable) (sites : List Site) (g : Node) (forward : List V)
+    (f : Option ℕ) (p : ℕ) (values : List V) (flag : Option ℕ) → BackwardAnalysis ops globals sites g forward f p values flag → flag ≡ None → f ≡ None
 none_first ops globals sites g forward f p values flag b none = go f refl
   where
     go : (o : Option ℕ) → f ≡ o → f ≡ None

@@ -22,9 +22,9 @@ use Rattle.lra_source.proofs.Found.{none_before}
 use Rattle.lra_source.proofs.Handing.{as_many, value_dims}
 use Rattle.lra_source.proofs.ReportSteps.{last_handed}
 use Rattle.lra_source.proofs.Widths.{graph_lives}
-use Rattle.lra_back.specs.Traced.{AreAsserted, AreWide, PathsFit}
-use Rattle.lra_failing.proofs.Assertions.{assertions_denied}
-use Rattle.lra_failing.proofs.PathsMade.{paths_made}
+use Rattle.lra_back.specs.BackwardAnalysis.{AreAsserted, AreWide, PathsFit}
+use Rattle.lra_back_sound.proofs.Assertions.{assertions_denied}
+use Rattle.lra_back_sound.proofs.PathsMade.{paths_made}
 use Rattle.lra_retraced.specs.Forward.{IsForward, forward_plan}
 
 -- ---- what is found

@@ -9,7 +9,7 @@ use Rattle.lra_paths.specs.Paths.{AreFewPaths}
 use Rattle.lra_paths.proofs.ManyPaths.{not_both}
 use Rattle.lra_certificate.specs.Claims.{IsProgram, program_of}
 use Rattle.lra_certificate.proofs.OneProgram.{accepted_of, as_said}
-use Rattle.lra_back.specs.Traced.{IsAssertion}
+use Rattle.lra_back.specs.BackwardAnalysis.{IsAssertion}
 use Rattle.lra_retraced.specs.declared.refusals.BackRefusal.{BackRefusal}
 use Rattle.lra_retraced.specs.declared.refusals.BackRefusal.TheVariants.{Source, NoAssertion, Paths}
 use Rattle.lra_retraced.specs.Retraced.{BackOrRefused, CanGoBack, IsRefusedSo}

@@ -23,7 +23,7 @@ use Rattle.lra_report_states.specs.Polyhedra.{shown_polyhedron}
 use Rattle.lra_report_states.specs.Shown.{AreShown}
 use Rattle.lra_source.proofs.Handing.{contained, image_of}
 use Rattle.lra_source.proofs.Sound.{listed_all}
-use Rattle.lra_back.specs.Traced.{AreWide}
+use Rattle.lra_back.specs.BackwardAnalysis.{AreWide}
 use Rattle.lra_retraced.specs.Retraced.{BacksHaveSamePoints, HasSamePointsAt, ShowsAtPoints}
 
 -- the states that are listed

@@ -16,10 +16,10 @@ use Rattle.lra_poly_domain.specs.Backward.{polyhedron_backward}
 use Rattle.lra_report_states.specs.Polyhedra.{shown_polyhedron}
 use Rattle.lra_source.proofs.Handing.{contained}
 use Rattle.lra_source.proofs.Sound.{held_there, listed_all}
-use Rattle.lra_back.specs.Traced.{FailsFrom}
-use Rattle.lra_failing.specs.Failing.{HoldsAtPoints, HoldWhereRunsFail}
-use Rattle.lra_failing.proofs.FailingRuns.{traced_sound}
-use Rattle.lra_failing.proofs.FirstPoints.{nothing_left, one_first}
+use Rattle.lra_back.specs.BackwardAnalysis.{FailsFrom}
+use Rattle.lra_back_sound.specs.FailingRuns.{HoldsAtPoints, CoverFailingRuns}
+use Rattle.lra_back_sound.proofs.FailingRuns.{traced_sound}
+use Rattle.lra_back_sound.proofs.FirstPoints.{nothing_left, one_first}
 use Rattle.lra_retraced.specs.Forward.{forward_plan}
 use Rattle.lra_retraced.specs.Retraced.{BacksAreProvedAtFirst, BacksAreSound, HoldsBeforeFailing, IsBackOf}
 use Rattle.lra_retraced.proofs.Forward.{paths_at, wide_at}
@@ -35,7 +35,7 @@ module _ (source : List ℕ) (p : ℕ) (r : BackReport) (x : IsBackOf source p r
       store site at in
       (held.0, held.1, held.2)
 
-  found : HoldWhereRunsFail polyhedron_abstraction (program_of x.program) x.program.operations p x.values
+  found : CoverFailingRuns polyhedron_abstraction (program_of x.program) x.program.operations p x.values
   found = traced_sound polyhedron_abstraction polyhedron_backward polyhedron_laws (program_of x.program) x.program.operations x.found.forward x.values
       x.found.flagged x.last p x.program.graph.well x.program.graph.is_graph
       (paths_at x.program.tree x.program.operations x.program.sites x.program.graph)

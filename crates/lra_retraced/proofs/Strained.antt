@@ -13,8 +13,8 @@ use Rattle.lra_certificate.specs.Claims.{program_of}
 use Rattle.lra_poly_domain.specs.Abstraction.{polyhedron_abstraction}
 use Rattle.lra_poly_domain.specs.Backward.{polyhedron_backward}
 use Rattle.lra_source.proofs.Found.{none_before}
-use Rattle.lra_back.specs.Operations.{defined, dropping, straining}
-use Rattle.lra_back.specs.Traced.{Backs}
+use Rattle.lra_back.specs.Operations.{exact_back_operations, lossy_back_operations, straining_back_operations}
+use Rattle.lra_back.specs.BackwardAnalysis.{BackwardAnalysis}
 use Rattle.lra_retraced.specs.Retraced.{FlaggedBacksStrain, IsBackOf, IsDefinedBack, IsWrittenForward, StrainsAt, UnflaggedBacksAreDefined}
 use Rattle.lra_retraced.proofs.Flags.{first_stays, none_first}
 
@@ -49,7 +49,7 @@ module _ (source : List ℕ) (p : ℕ) (r : BackReport) (x : IsBackOf source p r
       (accessing_ops None x.program.operations) x.found.forward x.found.ahead.behind x.found.ahead.inside x.found.flagged x.found.ahead.accessed none
 
   none_forward : x.last ≡ None → x.found.flagged ≡ None
-  none_forward = none_first (dropping polyhedron_abstraction polyhedron_backward) (program_of x.program).globals (sites_of (program_of x.program))
+  none_forward = none_first (lossy_back_operations polyhedron_abstraction polyhedron_backward) (program_of x.program).globals (sites_of (program_of x.program))
       x.program.operations x.found.forward x.found.flagged p x.values x.last x.found.traced.drops
 
   pub is_defined : r.flagged ≡ None → IsDefinedBack x.constants (program_of x.program) x.program.operations p r
@@ -60,16 +60,16 @@ module _ (source : List ℕ) (p : ℕ) (r : BackReport) (x : IsBackOf source p r
         forward = x.found.forward;
         written = written (none_behind first);
         values = x.values;
-        back = subst (λ (f : Option ℕ). Backs (defined polyhedron_abstraction polyhedron_backward) (program_of x.program).globals
+        back = subst (λ (f : Option ℕ). BackwardAnalysis (exact_back_operations polyhedron_abstraction polyhedron_backward) (program_of x.program).globals
             (sites_of (program_of x.program)) x.program.operations x.found.forward f p x.values None) first
-            (subst (λ (f : Option ℕ). Backs (defined polyhedron_abstraction polyhedron_backward) (program_of x.program).globals
+            (subst (λ (f : Option ℕ). BackwardAnalysis (exact_back_operations polyhedron_abstraction polyhedron_backward) (program_of x.program).globals
             (sites_of (program_of x.program)) x.program.operations x.found.forward x.found.flagged p x.values f) none (x.found.traced.written none));
         states = x.shows.states;
       }
 
   -- a flag of the forward analysis is the last one
   last_is : (k : ℕ) → x.found.flagged ≡ Some k → x.last ≡ Some k
-  last_is = first_stays (dropping polyhedron_abstraction polyhedron_backward) (program_of x.program).globals (sites_of (program_of x.program))
+  last_is = first_stays (lossy_back_operations polyhedron_abstraction polyhedron_backward) (program_of x.program).globals (sites_of (program_of x.program))
       x.program.operations x.found.forward x.found.flagged p x.values x.last x.found.traced.drops
 
   behind_is : (k : ℕ) → x.found.ahead.behind ≡ Some k → x.found.flagged ≡ Some k
@@ -96,9 +96,9 @@ module _ (source : List ℕ) (p : ℕ) (r : BackReport) (x : IsBackOf source p r
         forward = x.found.forward;
         written = written none;
         values = x.values;
-        back = subst (λ (f : Option ℕ). Backs (straining polyhedron_abstraction polyhedron_backward) (program_of x.program).globals
+        back = subst (λ (f : Option ℕ). BackwardAnalysis (straining_back_operations polyhedron_abstraction polyhedron_backward) (program_of x.program).globals
             (sites_of (program_of x.program)) x.program.operations x.found.forward f p x.values (Some q)) no_flag
-            (subst (λ (f : Option ℕ). Backs (straining polyhedron_abstraction polyhedron_backward) (program_of x.program).globals
+            (subst (λ (f : Option ℕ). BackwardAnalysis (straining_back_operations polyhedron_abstraction polyhedron_backward) (program_of x.program).globals
             (sites_of (program_of x.program)) x.program.operations x.found.forward x.found.flagged p x.values f) at x.found.traced.strained);
       }))
 

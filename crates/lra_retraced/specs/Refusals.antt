@@ -6,9 +6,9 @@ use Rattle.lra_program.specs.Program.{Program}
 use Rattle.lra_program.specs.Sites.{sites_of}
 use Rattle.lra_operations.specs.Tree.{Node}
 use Rattle.lra_paths.specs.Paths.{HasTooManyPaths}
-use Rattle.lra_back.specs.Traced.{IsAssertion}
-use Rattle.lra_back.specs.declared.backs.BackFailure.{BackFailure}
-use Rattle.lra_back.specs.declared.backs.BackFailure.TheVariants as of_back
+use Rattle.lra_back.specs.BackwardAnalysis.{IsAssertion}
+use Rattle.lra_back.specs.declared.analysis.BackFailure.{BackFailure}
+use Rattle.lra_back.specs.declared.analysis.BackFailure.TheVariants as of_back
 use Rattle.lra_retraced.specs.declared.refusals.BackRefusal.{BackRefusal}
 use Rattle.lra_retraced.specs.declared.refusals.BackRefusal.TheVariants.{Source, NoAssertion, Paths}
 use Rattle.lra_retraced.specs.declared.refusals.BackError.{BackError}

@@ -33,9 +33,10 @@ use Rattle.lra_paths.specs.Paths.{AreFewPaths, HasTooManyPaths}
 use Rattle.lra_certificate.specs.Claims.{IsProgram, program_of}
 use Rattle.lra_poly_domain.specs.Abstraction.{polyhedron_abstraction}
 use Rattle.lra_poly_domain.specs.Backward.{polyhedron_backward}
-use Rattle.lra_back.specs.Operations.{defined, straining}
-use Rattle.lra_back.specs.Traced.{AreWide, Backs, FailsFrom, IsAssertion, IsTraced, NothingLeftAtStart}
-use Rattle.lra_failing.specs.Fitting.{IsFirst}
+use Rattle.lra_back.specs.Operations.{exact_back_operations, straining_back_operations}
+use Rattle.lra_back.specs.BackwardAnalysis.{AreWide, BackwardAnalysis, FailsFrom, IsAssertion, IsBackwardAnalysis}
+use Rattle.lra_back.specs.BackwardAnalysis.{NothingLeftAtStart}
+use Rattle.lra_back_sound.specs.Fitting.{IsFirst}
 use Rattle.lra_retraced.specs.declared.refusals.BackRefusal.{BackRefusal}
 use Rattle.lra_retraced.specs.declared.refusals.BackRefusal.TheVariants.{Source, NoAssertion, Paths}
 use Rattle.lra_retraced.specs.Forward.{IsForward, forward_plan}
@@ -60,7 +61,8 @@ pub record IsRetraced (constants : List ℤ) (P : Program) (g : Node) (p : ℕ) 
   pub forward : List Polyhedron
   pub flagged : Option ℕ
   pub ahead : IsForward constants P g forward flagged
-  pub traced : IsTraced polyhedron_abstraction polyhedron_backward P.globals (sites_of P) g forward flagged p values
+  pub traced : IsBackwardAnalysis polyhedron_abstraction polyhedron_backward P.globals (sites_of P) g forward flagged p
+      values
       last
   pub proved : (holds ≡ true) ↔ NothingLeftAtStart polyhedron_abstraction P.globals (sites_of P) g values
 
@@ -106,7 +108,8 @@ pub record IsDefinedBack (constants : List ℤ) (P : Program) (g : Node) (p : �
   pub forward : List Polyhedron
   pub written : IsWrittenForward constants P g forward
   pub values : List Polyhedron
-  pub back : Backs (defined polyhedron_abstraction polyhedron_backward) P.globals (sites_of P) g forward None p values
+  pub back : BackwardAnalysis (exact_back_operations polyhedron_abstraction polyhedron_backward) P.globals (sites_of P)
+      g forward None p values
       None
   pub states : map (λ (x : PointReport). x.state) r.points ≡ map shown_polyhedron values
 
@@ -124,7 +127,8 @@ pub record StrainsBack (constants : List ℤ) (P : Program) (g : Node) (p q : �
   pub forward : List Polyhedron
   pub written : IsWrittenForward constants P g forward
   pub values : List Polyhedron
-  pub back : Backs (straining polyhedron_abstraction polyhedron_backward) P.globals (sites_of P) g forward None p values
+  pub back : BackwardAnalysis (straining_back_operations polyhedron_abstraction polyhedron_backward) P.globals
+      (sites_of P) g forward None p values
       (Some q)
 
 -- an operation of the point q strains, and all before it is exact: of the written iteration, of what is judged of

@@ -10,13 +10,13 @@ ghost use Rattle.lra_front_end.specs.Stages.{HasInlinedTree};
 ghost use Rattle.lra_fixpoint.specs.Solved.{IsSolved};
 ghost use Rattle.lra_poly_domain.specs.Abstraction.{polyhedron_abstraction};
 ghost use Rattle.lra_report.specs.View.{back_report_of, point_report_of};
-ghost use Rattle.lra_back.specs.Traced.{AreWide};
+ghost use Rattle.lra_back.specs.BackwardAnalysis.{AreWide};
 ghost use Rattle.lra_retraced.specs.Forward.{IsForward, forward_plan};
 ghost use Rattle.lra_retraced.specs.Refusals.{IfRefusal, IsFailure};
 ghost use Rattle.lra_retraced.specs.Retraced.{IsBackOf, IsRefusedSo, IsRetraced, ShowsAtPoints};
 
 use crate::refusals::BackError;
-use lra_back::{BackFailure, Backs, back};
+use lra_back::{BackFailure, BackwardAnalysis, back};
 use lra_bounds_checks::judge_accesses;
 use lra_fixpoint::{Plan, Solution};
 use lra_front_end::{AcceptedSource, read_source};
@@ -82,7 +82,7 @@ fn retrace(
     alloc: Global,
     front: &AcceptedSource,
     point: usize,
-) -> Result<Backs<Polyhedron>, BackFailure>
+) -> Result<BackwardAnalysis<Polyhedron>, BackFailure>
     requires graph { HasInlinedTree (tree_view front.now.tree) (node_view front.now.graph.tree)
         (map site_view front.now.graph.sites.items) }
     requires program { program_view front.now.resolution.program ≡

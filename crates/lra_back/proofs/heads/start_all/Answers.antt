@@ -1,6 +1,6 @@
 -- Goals of `start_all`: the heads of all points.
 use Rattle.std.proofs.Common.{◌+◌, List, add-one, refl, subst, sym, take}
-use Rattle.lra_back.specs.Operations.{dropping}
+use Rattle.lra_back.specs.Operations.{lossy_back_operations}
 use Rattle.lra_back.proofs.PathSteps.{read_at}
 use Rattle.lra_back.proofs.HeadSteps.{AreFirst, IsFirst, first_all, first_heads, first_next, first_started}
 use Rattle.lra_back.proofs.heads.start_all.Goals as goal
@@ -8,7 +8,7 @@ use Rattle.lra_back.proofs.heads.start_all.Goals as goal
 pub points-preserved : goal.points-preserved
 points-preserved g c =
     let m = g.D.Domain.abstraction in
-    let ops = dropping m g.D.Backward.backward_abstraction in
+    let ops = lossy_back_operations m g.D.Backward.backward_abstraction in
     let forward = c.args.forward.now in
     let i = c.points.value-index in
     let x = c.value-item.result in
@@ -28,13 +28,13 @@ points-preserved g c =
 pub returns-clause-started : goal.returns-clause-started
 returns-clause-started g c =
     let m = g.D.Domain.abstraction in
-    let ops = dropping m g.D.Backward.backward_abstraction in
+    let ops = lossy_back_operations m g.D.Backward.backward_abstraction in
     first_started ops m (λ v. refl) c.args.forward.now c.points.heads.items
     (first_all ops m c.args.forward.now c.points.value-index c.points.heads.items c.points-test.false c.points.invariant)
 
 pub returns-clause-heads : goal.returns-clause-heads
 returns-clause-heads g c =
     let m = g.D.Domain.abstraction in
-    let ops = dropping m g.D.Backward.backward_abstraction in
+    let ops = lossy_back_operations m g.D.Backward.backward_abstraction in
     first_heads ops m c.args.forward.now c.points.heads.items
     (first_all ops m c.args.forward.now c.points.value-index c.points.heads.items c.points-test.false c.points.invariant)

@@ -1,6 +1,6 @@
 -- Goals of `meet_all`: the value of each head, met with the forward value at its point.
 use Rattle.std.proofs.Common.{◌≡◌, ◌<◌, ◌+◌, List, Some, length, add-one, ap, arith, slice_get, subst, sym, ◌∙◌}
-use Rattle.lra_back.specs.Operations.{dropping}
+use Rattle.lra_back.specs.Operations.{lossy_back_operations}
 use Rattle.lra_back.proofs.PathSteps.{read_at, same_there}
 use Rattle.lra_back.proofs.MeetSteps.{StillMeets, append_cases, last_meets, next_meets, one_more}
 use Rattle.lra_back.proofs.meets.meet_all.Goals as goal
@@ -8,7 +8,7 @@ use Rattle.lra_back.proofs.meets.meet_all.Goals as goal
 pub points-preserved : goal.points-preserved
 points-preserved g c =
     let m = g.D.Domain.abstraction in
-    let ops = dropping m g.D.Backward.backward_abstraction in
+    let ops = lossy_back_operations m g.D.Backward.backward_abstraction in
     let heads = c.args.going.now.heads.items in
     let forward = c.args.forward.now in
     let values = c.points.values.items in
@@ -36,6 +36,7 @@ points-preserved g c =
 
 pub returns-clause-met : goal.returns-clause-met
 returns-clause-met g c =
-    last_meets (dropping g.D.Domain.abstraction g.D.Backward.backward_abstraction) c.args.going.now.heads.items c.args.forward.now c.args.going.now.flag
+    last_meets (lossy_back_operations g.D.Domain.abstraction g.D.Backward.backward_abstraction) c.args.going.now.heads.items c.args.forward.now
+    c.args.going.now.flag
     c.points.point
     c.points.flag c.points.values.items c.points-test.false c.requires.count c.points.invariant.still

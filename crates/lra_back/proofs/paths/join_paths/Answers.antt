@@ -1,14 +1,15 @@
 -- Goals of `join_paths`: what the paths bring back comes to what is joined so far, one after the other.
 use Rattle.std.proofs.Common.{◌+◌, add-one}
 use Rattle.lra_path_disjuncts.specs.TableDisjuncts.{all_done, lists_done}
-use Rattle.lra_back.specs.Operations.{dropping}
+use Rattle.lra_back.specs.Operations.{lossy_back_operations}
 use Rattle.lra_back.proofs.PathSteps.{contains_at, mapped_past, read_mapped}
 use Rattle.lra_back.proofs.JoinSteps.{first_comes, last_comes, next_comes}
 use Rattle.lra_back.proofs.paths.join_paths.Goals as goal
 
 pub paths-init : goal.paths-init
 paths-init g c = record {
-  still = first_comes (dropping g.D.Domain.abstraction g.D.Backward.backward_abstraction) c.args.forward.now c.args.target.now (lists_done c.args.paths.now)
+  still = first_comes (lossy_back_operations g.D.Domain.abstraction g.D.Backward.backward_abstraction) c.args.forward.now c.args.target.now
+      (lists_done c.args.paths.now)
       c.args.so_far.value c.args.so_far.exactness;
   has = c.requires.so_far;
 }
@@ -27,7 +28,8 @@ paths-preserved g c =
     let at = read_mapped (λ v. all_done v.items) paths i c.path-item.result c.paths-test.true c.path-item.is in
     let joined = c.in_ok-joined.joined in
     record {
-      still = next_comes (dropping g.D.Domain.abstraction g.D.Backward.backward_abstraction) c.args.forward.now c.args.target.now (lists_done paths)
+      still = next_comes (lossy_back_operations g.D.Domain.abstraction g.D.Backward.backward_abstraction) c.args.forward.now c.args.target.now
+          (lists_done paths)
           c.args.so_far.value c.args.so_far.exactness i (i + 1) (all_done c.path-item.result.items)
           c.paths.joined.value c.paths.joined.exactness joined.exactness
           joined.value (add-one i) at c.paths.invariant.still (rw c.as_slice.ensures.value at c.in_ok-joined.ensures.joins);
@@ -37,7 +39,7 @@ paths-preserved g c =
 pub returns-clause-joins : goal.returns-clause-joins
 returns-clause-joins g c =
     let paths = lists_done c.args.paths.now in
-    last_comes (dropping g.D.Domain.abstraction g.D.Backward.backward_abstraction) c.args.forward.now c.args.target.now paths c.args.so_far.value
+    last_comes (lossy_back_operations g.D.Domain.abstraction g.D.Backward.backward_abstraction) c.args.forward.now c.args.target.now paths c.args.so_far.value
     c.args.so_far.exactness
     c.paths.path-index c.paths.joined.value c.paths.joined.exactness
     (mapped_past (λ v. all_done v.items) c.args.paths.now c.paths.path-index c.paths-test.false) c.paths.invariant.still

@@ -5,11 +5,11 @@ use Rattle.lra_back.proofs.PathSteps.{read_at}
 use Rattle.lra_back.proofs.SeedSteps.{first_found}
 use Rattle.lra_back.proofs.seeds.find_asserted.Goals as goal
 
-pub returns-then-is_denial : goal.returns-then-is_denial
-returns-then-is_denial c g base condition is asserted =
+pub returns-then-is_violation : goal.returns-then-is_violation
+returns-then-is_violation c g base condition is asserted =
     let ways = c.args.ways.now in
     let i = c.ways.stretch-index in
     let x = c.stretch-item.result in
     c.first_tested.ensures base condition (ap (map move_view) c.as_slice.ensures.value
     ∙ first_found c.args.point ways i x g base condition (read_at ways i x c.ways-test.true c.stretch-item.is) c.ways.invariant
-    (sym c.is_denial.ensures ∙ c.if-is_denial.true) is asserted)
+    (sym c.is_violation.ensures ∙ c.if-is_violation.true) is asserted)

@@ -2,7 +2,7 @@
 use Rattle.std.proofs.Common.{map}
 use Rattle.lra_syntax.specs.Views.{tree_view}
 use Rattle.lra_operations.specs.TreeViews.{node_view, site_view}
-use Rattle.lra_back.specs.Traced.{PathsFit}
+use Rattle.lra_back.specs.BackwardAnalysis.{PathsFit}
 use Rattle.lra_source.proofs.ReportSteps.{globals_seen}
 use Rattle.lra_retraced.proofs.Answered.{all_found, failed, flag_at, listed_number, retraced, unlisted_number}
 use Rattle.lra_retraced.proofs.Forward.{asserted_at, handed, paths_at}

@@ -3,25 +3,25 @@ use Rattle.std.proofs.Common.{◌<◌, ◌≤◌, ◌^◌, None, Option, arith, 
 use Rattle.std.proofs.lemmas.Option.{slice_get-get_or}
 use Rattle.lra_analysis_spec.specs.Pass.{RunsFrom}
 use Rattle.lra_paths.specs.declared.sources.Source.{Source}
-use Rattle.lra_back.specs.Operations.{dropping}
-use Rattle.lra_back.specs.GoingBack.{ComesFromAll}
+use Rattle.lra_back.specs.Operations.{lossy_back_operations}
+use Rattle.lra_back.specs.Preconditions.{PreOfAllPoints}
 use Rattle.lra_back.specs.Rounds.{seed_at}
-use Rattle.lra_back.specs.Going.{IfThereHas, paths_at, task_view}
+use Rattle.lra_back.specs.BackwardCalls.{IfThereHas, paths_at, task_view}
 use Rattle.lra_back.proofs.PathSteps.{read_at}
 use Rattle.lra_back.proofs.JoinSteps.{next_value}
 use Rattle.lra_back.proofs.BackSteps.{heads_fit, seed_has}
 use Rattle.lra_back.proofs.tasks.Task.next.Goals as goal
 
-pub come_from_all-requires-clause-writable : goal.come_from_all-requires-clause-writable
-come_from_all-requires-clause-writable g c =
+pub pre_of_all_points-requires-clause-writable : goal.pre_of_all_points-requires-clause-writable
+pre_of_all_points-requires-clause-writable g c =
     let t = c.args.self.now in
     let p = c.args.point in
     let count = c.requires.task.count in
     let inside : p < length t.sources.items = omega (arith, count, c.requires.point) in
     c.requires.task.writable p c.index.result.now (read_at t.sources.items p c.index.result.now inside c.index.ensures)
 
-pub come_from_all-requires-clause-fit : goal.come_from_all-requires-clause-fit
-come_from_all-requires-clause-fit g c =
+pub pre_of_all_points-requires-clause-fit : goal.pre_of_all_points-requires-clause-fit
+pre_of_all_points-requires-clause-fit g c =
     let t = c.args.self.now in
     let p = c.args.point in
     let x = get_or t.forward.now p c.index-self-point.result in
@@ -59,7 +59,7 @@ or_empty-requires-clause-has g c =
 
 pub returns-clause-next : goal.returns-clause-next
 returns-clause-next g c =
-    let ops = dropping g.D.Domain.abstraction g.D.Backward.backward_abstraction in
+    let ops = lossy_back_operations g.D.Domain.abstraction g.D.Backward.backward_abstraction in
     let t = c.args.self.now in
     let p = c.args.point in
     let heads = c.args.heads.now in
@@ -70,7 +70,7 @@ returns-clause-next g c =
     let source = read_at t.sources.items p c.index.result.now inside c.index.ensures in
     let joined = c.in_ok-joined.joined in
     let all = c.in_ok-value.field-0 in
-    let come = subst (λ (o : Option Source). ComesFromAll ops (λ q. paths_at o q) x 0 heads None joined.exactness joined.value) (sym source)
+    let come = subst (λ (o : Option Source). PreOfAllPoints ops (λ q. paths_at o q) x 0 heads None joined.exactness joined.value) (sym source)
     c.in_ok-joined.ensures.comes in
     let runs = subst (λ n. RunsFrom ops.forward n 1 all.value c.in_ok-value-2.value) c.dims.ensures c.in_ok-value-2.ensures.runs in (
       x,

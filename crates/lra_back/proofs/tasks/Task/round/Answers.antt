@@ -1,7 +1,7 @@
 -- Goals of `round`: all heads grow, from the last point to the first.
 use Rattle.std.proofs.Common.{◌≡◌, ◌-◌, ◌&&◌, Bool, true, false, arith, length, refl, subst, suc}
-use Rattle.lra_back.specs.Operations.{dropping}
-use Rattle.lra_back.specs.Going.{task_view}
+use Rattle.lra_back.specs.Operations.{lossy_back_operations}
+use Rattle.lra_back.specs.BackwardCalls.{task_view}
 use Rattle.lra_back.proofs.RoundSteps.{StillTurns, last_turn, next_turn, ranks_next}
 use Rattle.lra_back.proofs.tasks.Task.round.Goals as goal
 
@@ -26,7 +26,8 @@ points-preserved-then-all g c =
     let both = all_and c.points.all own c.if-all.true in
     record {
       going = c.in_ok-own.ensures.going;
-      still = next_turn (dropping m g.D.Backward.backward_abstraction) (task_view c.args.self.now) c.args.mode (length c.args.self.now.forward.now) first.flag
+      still = next_turn (lossy_back_operations m g.D.Backward.backward_abstraction) (task_view c.args.self.now) c.args.mode (length c.args.self.now.forward.now)
+          first.flag
           first.heads.items i (i - 1) now.flag now.heads.items c.points.all later.flag own turns.0 later.heads.items own next c.points.invariant.still turns.1
           turns.2 both;
       falls = ranks_next m c.args.mode first.heads.items now.heads.items later.heads.items c.points.all own own c.points.invariant.falls
@@ -46,7 +47,8 @@ points-preserved g c =
     let both = none_and c.points.all own c.if-all.false in
     record {
       going = c.in_ok-own.ensures.going;
-      still = next_turn (dropping m g.D.Backward.backward_abstraction) (task_view c.args.self.now) c.args.mode (length c.args.self.now.forward.now) first.flag
+      still = next_turn (lossy_back_operations m g.D.Backward.backward_abstraction) (task_view c.args.self.now) c.args.mode (length c.args.self.now.forward.now)
+          first.flag
           first.heads.items i (i - 1) now.flag now.heads.items c.points.all later.flag own turns.0 later.heads.items c.points.all next
           c.points.invariant.still turns.1 turns.2 both;
       falls = ranks_next m c.args.mode first.heads.items now.heads.items later.heads.items c.points.all own c.points.all c.points.invariant.falls
@@ -55,7 +57,7 @@ points-preserved g c =
 
 pub returns-clause-round : goal.returns-clause-round
 returns-clause-round g c =
-    let ops = dropping g.D.Domain.abstraction g.D.Backward.backward_abstraction in
+    let ops = lossy_back_operations g.D.Domain.abstraction g.D.Backward.backward_abstraction in
     let t = task_view c.args.self.now in
     let n = length c.args.self.now.forward.now in
     let first = c.args.going.now in

@@ -1,7 +1,7 @@
 -- Goals of `turn_unsettled`: the point is turned, unless it is settled.
 use Rattle.std.proofs.Common.{◌≡◌, Bool, List, Some, ap, slice_get, subst, true}
-use Rattle.lra_back.specs.Operations.{dropping}
-use Rattle.lra_back.specs.Going.{task_view}
+use Rattle.lra_back.specs.Operations.{lossy_back_operations}
+use Rattle.lra_back.specs.BackwardCalls.{task_view}
 use Rattle.lra_back.specs.Settled.{Settles}
 use Rattle.lra_back.proofs.SettledSteps.{skipped, turned_settled}
 use Rattle.lra_back.proofs.tasks.Task.turn_unsettled.Goals as goal
@@ -12,7 +12,8 @@ returns-then-is_settled-clause-turns g c =
     let p = c.args.point in
     let is = c.is_settled.ensures c.if-is_settled.true in
     let marked = subst (λ (marks : List Bool). slice_get marks p ≡ Some true) c.as_slice.ensures.value is.1 in
-    skipped (dropping g.D.Domain.abstraction g.D.Backward.backward_abstraction) (task_view c.args.self.now) c.args.mode p going.flag going.heads.items is.0
+    skipped (lossy_back_operations g.D.Domain.abstraction g.D.Backward.backward_abstraction) (task_view c.args.self.now) c.args.mode p going.flag
+    going.heads.items is.0
     (c.requires.going.settled.each p marked)
 
 pub returns-clause-going : goal.returns-clause-going
@@ -27,7 +28,8 @@ returns-clause-going g c =
     c.settle.ensures in
     record {
       heads = c.in_ok-stable.ensures.heads;
-      settled = turned_settled (dropping g.D.Domain.abstraction g.D.Backward.backward_abstraction) task c.args.mode p before.flag before.heads.items later.flag
+      settled = turned_settled (lossy_back_operations g.D.Domain.abstraction g.D.Backward.backward_abstraction) task c.args.mode p before.flag
+          before.heads.items later.flag
           stable
           turns.0 later.heads.items before.settled.items c.settle.new.settled.items c.requires.going.settled turns.1 turns.2 settles;
     }

@@ -1,5 +1,5 @@
 use Rattle.std.proofs.Common.{◌≡◌, ◌≢◌, ◌<◌, ℕ, Some, [], length, slice_get, true}
-use Rattle.lra_back.specs.Going.{task_view}
+use Rattle.lra_back.specs.BackwardCalls.{task_view}
 use Rattle.lra_back.proofs.tasks.Task.unsettle.Given as goal
 
 -- of the points so far those that are marked are neither this one nor have paths to it

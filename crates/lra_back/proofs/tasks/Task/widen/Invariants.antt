@@ -1,15 +1,16 @@
 use Rattle.std.proofs.Common.{length}
-use Rattle.lra_back.specs.Operations.{dropping}
-use Rattle.lra_back.specs.Going.{ranks_of, task_view}
-use Rattle.lra_back.specs.Settled.{IsGoing}
+use Rattle.lra_back.specs.Operations.{lossy_back_operations}
+use Rattle.lra_back.specs.BackwardCalls.{ranks_of, task_view}
+use Rattle.lra_back.specs.Settled.{IsBackwardState}
 use Rattle.lra_back.proofs.RoundSteps.{StillWidens}
 use Rattle.lra_back.proofs.tasks.Task.widen.Given as goal
 
 -- what comes of these heads comes of the first ones
 abbrev pub invariant-rounds : goal.invariant-rounds
 invariant-rounds g l = record {
-  going : IsGoing g.D.Domain.abstraction g.D.Backward.backward_abstraction l.self l.going;
-  still : StillWidens (dropping g.D.Domain.abstraction g.D.Backward.backward_abstraction) (task_view l.self) (length l.self.forward.now) l.fn.going.flag
+  going : IsBackwardState g.D.Domain.abstraction g.D.Backward.backward_abstraction l.self l.going;
+  still : StillWidens (lossy_back_operations g.D.Domain.abstraction g.D.Backward.backward_abstraction) (task_view l.self) (length l.self.forward.now)
+      l.fn.going.flag
       l.fn.going.heads.items l.going.flag l.going.heads.items;
 }
 

@@ -1,0 +1,17 @@
+use Rattle.std.proofs.Common.{◌≡◌, ℕ, Some, length, map, slice_get}
+use Rattle.lra_operations.specs.Tree.{Node}
+use Rattle.lra_operations.specs.TreeViews.{site_view}
+use Rattle.lra_path_segments.specs.TreeSegments.{AreSegmentsOf}
+use Rattle.lra_path_segments.specs.TreeSegmentViews.{seen}
+use Rattle.lra_paths.specs.Paths.{AreFewIn}
+use Rattle.lra_paths.specs.declared.sources.Source.{Source}
+use Rattle.lra_back.specs.BackwardCalls.{IsSourceOf}
+use Rattle.lra_back.proofs.analysis.sources_of.Given as goal
+
+-- those of the points so far
+abbrev pub invariant-points : goal.invariant-points
+invariant-points l = record {
+  count : length l.sources.items ≡ l.point;
+  are : (g : Node) → AreSegmentsOf (seen l.paths.segments.items) g → AreFewIn l.paths.globals.now (map site_view l.paths.sites.now) g
+      → (p : ℕ) (s : Source) → slice_get l.sources.items p ≡ Some s → IsSourceOf l.paths.globals.now (map site_view l.paths.sites.now) g p s;
+}

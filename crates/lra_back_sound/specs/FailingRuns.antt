@@ -1,0 +1,37 @@
+-- What going back from an assertion owes to the runs that fail there.
+use Rattle.std.specs.Prelude.{◌≡◌, ℕ, ℤ, List, Some, Option, slice_get}
+use Rattle.lra_domain.specs.Backward.{BackwardAbstraction}
+use Rattle.lra_domain.specs.Abstraction.{Abstraction}
+use Rattle.lra_domain.specs.Gammas.{InGamma}
+use Rattle.lra_program.specs.Program.{Program}
+use Rattle.lra_program.specs.Run.{At, Fails}
+use Rattle.lra_program.specs.Sites.{Site, sites_of}
+use Rattle.lra_program.specs.WellFormed.{IsWellFormed}
+use Rattle.lra_operations.specs.Agree.{IsInlinedTree, point_of}
+use Rattle.lra_operations.specs.Tree.{Node}
+use Rattle.lra_back.specs.Operations.{lossy_back_operations}
+use Rattle.lra_back.specs.BackwardAnalysis.{AreWide, BackwardAnalysis, FailsFrom, NothingLeftAtStart, PathsFit}
+
+-- whenever a run is at a point, its store is one of the value there
+abbrev pub HoldsAtPoints : {V H : Type 0} → Abstraction V H → Program → List V → Type 0
+HoldsAtPoints {V} m P values = (q : ℕ) (s : Site) (store : List ℤ) → slice_get (sites_of P) q ≡ Some s →
+    At P (point_of s) store → (v : V) × (slice_get values q ≡ Some v) × InGamma m v store
+
+-- from the assertion with this number
+pub record CoverFailingRuns {V H : Type 0} (m : Abstraction V H) (P : Program) (g : Node) (p : ℕ) (values : List V)
+    : Type 0 where
+  -- with each store with which a run is at a point from which it goes on to fail there
+  pub stores : (s r : Site) (q : ℕ) (store : List ℤ) → slice_get (sites_of P) p ≡ Some s →
+      slice_get (sites_of P) q ≡ Some r → FailsFrom P (point_of s) (point_of r) store → (v : V) ×
+      (slice_get values q ≡ Some v) × InGamma m v store
+  -- where nothing is left at the points to which paths from the start lead, no run fails
+  pub proved : (s : Site) → slice_get (sites_of P) p ≡ Some s →
+      NothingLeftAtStart m P.globals (sites_of P) g values → Fails P (point_of s) → ⊥
+
+-- what is found by going back over values that hold in all runs
+abbrev pub BackwardIsSound : {V H : Type 0} → Abstraction V H → BackwardAbstraction V → Type 0
+BackwardIsSound {V} m b = (P : Program) (g : Node) (forward values : List V) (f flag : Option ℕ) (p : ℕ) →
+    IsWellFormed P → IsInlinedTree P g → PathsFit P.globals (sites_of P) g → AreWide m (sites_of P) forward →
+    HoldsAtPoints m P forward →
+    BackwardAnalysis (lossy_back_operations m b) P.globals (sites_of P) g forward f p values flag →
+    CoverFailingRuns m P g p values

@@ -1,0 +1,41 @@
+-- What the trees of programs owe to going back.
+use Rattle.std.specs.Prelude.{◌≡◌, ◌≢◌, ◌≤◌, ◌↔◌, ℕ, List, [], length, Some, slice_get}
+use Rattle.lra_domain.specs.Abstraction.{Abstraction}
+use Rattle.lra_program.specs.Program.{Program}
+use Rattle.lra_program.specs.declared.program.GlobalVariable.{GlobalVariable}
+use Rattle.lra_program.specs.Sites.{Site, sites_of}
+use Rattle.lra_operations.specs.Agree.{IsInlinedTree}
+use Rattle.lra_operations.specs.Tree.{Node}
+use Rattle.lra_analysis_spec.specs.Analysis.{IsUnreachable}
+use Rattle.lra_analysis_spec.specs.LiveLimit.{most_live}
+use Rattle.lra_pass_results.specs.Dimensions.{TreeFits}
+use Rattle.lra_fixpoint.specs.Lives.{PointsHave}
+use Rattle.lra_path_segments.specs.Segments.{comes_to}
+use Rattle.lra_paths.specs.Paths.{actions_between}
+use Rattle.lra_back.specs.BackwardAnalysis.{AreAsserted, NothingLeftAtStart, PathsFit}
+
+-- a tree whose operations can be made, and which comes to its points with as many variables as live there, has paths
+-- that can be made where the globals are no more than may live
+abbrev pub TreesHavePathsThatFit : Type 0
+TreesHavePathsThatFit = (globals : List GlobalVariable) (sites : List Site) (g : Node) →
+    length globals ≤ most_live → TreeFits g (length globals) → PointsHave sites g (length globals) →
+    PathsFit globals sites g
+
+-- right behind each point that asserts its condition may be false, and no other condition is
+abbrev pub AssertionsHaveViolations : Type 0
+AssertionsHaveViolations = (P : Program) (g : Node) → IsInlinedTree P g → AreAsserted (sites_of P) g
+
+-- paths from the start lead to this point of the program, and to no other one
+pub record IsFirst (P : Program) (g : Node) (q : ℕ) : Type 0 where
+  pub site : (s : Site) × (slice_get (sites_of P) q ≡ Some s)
+  pub leads : actions_between P g 0 (comes_to q) ≢ []
+  pub alone : (r : ℕ) → actions_between P g 0 (comes_to r) ≢ [] → r ≡ q
+
+-- each program has such a point
+abbrev pub OnePointIsFirst : Type 0
+OnePointIsFirst = (P : Program) (g : Node) → IsInlinedTree P g → (q : ℕ) × IsFirst P g q
+
+-- nothing is left at the start exactly where nothing is left at that point
+abbrev pub NothingLeftAtFirst : {V H : Type 0} → Abstraction V H → Type 0
+NothingLeftAtFirst {V} m = (P : Program) (g : Node) (q : ℕ) (values : List V) (v : V) → IsFirst P g q →
+    slice_get values q ≡ Some v → (NothingLeftAtStart m P.globals (sites_of P) g values ↔ IsUnreachable m v)

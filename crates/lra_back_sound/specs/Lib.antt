@@ -1,0 +1,3 @@
+-- In the order in which they are to be read.
+pub mod FailingRuns
+pub mod Fitting

@@ -1,6 +1,0 @@
--- The goal of `nothing_left_at_first`.
-use Rattle.lra_failing.proofs.FirstPoints.{nothing_left}
-use Rattle.lra_failing.proofs.laws.nothing_left_at_first.Goals as goal
-
-pub returns : goal.returns
-returns g c = nothing_left g.D.Domain.abstraction
