@@ -28,13 +28,13 @@ use Rattle.lra_paths.specs.Paths.{AreFewPaths, live_of}
 use Rattle.lra_inductive_sound.specs.Inductive.{AreInductive, AreWide, FailOnce}
 use Rattle.lra_inductive_sound.specs.RationalPoints.{rational_points}
 use Rattle.lra_inductive_sound.proofs.RationalPoints.{polyhedra_closed}
-use Rattle.lra_certificate.specs.CertificateText.{head_text}
-use Rattle.lra_certificate.specs.Claims.{IsProgram}
-use Rattle.lra_certificate.specs.Judged.{State}
+use Rattle.lra_certificate_spec.specs.CertificateText.{head_text}
+use Rattle.lra_certificate_spec.specs.Claims.{IsProgram}
+use Rattle.lra_certificate_spec.specs.Judged.{RowsAtPoint}
 use Rattle.lra_verify.specs.PointViews.{HaveDims, state_view}
 use Rattle.lra_verify.proofs.VerifySteps.{live_few}
 use Rattle.lra_certify.specs.Certified.{AreListable, IsCertified, IsFailure}
-use Rattle.lra_certify.specs.Staying.{PathsStay}
+use Rattle.lra_certify.specs.InductiveRows.{AreInductiveRows}
 use Rattle.lra_certify.specs.declared.failures.CertifyFailure.{CertifyFailure}
 use Rattle.lra_certify.specs.declared.failures.CertifyFailure.TheVariants as of_paths
 use Rattle.lra_source.specs.Answers.{IsAnswered}
@@ -98,7 +98,7 @@ module _ (t : FileTree) (g : Node) (sites : List Site) (has : HasInlinedTree t g
       (of_assertions polyhedron_abstraction (plan_of certify_options constants) (resolve t) g solved.result values verdicts flagged has.is_graph solved.derived
       solved.solves)
 
-  pub stay : AllByRecursion IsPolyhedron values → PathsStay (resolve t) g (map state_by values) (proved_in verdicts)
+  pub stay : AllByRecursion IsPolyhedron values → AreInductiveRows (resolve t) g (map state_by values) (proved_in verdicts)
   stay canonical = paths_stay (resolve t) g values verdicts closed wide many canonical
 
   pub have_dims : (states : List (Option (LinearSystem ConKind))) → map dims_in states ≡ map dims_by values → HaveDims sites states
@@ -118,17 +118,17 @@ module _ (P Q : Program) (g : Node) (is : P ≡ Q) where
   few_so (Ok x) h = subst (λ (p : Program). AreFewPaths p g) is h
   few_so (Err e) h = tt
 
-module _ (P Q : Program) (g : Node) (seen states : List State) (listed_now proved : List ℕ) (is : P ≡ Q) (of_states : seen ≡ states)
+module _ (P Q : Program) (g : Node) (seen states : List RowsAtPoint) (listed_now proved : List ℕ) (is : P ≡ Q) (of_states : seen ≡ states)
     (of_proved : listed_now ≡ proved) where
-  same_lines : (Said : Program → List State → List ℕ → Type 0) → Said P seen listed_now → Said Q states proved
+  same_lines : (Said : Program → List RowsAtPoint → List ℕ → Type 0) → Said P seen listed_now → Said Q states proved
   same_lines Said h =
       subst (λ (p : Program). Said p states proved) is
-      (subst (λ (ss : List State). Said P ss proved) of_states (subst (λ (qs : List ℕ). Said P seen qs) of_proved h))
+      (subst (λ (ss : List RowsAtPoint). Said P ss proved) of_states (subst (λ (qs : List ℕ). Said P seen qs) of_proved h))
 
-  pub asked_so : (Said : Program → List State → List ℕ → Type 0) → Said Q states proved → Said P seen listed_now
+  pub asked_so : (Said : Program → List RowsAtPoint → List ℕ → Type 0) → Said Q states proved → Said P seen listed_now
   asked_so Said h =
       subst (λ (p : Program). Said p seen listed_now) (sym is)
-      (subst (λ (ss : List State). Said Q ss listed_now) (sym of_states) (subst (λ (qs : List ℕ). Said Q states qs) (sym of_proved) h))
+      (subst (λ (ss : List RowsAtPoint). Said Q ss listed_now) (sym of_states) (subst (λ (qs : List ℕ). Said Q states qs) (sym of_proved) h))
 
   pub written_so : {E : Type 0} (r : Result (String Global) E) → IfOk r (λ text. IsCertified P g seen listed_now (string_bytes text))
       → IfOk r (λ text. IsCertified Q g states proved (string_bytes text))

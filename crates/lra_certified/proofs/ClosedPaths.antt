@@ -23,10 +23,10 @@ use Rattle.lra_paths.specs.Paths.{live_of, actions_between}
 use Rattle.lra_inductive_sound.specs.Points.{LeadsBy}
 use Rattle.lra_inductive_sound.specs.Inductive.{IsAtGoal, AreInductive, AreWide}
 use Rattle.lra_inductive_sound.specs.RationalPoints.{MovesPoint, LeadsPoint, IsPointOf, dimension, rational_points}
-use Rattle.lra_certificate.specs.Certificates.{state_to, state_or_empty}
-use Rattle.lra_certificate.specs.Judged.{State}
+use Rattle.lra_certificate_spec.specs.Certificates.{state_to, state_or_empty}
+use Rattle.lra_certificate_spec.specs.Judged.{RowsAtPoint}
 use Rattle.lra_certify.specs.PointMoves.{PointLeads, PointLeadsAll}
-use Rattle.lra_certify.specs.Staying.{IsIn, StaysFrom, IsAsked, PathsStay}
+use Rattle.lra_certify.specs.InductiveRows.{IsIn, IsInductiveFrom, MustBeShown, AreInductiveRows}
 use Rattle.lra_certified.specs.Taken.{state_by, proved_in}
 use Rattle.lra_certified.proofs.TakenSteps.{in_state, state_rows}
 use Rattle.lra_certified.proofs.Listing.{proved_there}
@@ -102,28 +102,28 @@ in_all (v ∷ vs) (suc q) p all e = in_all vs q p all.1 e
 
 module _ (P : Program) (g : Node) (values : List Polyhedron) (verdicts : List (ℕ × Bool)) (closed : AreInductive rational_points P g values verdicts)
     (wide : AreWide polyhedron_abstraction P values) (many : length values ≡ length (sites_of P)) (canonical : AllByRecursion IsPolyhedron values) where
-  abbrev states : List State
+  abbrev states : List RowsAtPoint
   states = map state_by values
 
   state_at : (q : ℕ) (v : Polyhedron) → slice_get values q ≡ Some v → state_or_empty (slice_get states q) ≡ state_by v
   state_at q v there = ap state_or_empty (slice_get-map state_by values q ∙ ap (λ (o : Option Polyhedron). option_map state_by o) there)
 
   -- what is at a goal that is asked for is in what is said of it
-  arrives : (goal : Goal) (y : List ℤ) → IsAsked (length (sites_of P)) (proved_in verdicts) goal → IsAtGoal rational_points values verdicts goal y
+  arrives : (goal : Goal) (y : List ℤ) → MustBeShown (length (sites_of P)) (proved_in verdicts) goal → IsAtGoal rational_points values verdicts goal y
       → IsIn (state_to states goal) y
   arrives (comes_to q) y asked (w, there, on) =
-      subst (λ (s : State). IsIn s y) (sym (state_at q w there)) (in_state w y (in_all values q w canonical there) on.0 on.1)
+      subst (λ (s : RowsAtPoint). IsIn s y) (sym (state_at q w there)) (in_state w y (in_all values q w canonical there) on.0 on.1)
   arrives (violates q) y asked never = absurd (never (proved_there verdicts q asked))
 
   from_point : (p : ℕ) (s : Site) (v : Polyhedron) (goal : Goal) (actions : List Action) → slice_get (sites_of P) p ≡ Some s → slice_get values p ≡ Some v
-      → IsAsked (length (sites_of P)) (proved_in verdicts) goal → Contains (actions_between P g (suc p) goal) actions
-      → StaysFrom s.live actions (state_by v) (state_to states goal)
+      → MustBeShown (length (sites_of P)) (proved_in verdicts) goal → Contains (actions_between P g (suc p) goal) actions
+      → IsInductiveFrom s.live actions (state_by v) (state_to states goal)
   from_point p s v goal actions site value asked among = by (state_by v) refl
     where
       dims : v.dims ≡ s.live
       dims = wide p v value s site
 
-      by : (state : State) → state_by v ≡ state → StaysFrom s.live actions state (state_to states goal)
+      by : (state : RowsAtPoint) → state_by v ≡ state → IsInductiveFrom s.live actions state (state_to states goal)
       by None e = tt
       by (Some rows) e = λ x y point inside led.
           let on : IsPointOf v x = (
@@ -132,12 +132,12 @@ module _ (P : Program) (g : Node) (values : List Polyhedron) (verdicts : List (�
           ) in
           arrives goal y asked (closed.next p s v goal actions site value among x y on (leads_all actions x y s.live point led))
 
-  pub paths_stay : PathsStay P g states (proved_in verdicts)
+  pub paths_stay : AreInductiveRows P g states (proved_in verdicts)
   paths_stay zero goal actions within asked among = λ x y point inside led.
       arrives goal y asked (closed.first goal actions among x y point (leads_all actions x y 0 point led))
   paths_stay (suc p) goal actions within asked among =
       let (s, site) = at_below (sites_of P) p (omega (arith, within)) in
       let (v, value) = at_below values p (omega (arith, within, many)) in
-      subst (λ (state : State). StaysFrom (live_of (slice_get (sites_of P) p)) actions state (state_to states goal)) (sym (state_at p v value))
-      (subst (λ (o : Option Site). StaysFrom (live_of o) actions (state_by v) (state_to states goal)) (sym site)
+      subst (λ (state : RowsAtPoint). IsInductiveFrom (live_of (slice_get (sites_of P) p)) actions state (state_to states goal)) (sym (state_at p v value))
+      (subst (λ (o : Option Site). IsInductiveFrom (live_of o) actions (state_by v) (state_to states goal)) (sym site)
       (from_point p s v goal actions site value asked among))

@@ -7,8 +7,8 @@ use Rattle.lra_operations.specs.Tree.{Node}
 use Rattle.lra_front_end.proofs.EachAnswer.{each_answer}
 use Rattle.lra_paths.specs.Paths.{AreFewPaths, HasTooManyPaths}
 use Rattle.lra_paths.proofs.ManyPaths.{not_both}
-use Rattle.lra_certificate.specs.Claims.{IsProgram, program_of}
-use Rattle.lra_certificate.proofs.OneProgram.{accepted_of, as_said}
+use Rattle.lra_certificate_spec.specs.Claims.{IsProgram, program_of}
+use Rattle.lra_certificate_spec.proofs.OneProgram.{accepted_of, as_said}
 use Rattle.lra_certified.specs.declared.refusals.CertifyRefusal.{CertifyRefusal}
 use Rattle.lra_certified.specs.declared.refusals.CertifyRefusal.TheVariants.{Source, Paths, Strained}
 use Rattle.lra_certified.specs.Certified.{IsRefusedSo, ManyAreRefused}

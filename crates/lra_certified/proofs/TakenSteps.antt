@@ -12,8 +12,8 @@ use Rattle.lra_linear_spec.specs.declared.GenKind.{GenKind}
 use Rattle.lra_linear_spec.proofs.Membership.{contains_head}
 use Rattle.lra_linear_spec.proofs.OneSpelling.{falsity_never}
 use Rattle.lra_systems.specs.LinearSystems.{LinearSystem, rows_by_kind, generators}
-use Rattle.lra_certificate.specs.Judged.{State}
-use Rattle.lra_certify.specs.Staying.{IsIn}
+use Rattle.lra_certificate_spec.specs.Judged.{RowsAtPoint}
+use Rattle.lra_certify.specs.InductiveRows.{IsIn}
 use Rattle.lra_certified.specs.Taken.{rows_if_any, state_by, dims_by, dims_in}
 
 -- ---- points and rows
@@ -31,7 +31,7 @@ pub in_state : (p : Polyhedron) (y : List ℤ) → IsPolyhedron p → IsPoint p.
 in_state p y (inl none) point inside =
     let never : LinearRow = record { row = falsity p.dims; equal = false } in
     absurd (falsity_never p.dims y point (inside never (subst (λ (l : List LinearRow). Contains l never) (sym none.0) (contains_head never []))))
-in_state p y (inr has) point inside = subst (λ (s : State). IsIn s y) (sym (some_state p has)) inside
+in_state p y (inr has) point inside = subst (λ (s : RowsAtPoint). IsIn s y) (sym (some_state p has)) inside
 
 rows_are : (gs rows given : List LinearRow) → rows_if_any gs rows ≡ Some given → given ≡ rows
 rows_are [] rows given e = absurd (none-some given e)
@@ -55,7 +55,7 @@ rows_kept gens given rows long some is =
     subst (λ (gs : List LinearRow). rows_if_any gs rows ≡ Some rows) is (any_listed gens.rows gens.kinds rows long some)
 
 -- ---- dimensions
-some_dims : (n m : ℕ) (state : State) → Some m ≡ option_map (λ (r : List LinearRow). n) state → m ≡ n
+some_dims : (n m : ℕ) (state : RowsAtPoint) → Some m ≡ option_map (λ (r : List LinearRow). n) state → m ≡ n
 some_dims n m None e = absurd (none-some m (sym e))
 some_dims n m (Some rows) e = same_Some m n e
 

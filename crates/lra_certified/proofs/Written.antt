@@ -10,10 +10,10 @@ use Rattle.lra_program.specs.Sites.{sites_of}
 use Rattle.lra_operations.specs.Tree.{Node}
 use Rattle.lra_path_segments.specs.Segments.{comes_to}
 use Rattle.lra_paths.specs.Paths.{Path, path_by, actions_between, paths_between, points_of, sources_of, paths_of}
-use Rattle.lra_certificate.specs.Certificates.{Listed}
-use Rattle.lra_certificate.specs.CertificateText.{head_text}
-use Rattle.lra_certificate.specs.Claims.{program_of}
-use Rattle.lra_certificate.specs.Judged.{State}
+use Rattle.lra_certificate_spec.specs.Certificates.{ListedAssertion}
+use Rattle.lra_certificate_spec.specs.CertificateText.{head_text}
+use Rattle.lra_certificate_spec.specs.Claims.{program_of}
+use Rattle.lra_certificate_spec.specs.Judged.{RowsAtPoint}
 use Rattle.lra_certify.specs.declared.failures.StrainedAt.{StrainedAt}
 use Rattle.lra_certify.specs.declared.failures.StrainedAt.TheVariants.{Edge, Assertion}
 use Rattle.lra_certify.specs.Each.{Each}
@@ -23,8 +23,9 @@ use Rattle.lra_certified.specs.declared.refusals.CertifyRefusal.TheVariants.{Str
 use Rattle.lra_certified.specs.Certified.{CertifiedAreCertificates, IsCounted}
 
 -- ---- certificates
-numbers_found : (P : Program) (g : Node) (states : List State) (proved : List ℕ) (asserted : List Listed) → Each (IsListedFound P g states) proved asserted
-    → map (λ (one : Listed). one.number) asserted ≡ proved
+numbers_found : (P : Program) (g : Node) (states : List RowsAtPoint) (proved : List ℕ) (asserted : List ListedAssertion) →
+    Each (IsListedFound P g states) proved asserted
+    → map (λ (one : ListedAssertion). one.number) asserted ≡ proved
 numbers_found P g states [] [] each = refl
 numbers_found P g states [] (one ∷ more) each = absurd each
 numbers_found P g states (q ∷ qs) [] each = absurd each
@@ -64,7 +65,7 @@ abbrev IsAmong : ℕ → StrainedAt → Type 0
 IsAmong n (Edge p q) = q < n
 IsAmong n (Assertion q) = q < n
 
-pub stops_there : (P : Program) (g : Node) (states : List State) (proved : List ℕ) (at : StrainedAt) → AreListable (sites_of P) proved
+pub stops_there : (P : Program) (g : Node) (states : List RowsAtPoint) (proved : List ℕ) (at : StrainedAt) → AreListable (sites_of P) proved
     → StopsAt P g states proved at → IsAmong (length (sites_of P)) at
 stops_there P g states proved (Edge p q) listed stops =
     point_there P g stops.path q (within stops.stops.before stops.stops.behind stops.path (paths_of P g) stops.stops.is) stops.goal

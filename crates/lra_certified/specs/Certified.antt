@@ -7,10 +7,10 @@ use Rattle.lra_row_text.specs.Rows.{ReportRow}
 use Rattle.lra_row_text.specs.ShownDescriptions.{shown_constraint}
 use Rattle.lra_report.specs.Report.{Invariant, PointReport, Report}
 use Rattle.lra_paths.specs.Paths.{AreFewPaths, HasTooManyPaths}
-use Rattle.lra_certificate.specs.Judged.{State}
-use Rattle.lra_certificate.specs.CertificateText.{head_text}
-use Rattle.lra_certificate.specs.Certificates.{Listed}
-use Rattle.lra_certificate.specs.Claims.{IsProgram, program_of, IsCertificate}
+use Rattle.lra_certificate_spec.specs.Judged.{RowsAtPoint}
+use Rattle.lra_certificate_spec.specs.CertificateText.{head_text}
+use Rattle.lra_certificate_spec.specs.Certificates.{ListedAssertion}
+use Rattle.lra_certificate_spec.specs.Claims.{IsProgram, program_of, IsCertificate}
 use Rattle.lra_certify.specs.declared.failures.StrainedAt.{StrainedAt}
 use Rattle.lra_certify.specs.declared.failures.StrainedAt.TheVariants.{Edge, Assertion}
 use Rattle.lra_certify.specs.Certified.{IsCertified, StopsAt}
@@ -27,18 +27,18 @@ abbrev pub rows_at : Invariant → Option (List ReportRow)
 rows_at [] = None
 rows_at (part ∷ parts) = Some part.rows
 
-abbrev pub shown_rows : State → Option (List ReportRow)
+abbrev pub shown_rows : RowsAtPoint → Option (List ReportRow)
 shown_rows state = option_map (map shown_constraint) state
 
 -- the report shows these rows at its points, and as proved the assertions at these points, which it numbers from 1
-pub record ShowsRows (r : Report) (states : List State) (proved : List ℕ) : Type 0 where
+pub record ShowsRows (r : Report) (states : List RowsAtPoint) (proved : List ℕ) : Type 0 where
   pub rows_are : map (λ (p : PointReport). rows_at p.state) r.points ≡ map shown_rows states
   pub proved_are : proved_numbers r.verdicts ≡ map suc proved
 
 -- certificates -----------------------------------------------------------------------------------------------------
 
 -- what a report of an accepted source hands to its certificate
-pub record IsHanded (source : List ℕ) (r : Report) (states : List State) (proved : List ℕ) : Type 0 where
+pub record IsHanded (source : List ℕ) (r : Report) (states : List RowsAtPoint) (proved : List ℕ) : Type 0 where
   pub program : IsProgram source
   pub few : AreFewPaths (program_of program) program.operations
   pub shows : ShowsRows r states proved
@@ -46,7 +46,7 @@ pub record IsHanded (source : List ℕ) (r : Report) (states : List State) (prov
 -- the text of a certificate of the source that has the rows, the empty points and the proved assertions of this report,
 -- and the first multipliers in each line
 pub record IsCertificateOf (source : List ℕ) (r : Report) (bytes : List ℕ) : Type 0 where
-  pub states : List State
+  pub states : List RowsAtPoint
   pub proved : List ℕ
   pub handed : IsHanded source r states proved
   pub body : List ℕ
@@ -54,11 +54,11 @@ pub record IsCertificateOf (source : List ℕ) (r : Report) (bytes : List ℕ) :
   pub text : bytes ≡ head_text source ++ body
 
 -- so it is a certificate of that source, which meets its program, with these rows and listed assertions
-pub record IsCertificateWith (source : List ℕ) (states : List State) (proved bytes : List ℕ) : Type 0 where
+pub record IsCertificateWith (source : List ℕ) (states : List RowsAtPoint) (proved bytes : List ℕ) : Type 0 where
   pub is : IsCertificate bytes
   pub source_is : is.certificate.source ≡ source
   pub states_are : is.certificate.states ≡ states
-  pub listed_are : map (λ (one : Listed). one.number) is.certificate.asserted ≡ proved
+  pub listed_are : map (λ (one : ListedAssertion). one.number) is.certificate.asserted ≡ proved
 
 abbrev pub CertifiedAreCertificates : Type 0
 CertifiedAreCertificates = (source : List ℕ) (r : Report) (bytes : List ℕ) → (c : IsCertificateOf source r bytes) →
@@ -69,7 +69,7 @@ CertifiedAreCertificates = (source : List ℕ) (r : Report) (bytes : List ℕ) �
 -- with the rows and the proved assertions of this report a path strains
 pub record IsStrainedAt (source : List ℕ) (r : Report) (at : StrainedAt) : Type 0 where
   pub answered : IsAnswered certify_options source r
-  pub states : List State
+  pub states : List RowsAtPoint
   pub proved : List ℕ
   pub handed : IsHanded source r states proved
   pub stops : StopsAt (program_of handed.program) handed.program.operations states proved at

@@ -6,14 +6,14 @@ use Rattle.lra_linear_spec.specs.Descriptions.{LinearRow}
 use Rattle.lra_linear_spec.specs.Polyhedra.{Polyhedron}
 use Rattle.lra_linear_spec.specs.declared.ConKind.{ConKind}
 use Rattle.lra_systems.specs.LinearSystems.{LinearSystem}
-use Rattle.lra_certificate.specs.Judged.{State}
+use Rattle.lra_certificate_spec.specs.Judged.{RowsAtPoint}
 
 -- the rows where there is a generator
-abbrev pub rows_if_any : List LinearRow → List LinearRow → State
+abbrev pub rows_if_any : List LinearRow → List LinearRow → RowsAtPoint
 rows_if_any [] rows = None
 rows_if_any (g ∷ gs) rows = Some rows
 
-abbrev pub state_by : Polyhedron → State
+abbrev pub state_by : Polyhedron → RowsAtPoint
 state_by p = rows_if_any p.generators p.rows
 
 -- how many dimensions they have

@@ -11,7 +11,7 @@ ghost use Rattle.lra_analysis_spec.specs.Plan.{plan_of};
 ghost use Rattle.lra_fixpoint.specs.Solved.{IsSolved};
 ghost use Rattle.lra_poly_domain.specs.Abstraction.{polyhedron_abstraction};
 ghost use Rattle.lra_paths.specs.Paths.{AreFewPaths};
-ghost use Rattle.lra_certificate.specs.CertificateText.{text_line, numbered_text, head_text};
+ghost use Rattle.lra_certificate_spec.specs.CertificateText.{text_line, numbered_text, head_text};
 ghost use Rattle.lra_certify.specs.Certified.{IsCertified, IsFailure};
 ghost use Rattle.lra_report.specs.View.{report_of, verdict_of};
 ghost use Rattle.lra_front_end.specs.Stages.{HasInlinedTree};

@@ -15,23 +15,24 @@ use Rattle.lra_operations.specs.Tree.{Node}
 use Rattle.lra_operations.specs.TreeViews.{site_view}
 use Rattle.lra_path_segments.specs.Segments.{Goal, comes_to, violates}
 use Rattle.lra_paths.specs.Paths.{Path, path_by, paths_between, paths_of, violations_of, sources_of, points_of, actions_between, live_at, AreFewPaths}
-use Rattle.lra_certificate.specs.Certificates.{Evidence, none, dead, by, Listed, live_from, state_from, state_to, MeetsFrom, MeetsPaths}
-use Rattle.lra_certificate.specs.Certificates.{MeetsListed}
-use Rattle.lra_certificate.specs.Certificates.{ShowsNoClaim, Ascend, AreStates, IsWritable}
-use Rattle.lra_certificate.specs.CertificateText.{edges_text, listed_text, states_text, end_text}
-use Rattle.lra_certificate.specs.Judged.{State}
-use Rattle.lra_verify.specs.EdgeViews.{AreWays, sites_in, states_in, led_by, live_by}
+use Rattle.lra_certificate_spec.specs.Certificates.{Evidence, none, infeasible, implies, ListedAssertion, live_at_source, state_from, state_to, CertifiesFrom}
+use Rattle.lra_certificate_spec.specs.Certificates.{CertifiesPaths}
+use Rattle.lra_certificate_spec.specs.Certificates.{CertifiesAssertion}
+use Rattle.lra_certificate_spec.specs.Certificates.{ShowsNoClaim, Ascend, AreStates, IsWritable}
+use Rattle.lra_certificate_spec.specs.CertificateText.{edges_text, listed_text, states_text, end_text}
+use Rattle.lra_certificate_spec.specs.Judged.{RowsAtPoint}
+use Rattle.lra_verify.specs.EdgeViews.{IsAnnotatedProgram, sites_in, states_in, actions_by, live_by}
 use Rattle.lra_verify.specs.SourceViews.{LeadAs}
-use Rattle.lra_verify.specs.declared.ways.Ways.{Ways}
+use Rattle.lra_verify.specs.declared.annotated.AnnotatedProgram.{AnnotatedProgram}
 use Rattle.lra_certify.specs.declared.failures.CertifyFailure.{CertifyFailure}
 use Rattle.lra_certify.specs.declared.failures.CertifyFailure.TheVariants as of_program
 use Rattle.lra_certify.specs.declared.failures.StrainedAt.{StrainedAt}
 use Rattle.lra_certify.specs.declared.failures.StrainedAt.TheVariants.{Edge, Assertion}
 use Rattle.lra_certify.specs.Each.{Each, Stops, each_text}
-use Rattle.lra_certify.specs.Found.{FoundFrom, Found, Strains, StopsIn}
+use Rattle.lra_certify.specs.PathEvidence.{IsEvidenceFrom, IsEvidenceFor, StrainsAlong, StopsIn}
 use Rattle.lra_certify.specs.Certified.{AscendStrictly, AreListable, IsListedFound, IsCertified, AssertionStops, StopsAt, IsFailure}
-use Rattle.lra_certify.specs.Staying.{Stays, IsAsked, PathsStay}
-use Rattle.lra_certify.specs.WrittenPaths.{paths_to, paths_from, all_paths, denied_paths, AllStay, AllDenied, edge_lines, SomeStops}
+use Rattle.lra_certify.specs.InductiveRows.{IsInductiveAlong, MustBeShown, AreInductiveRows}
+use Rattle.lra_certify.specs.WrittenPaths.{paths_to, paths_from, all_paths, violating_paths, AllAreInductive, AllAssertionsInductive, edge_lines, SomeStops}
 use Rattle.lra_certify.specs.WrittenPaths.{IfStopped}
 use Rattle.lra_certify.specs.WrittenPaths.{IsListed, ListStops, AddsBody, StopsListing, BodyStops}
 use Rattle.lra_certify.specs.WrittenPaths as written
@@ -70,34 +71,36 @@ in_range_below a zero i k = absurd (contains_none i k)
 in_range_below a (suc n) i k = first_below a n i (in_range_below (a + 1) n i) (contains_cases a i (range_with_len (a + 1) n) k)
 
 -- ---- evidence that is found meets what it has to
-meets_from : (live : ℕ) (path : Path) (from to : State) (evidence : Evidence) → FoundFrom live path from to evidence → MeetsFrom live path from to evidence
+meets_from : (live : ℕ) (path : Path) (from to : RowsAtPoint) (evidence : Evidence) → IsEvidenceFrom live path from to evidence →
+    CertifiesFrom live path from to evidence
 meets_from live path None to evidence h = h
 meets_from live path (Some rows) to evidence h = h.meets
 
-meets_at : (P : Program) (p : ℕ) (path : Path) (from to : State) (evidence : Evidence) → FoundFrom (live_by (sites_of P) p) path from to evidence →
-    MeetsFrom (live_from P p) path from to evidence
+meets_at : (P : Program) (p : ℕ) (path : Path) (from to : RowsAtPoint) (evidence : Evidence) → IsEvidenceFrom (live_by (sites_of P) p) path from to evidence →
+    CertifiesFrom (live_at_source P p) path from to evidence
 meets_at P zero path from to evidence h = meets_from 0 path from to evidence h
 meets_at P (suc q) path from to evidence h = meets_from (live_at P q) path from to evidence h
 
-writable_from : (live : ℕ) (path : Path) (from to : State) (evidence : Evidence) → FoundFrom live path from to evidence → IsWritable evidence
+writable_from : (live : ℕ) (path : Path) (from to : RowsAtPoint) (evidence : Evidence) → IsEvidenceFrom live path from to evidence → IsWritable evidence
 writable_from live path None to evidence h = subst (λ (e : Evidence). IsWritable e) (sym h) tt
 writable_from live path (Some rows) to evidence h = h.numbers
 
 -- a target where nothing comes has no claims
-claimless : (live : ℕ) (path : Path) (from to : State) (evidence : Evidence) → to ≡ None → FoundFrom live path from to evidence → ShowsNoClaim evidence
+claimless : (live : ℕ) (path : Path) (from to : RowsAtPoint) (evidence : Evidence) → to ≡ None → IsEvidenceFrom live path from to evidence →
+    ShowsNoClaim evidence
 claimless live path None to evidence e h = subst (λ (x : Evidence). ShowsNoClaim x) (sym h) tt
 claimless live path (Some rows) to none e h = tt
-claimless live path (Some rows) to (dead m) e h = tt
-claimless live path (Some rows) to (by ms) e h = never (subst (λ (s : State). FoundFrom live path (Some rows) s (by ms)) e h)
+claimless live path (Some rows) to (infeasible m) e h = tt
+claimless live path (Some rows) to (implies ms) e h = never (subst (λ (s : RowsAtPoint). IsEvidenceFrom live path (Some rows) s (implies ms)) e h)
   where
-    never : FoundFrom live path (Some rows) None (by ms) → ⊥
+    never : IsEvidenceFrom live path (Some rows) None (implies ms) → ⊥
     never h = h.first
 
-module _ (P : Program) (g : Node) (states : List State) where
+module _ (P : Program) (g : Node) (states : List RowsAtPoint) where
   abbrev Meant : Path → Evidence → Type 0
-  Meant = Found (sites_of P) states
+  Meant = IsEvidenceFor (sites_of P) states
 
-  meets_all : (paths : List Path) (found : List Evidence) → Each Meant paths found → MeetsPaths P g states paths found
+  meets_all : (paths : List Path) (found : List Evidence) → Each Meant paths found → CertifiesPaths P g states paths found
   meets_all [] [] h = tt
   meets_all [] (e ∷ es) h = absurd h
   meets_all (path ∷ paths) [] h = absurd h
@@ -133,22 +136,24 @@ module _ (P : Program) (g : Node) (states : List State) where
       let steps = map_from (path_by source.0 (violates q)) (actions_between P g source.0 (violates q)) path source.2 in
       ap (λ (x : Path). x.goal) (sym steps.2)
 
-  abbrev Listing : ℕ → Listed → Type 0
+  abbrev Listing : ℕ → ListedAssertion → Type 0
   Listing = IsListedFound P g states
 
-  listed_meets : (q : ℕ) (one : Listed) (site : Site) → slice_get (sites_of P) q ≡ Some site → site.asserts ≡ true → Listing q one → MeetsListed P g states one
+  listed_meets : (q : ℕ) (one : ListedAssertion) (site : Site) → slice_get (sites_of P) q ≡ Some site → site.asserts ≡ true → Listing q one →
+      CertifiesAssertion P g states one
   listed_meets q one site there asserts (number, found) =
       record {
         site = site;
         there = subst (λ (n : ℕ). slice_get (sites_of P) n ≡ Some site) (sym number) there;
         asserts = asserts;
-        paths = subst (λ (n : ℕ). MeetsPaths P g states (violations_of P g n) one.evidence) (sym number) (meets_all (violations_of P g q) one.evidence found);
+        paths = subst (λ (n : ℕ). CertifiesPaths P g states (violations_of P g n) one.evidence) (sym number)
+            (meets_all (violations_of P g q) one.evidence found);
         no_claims = claimless_all q (violations_of P g q) one.evidence (denial_goal q) found;
       }
 
-  all_listed : (proved : List ℕ) (listed : List Listed) →
+  all_listed : (proved : List ℕ) (listed : List ListedAssertion) →
       ((q : ℕ) → Contains proved q → (s : Site) × (slice_get (sites_of P) q ≡ Some s) × (s.asserts ≡ true)) → Each Listing proved listed →
-      AllByRecursion (MeetsListed P g states) listed × AllByRecursion (λ one. AllByRecursion IsWritable one.evidence) listed
+      AllByRecursion (CertifiesAssertion P g states) listed × AllByRecursion (λ one. AllByRecursion IsWritable one.evidence) listed
   all_listed [] [] assert h = (tt, tt)
   all_listed [] (one ∷ more) assert h = absurd h
   all_listed (q ∷ proved) [] assert h = absurd h
@@ -157,7 +162,7 @@ module _ (P : Program) (g : Node) (states : List State) where
       let rest = all_listed proved more (λ n k. assert n (contains_tail q n proved k)) h.1 in
       ((listed_meets q one site.0 site.1 site.2 h.0, rest.0), (writable_all (violations_of P g q) one.evidence h.0.1, rest.1))
 
-  ascend_all : (proved : List ℕ) (listed : List Listed) → AscendStrictly proved → Each Listing proved listed → Ascend listed
+  ascend_all : (proved : List ℕ) (listed : List ListedAssertion) → AscendStrictly proved → Each Listing proved listed → Ascend listed
   ascend_all [] [] a h = tt
   ascend_all [] (one ∷ more) a h = absurd h
   ascend_all (q ∷ proved) [] a h = absurd h
@@ -174,7 +179,8 @@ edges_same [] found = refl
 edges_same (path ∷ paths) [] = refl
 edges_same (path ∷ paths) (e ∷ es) = ap (λ (t : List ℕ). edge_lines path e ++ t) (edges_same paths es)
 
-listed_same : (Is : ℕ → Listed → Type 0) (proved : List ℕ) (listed : List Listed) → Each Is proved listed → each_text (λ q one. listed_text one) proved listed ≡
+listed_same : (Is : ℕ → ListedAssertion → Type 0) (proved : List ℕ) (listed : List ListedAssertion) → Each Is proved listed →
+    each_text (λ q one. listed_text one) proved listed ≡
     flat_map listed_text listed
 listed_same Is [] [] h = refl
 listed_same Is [] (one ∷ more) h = absurd h
@@ -182,8 +188,8 @@ listed_same Is (q ∷ proved) [] h = absurd h
 listed_same Is (q ∷ proved) (one ∷ more) h = ap (λ (t : List ℕ). listed_text one ++ t) (listed_same Is proved more h.1)
 
 -- ---- a program
-module _ (P : Program) (g : Node) (w : Ways) (ways : AreWays w) (sites : sites_in w ≡ sites_of P) (lead : LeadAs P g w.sources.now) where
-  abbrev states : List State
+module _ (P : Program) (g : Node) (w : AnnotatedProgram) (ways : IsAnnotatedProgram w) (sites : sites_in w ≡ sites_of P) (lead : LeadAs P g w.sources.now) where
+  abbrev states : List RowsAtPoint
   states = states_in w
 
   points_many : length w.sites.now ≡ length (sites_of P)
@@ -206,26 +212,31 @@ module _ (P : Program) (g : Node) (w : Ways) (ways : AreWays w) (sites : sites_i
       (λ p k. from_is p (omega (arith, k))) ∙
       ap (λ (n : ℕ). flat_map (λ p. flat_map (λ q. paths_between P g p (comes_to q)) (points_of P)) (range_with_len 0 n)) sources_many
 
-  pub denied_is : (q : ℕ) → denied_paths w q ≡ violations_of P g q
+  pub denied_is : (q : ℕ) → violating_paths w q ≡ violations_of P g q
   denied_is q =
       flat_numbers (λ p. paths_to w p (violates q)) (λ p. paths_between P g p (violates q)) 0 (length w.sources.now)
       (λ p k. between p (violates q) (omega (arith, k))) ∙
       ap (λ (n : ℕ). flat_map (λ p. paths_between P g p (violates q)) (range_with_len 0 n)) sources_many
 
   -- found and strained of the program
-  found_is : (paths : List Path) (found : List Evidence) → Each (Found (sites_in w) states) paths found → Each (Found (sites_of P) states) paths found
-  found_is paths found h = subst (λ (s : List Site). Each (Found s states) paths found) sites h
+  found_is : (paths : List Path) (found : List Evidence) → Each (IsEvidenceFor (sites_in w) states) paths found →
+      Each (IsEvidenceFor (sites_of P) states) paths found
+  found_is paths found h = subst (λ (s : List Site). Each (IsEvidenceFor s states) paths found) sites h
 
-  listed_is : (q : ℕ) (one : Listed) → IsListed w q one → IsListedFound P g states q one
-  listed_is q one (number, found) =
-      (number, subst (λ (l : List Path). Each (Found (sites_of P) states) l one.evidence) (denied_is q) (found_is (denied_paths w q) one.evidence found))
+  listed_is : (q : ℕ) (one : ListedAssertion) → IsListed w q one → IsListedFound P g states q one
+  listed_is q one (number, found) = (
+    number,
+    subst (λ (l : List Path). Each (IsEvidenceFor (sites_of P) states) l one.evidence) (denied_is q)
+        (found_is (violating_paths w q) one.evidence found),
+  )
 
   stops_is : (paths all : List Path) (path : Path) → paths ≡ all → StopsIn (sites_in w) states paths path → StopsIn (sites_of P) states all path
   stops_is paths all path e h = subst (λ (l : List Path). StopsIn (sites_of P) states l path) e
       (subst (λ (s : List Site). StopsIn s states paths path) sites h)
 
-  edges_is : (found : List Evidence) → Each (Found (sites_in w) states) (all_paths w) found → Each (Found (sites_of P) states) (paths_of P g) found
-  edges_is found h = subst (λ (l : List Path). Each (Found (sites_of P) states) l found) all_is (found_is (all_paths w) found h)
+  edges_is : (found : List Evidence) → Each (IsEvidenceFor (sites_in w) states) (all_paths w) found →
+      Each (IsEvidenceFor (sites_of P) states) (paths_of P g) found
+  edges_is found h = subst (λ (l : List Path). Each (IsEvidenceFor (sites_of P) states) l found) all_is (found_is (all_paths w) found h)
 
   -- the text
   all_certified : (proved bytes : List ℕ) → AreListable (sites_of P) proved → AddsBody w proved [] bytes → IsCertified P g states proved bytes
@@ -267,21 +278,21 @@ module _ (P : Program) (g : Node) (w : Ways) (ways : AreWays w) (sites : sites_i
     is = h.is;
     found = h.found;
     are = each_weaker (IsListed w) (IsListedFound P g states) listed_is h.before h.found h.are;
-    bad = (h.bad.0, stops_is (denied_paths w q) (violations_of P g q) h.bad.0 (denied_is q) h.bad.1);
+    bad = (h.bad.0, stops_is (violating_paths w q) (violations_of P g q) h.bad.0 (denied_is q) h.bad.1);
   }
 
   comes_goal : (path : Path) → Contains (all_paths w) path → (q : ℕ) × (path.goal ≡ comes_to q)
   comes_goal path k =
       let source = flat_from (paths_from w) (range_with_len 0 (length w.sources.now)) path k in
       let point = flat_from (λ q. paths_to w source.0 (comes_to q)) (range_with_len 0 (length w.sites.now)) path source.2 in
-      let steps = map_from (path_by source.0 (comes_to point.0)) (led_by w source.0 (comes_to point.0)) path point.2 in
+      let steps = map_from (path_by source.0 (comes_to point.0)) (actions_by w source.0 (comes_to point.0)) path point.2 in
       (point.0, ap (λ (x : Path). x.goal) (sym steps.2))
 
   edge_stops_at : (proved : List ℕ) (at : StrainedAt) → SomeStops w (all_paths w) at → StopsAt P g states proved at
   edge_stops_at proved (Edge p q) (path, (source, goal), h) =
       record { path = path; source = source; goal = goal; stops = stops_is (all_paths w) (paths_of P g) path all_is h }
   edge_stops_at proved (Assertion q) (path, goal, h) =
-      let comes = comes_goal path (stops_has (Found (sites_in w) states) (Strains (sites_in w) states) (all_paths w) path h) in
+      let comes = comes_goal path (stops_has (IsEvidenceFor (sites_in w) states) (StrainsAlong (sites_in w) states) (all_paths w) path h) in
       absurd (other_goals comes.0 q (sym comes.1 ∙ goal))
     where
       other_goals : (p q : ℕ) → comes_to p ≡ violates q → ⊥
@@ -303,16 +314,16 @@ module _ (P : Program) (g : Node) (w : Ways) (ways : AreWays w) (sites : sites_i
   body_fails few proved of_program.Memory h = tt
 
   -- what is asked
-  stays_is : (proved : List ℕ) (p : ℕ) (goal : Goal) (path : Path) → PathsStay P g states proved → p < length w.sources.now →
-      IsAsked (length (sites_of P)) proved goal →
-      Contains (paths_to w p goal) path → Stays (sites_in w) states path
+  stays_is : (proved : List ℕ) (p : ℕ) (goal : Goal) (path : Path) → AreInductiveRows P g states proved → p < length w.sources.now →
+      MustBeShown (length (sites_of P)) proved goal →
+      Contains (paths_to w p goal) path → IsInductiveAlong (sites_in w) states path
   stays_is proved p goal path stay low asked k =
       let steps = map_from (path_by p goal) (actions_between P g p goal) path (subst (λ (l : List Path). Contains l path) (between p goal low) k) in
-      subst (λ (s : List Site). Stays s states path) (sym sites)
-      (subst (λ (x : Path). Stays (sites_of P) states x) steps.2
+      subst (λ (s : List Site). IsInductiveAlong s states path) (sym sites)
+      (subst (λ (x : Path). IsInductiveAlong (sites_of P) states x) steps.2
       (stay p goal steps.0 (let n = sources_many in omega (arith, n, low)) asked steps.1))
 
-  pub all_stay : (proved : List ℕ) → PathsStay P g states proved → AllStay w (all_paths w)
+  pub all_stay : (proved : List ℕ) → AreInductiveRows P g states proved → AllAreInductive w (all_paths w)
   all_stay proved stay = λ path k.
       let source = flat_from (paths_from w) (range_with_len 0 (length w.sources.now)) path k in
       let point = flat_from (λ q. paths_to w source.0 (comes_to q)) (range_with_len 0 (length w.sites.now)) path source.2 in
@@ -321,14 +332,14 @@ module _ (P : Program) (g : Node) (w : Ways) (ways : AreWays w) (sites : sites_i
       let n = points_many in
       stays_is proved source.0 (comes_to point.0) path stay (omega (arith, low)) (omega (arith, few, n)) point.2
 
-  pub all_denied : (proved : List ℕ) → PathsStay P g states proved → AllDenied w proved
+  pub all_denied : (proved : List ℕ) → AreInductiveRows P g states proved → AllAssertionsInductive w proved
   all_denied proved stay = λ q listed path k.
       let source = flat_from (λ p. paths_to w p (violates q)) (range_with_len 0 (length w.sources.now)) path k in
       let low = in_range_below 0 (length w.sources.now) source.0 source.1 in
       stays_is proved source.0 (violates q) path stay (omega (arith, low)) listed source.2
 
 -- ---- all lines, as they are written
-pub body_added : (w : Ways) (proved old first second third new : List ℕ) → AreWays w → All HasPointRows w.states.now →
+pub body_added : (w : AnnotatedProgram) (proved old first second third new : List ℕ) → IsAnnotatedProgram w → All HasPointRows w.states.now →
     first ≡ old ++ states_text 1 (states_in w) → AddsPaths w edge_lines (all_paths w) first second → AddsListed w proved second third →
     new ≡ third ++ end_text → AddsBody w proved old new
 body_added w proved old first second third new ways fit points edges listed last = record {
@@ -341,10 +352,10 @@ body_added w proved old first second third new ways fit points edges listed last
   text = last;
 }
 
-pub sources_stop : (w : Ways) (proved : List ℕ) (e : CertifyFailure) → IfStopped (SomeStops w (all_paths w)) e → IfStopped (BodyStops w proved) e
+pub sources_stop : (w : AnnotatedProgram) (proved : List ℕ) (e : CertifyFailure) → IfStopped (SomeStops w (all_paths w)) e → IfStopped (BodyStops w proved) e
 sources_stop w proved e h = stopped_weaker (SomeStops w (all_paths w)) (BodyStops w proved) e (λ at x. inl x) h
 
-pub listing_stops : (w : Ways) (proved first second : List ℕ) (e : CertifyFailure) → AddsPaths w edge_lines (all_paths w) first second →
+pub listing_stops : (w : AnnotatedProgram) (proved first second : List ℕ) (e : CertifyFailure) → AddsPaths w edge_lines (all_paths w) first second →
     IfStopped (ListStops w proved) e → IfStopped (BodyStops w proved) e
 listing_stops w proved first second e edges h =
     stopped_weaker (ListStops w proved) (BodyStops w proved) e (λ at x. inr (record { evidence = edges.found; edges = edges.are; stops = x })) h

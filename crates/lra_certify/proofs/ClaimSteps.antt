@@ -16,42 +16,43 @@ use Rattle.lra_systems.specs.LinearSystems.{constraints}
 use Rattle.lra_multipliers.specs.declared.multipliers.Multipliers as made
 use Rattle.lra_multipliers.specs.MultiplierViews.{multipliers_view}
 use Rattle.lra_multipliers.specs.Multipliers.{Multipliers, yes, IsAnswer}
-use Rattle.lra_certificate.specs.Certificates.{dead, by, AreNumbers}
-use Rattle.lra_certificate.specs.CertificateText.{text_line, multipliers_text, evidence_text}
-use Rattle.lra_certificate.specs.Judged.{State}
-use Rattle.lra_lines.specs.declared.tracks.Grounds.{Grounds}
+use Rattle.lra_certificate_spec.specs.Certificates.{infeasible, implies, AreNumbers}
+use Rattle.lra_certificate_spec.specs.CertificateText.{text_line, multipliers_text, evidence_text}
+use Rattle.lra_certificate_spec.specs.Judged.{RowsAtPoint}
+use Rattle.lra_certificate_lines.specs.declared.path_checks.PathFacts.{PathFacts}
 use Rattle.lra_farkas.specs.MultiplierRows.{AreAsWide}
-use Rattle.lra_farkas.specs.FirstMultipliers.{AreFirst, AreInRange, IsFailure}
+use Rattle.lra_farkas.specs.FirstMultipliers.{AreFirst, MultipliersInRange, IsMultipliersFailure}
 use Rattle.lra_farkas.specs.declared.first.MultipliersFailure.{MultipliersFailure}
 use Rattle.lra_farkas.specs.declared.first.MultipliersFailure.TheVariants.{NotImplied, Strained, Memory}
 use Rattle.lra_certify.specs.declared.failures.PathFailure.{PathFailure}
 use Rattle.lra_certify.specs.Each.{Each, Stops, each_text}
-use Rattle.lra_certify.specs.GroundViews.{claim_on, IsLine, IsNotShown, LineStrains, IsLineFailure, by_line, IsClaimLine, ClaimStrained, AddsLines, SomeStrains}
-use Rattle.lra_certify.specs.GroundViews.{IsEvidence, Adds}
-use Rattle.lra_certify.specs.GroundViews.{AllHold, HoldsOn, TargetStrains, IfStrained}
+use Rattle.lra_certify.specs.PathFactViews.{claim_on, IsLine, IsNotShown, LineStrains, IsLineFailure, by_line, IsClaimLine, ClaimStrained, AddsLines}
+use Rattle.lra_certify.specs.PathFactViews.{SomeStrains}
+use Rattle.lra_certify.specs.PathFactViews.{IsEvidence, AddsEvidence}
+use Rattle.lra_certify.specs.PathFactViews.{AllHold, HoldsOn, TargetStrains, IfStrained}
 use Rattle.lra_certify.proofs.PathSteps.{strained_weaker}
 use Rattle.lra_certify.proofs.EachSteps.{adds_one, adds_both, stops_one, stops_first, stops_later}
 use Rattle.lra_certify.proofs.TextSteps.{every_number}
 
 -- ---- found
-are_numbers : (m : Multipliers) → AreInRange m → AreNumbers m
+are_numbers : (m : Multipliers) → MultipliersInRange m → AreNumbers m
 are_numbers m h = (h.divisor, h.constant, every_number m.factors (λ x k. All-contains InRange m.factors x h.factors k))
 
-module _ (g : Grounds) (claim : Option (List ℤ)) (row : List ℤ) (is : claim_on g claim ≡ Ok row) where
+module _ (g : PathFacts) (claim : Option (List ℤ)) (row : List ℤ) (is : claim_on g claim ≡ Ok row) where
   pub line_found : (x : Result made.Multipliers MultipliersFailure) → IfOk x (λ m. AreFirst (constraints g.premises) row (multipliers_view m)) →
-      IfOk x (λ m. IsAnswer (constraints g.premises) row (multipliers_view m) yes) → IfOk x (λ m. AreInRange (multipliers_view m)) →
+      IfOk x (λ m. IsAnswer (constraints g.premises) row (multipliers_view m) yes) → IfOk x (λ m. MultipliersInRange (multipliers_view m)) →
       IfOk x (λ m. IsLine g claim (multipliers_view m))
   line_found (Ok m) first shown numbers =
       record { row = row; made = is; shown = shown; first = first; numbers = are_numbers (multipliers_view m) numbers }
   line_found (Err e) first shown numbers = tt
 
-  failure_is : (e : MultipliersFailure) → AreAsWide (constraints g.premises) row → IsFailure (constraints g.premises) row e → IsLineFailure g claim e
+  failure_is : (e : MultipliersFailure) → AreAsWide (constraints g.premises) row → IsMultipliersFailure (constraints g.premises) row e → IsLineFailure g claim e
   failure_is NotImplied wide h = record { row = row; made = is; wide = wide; never = h }
   failure_is Strained wide h = inr (row, is, h)
   failure_is Memory wide h = tt
 
   pub line_fails : (x : Result made.Multipliers MultipliersFailure) → AreAsWide (constraints g.premises) row →
-      IfErr x (IsFailure (constraints g.premises) row) → IfErr x (IsLineFailure g claim)
+      IfErr x (IsMultipliersFailure (constraints g.premises) row) → IfErr x (IsLineFailure g claim)
   line_fails (Ok m) wide h = tt
   line_fails (Err e) wide h = failure_is e wide h
 
@@ -64,7 +65,7 @@ pub system_next : (g : LinearRow) (rest here : List LinearRow) → here ≡ g �
 system_next g rest here e = ap system_of e ∙ row_claims g.equal g.row (system_of rest)
 
 -- the claims of a row of the list
-pub hold_row : (g : Grounds) (all : List LinearRow) (i : ℕ) (row : LinearRow) → drop i all ≡ row ∷ drop (i + 1) all → AllHold g (system_of all) →
+pub hold_row : (g : PathFacts) (all : List LinearRow) (i : ℕ) (row : LinearRow) → drop i all ≡ row ∷ drop (i + 1) all → AllHold g (system_of all) →
     AllHold g (with_row row.equal row.row [])
 hold_row g all i row is h = λ claim k.
     let rest = system_of (drop (i + 1) all) in
@@ -75,37 +76,38 @@ hold_row g all i row is h = λ claim k.
     (system_append_in (take i all) (drop i all) claim (inr left)))
 
 -- ---- written
-pub claim_added : (g : Grounds) (claim : List ℤ) (m : Multipliers) (old new : List ℕ) → IsLine g (Some claim) m →
+pub claim_added : (g : PathFacts) (claim : List ℤ) (m : Multipliers) (old new : List ℕ) → IsLine g (Some claim) m →
     new ≡ old ++ text_line (multipliers_text (codes "by") m) → AddsLines g (claim ∷ []) old new
 claim_added g claim m old new h e = adds_one (IsClaimLine g) by_line claim m old new h e
 
-pub claim_stops : (g : Grounds) (claim : List ℤ) → LineStrains g (Some claim) → SomeStrains g (claim ∷ [])
+pub claim_stops : (g : PathFacts) (claim : List ℤ) → LineStrains g (Some claim) → SomeStrains g (claim ∷ [])
 claim_stops g claim h = (claim, stops_one (IsClaimLine g) by_line (ClaimStrained g) claim h)
 
-by_texts : (g : Grounds) (claims : List (List ℤ)) (ms : List Multipliers) → Each (IsClaimLine g) claims ms → each_text by_line claims ms ≡ evidence_text (by ms)
+by_texts : (g : PathFacts) (claims : List (List ℤ)) (ms : List Multipliers) → Each (IsClaimLine g) claims ms →
+    each_text by_line claims ms ≡ evidence_text (implies ms)
 by_texts g [] [] h = refl
 by_texts g [] (m ∷ ms) h = absurd h
 by_texts g (claim ∷ claims) [] h = absurd h
 by_texts g (claim ∷ claims) (m ∷ ms) h = ap (λ (t : List ℕ). by_line claim m ++ t) (by_texts g claims ms h.1)
 
-pub dead_added : (g : Grounds) (target : State) (m : Multipliers) (old new : List ℕ) → IsLine g None m →
-    new ≡ old ++ text_line (multipliers_text (codes "dead") m) → Adds (IsEvidence g target) old new
-dead_added g target m old new h e = record { evidence = dead m; is = h; text = e }
+pub dead_added : (g : PathFacts) (target : RowsAtPoint) (m : Multipliers) (old new : List ℕ) → IsLine g None m →
+    new ≡ old ++ text_line (multipliers_text (codes "dead") m) → AddsEvidence (IsEvidence g target) old new
+dead_added g target m old new h e = record { evidence = infeasible m; is = h; text = e }
 
-pub claims_added : (g : Grounds) (rows : List LinearRow) (old new : List ℕ) → IsNotShown g None → AddsLines g (system_of rows) old new →
-    Adds (IsEvidence g (Some rows)) old new
+pub claims_added : (g : PathFacts) (rows : List LinearRow) (old new : List ℕ) → IsNotShown g None → AddsLines g (system_of rows) old new →
+    AddsEvidence (IsEvidence g (Some rows)) old new
 claims_added g rows old new alive h = record {
-  evidence = by h.found;
+  evidence = implies h.found;
   is = (alive, h.are);
   text = h.text ∙ ap (λ (t : List ℕ). old ++ t) (by_texts g (system_of rows) h.found h.are);
 }
 
-pub dead_stops : (g : Grounds) (target : State) → LineStrains g None → TargetStrains g target
+pub dead_stops : (g : PathFacts) (target : RowsAtPoint) → LineStrains g None → TargetStrains g target
 dead_stops g None h = h
 dead_stops g (Some rows) h = inl h
 
 -- ---- the claims of a row: of an equality two
-module _ (g : Grounds) (row : List ℤ) where
+module _ (g : PathFacts) (row : List ℤ) where
   abbrev claims : Bool → List (List ℤ)
   claims equal = with_row equal row []
 
@@ -156,10 +158,10 @@ module _ (g : Grounds) (row : List ℤ) where
       )
 
 -- ---- a target's claims, as they are handed on
-module _ (g : Grounds) (target : State) (rows : List LinearRow) (is : target ≡ Some rows) where
+module _ (g : PathFacts) (target : RowsAtPoint) (rows : List LinearRow) (is : target ≡ Some rows) where
   pub claims_told : {X : Type 0} (old new : List ℕ) → IsNotShown g None → (r : Result X PathFailure) → OnOk r (AddsLines g (system_of rows) old new) →
-      OnOk r (Adds (IsEvidence g target) old new)
-  claims_told old new alive (Ok x) h = subst (λ (s : State). Adds (IsEvidence g s) old new) (sym is) (claims_added g rows old new alive h)
+      OnOk r (AddsEvidence (IsEvidence g target) old new)
+  claims_told old new alive (Ok x) h = subst (λ (s : RowsAtPoint). AddsEvidence (IsEvidence g s) old new) (sym is) (claims_added g rows old new alive h)
   claims_told old new alive (Err e) h = tt
 
   pub claims_failed : {X : Type 0} → IsNotShown g None → (r : Result X PathFailure) → IfErr r (IfStrained (SomeStrains g (system_of rows))) →
@@ -167,10 +169,10 @@ module _ (g : Grounds) (target : State) (rows : List LinearRow) (is : target ≡
   claims_failed alive (Ok x) h = tt
   claims_failed alive (Err e) h =
       strained_weaker (SomeStrains g (system_of rows)) (TargetStrains g target) e
-      (λ x. subst (λ (s : State). TargetStrains g s) (sym is) (inr (alive, x))) h
+      (λ x. subst (λ (s : RowsAtPoint). TargetStrains g s) (sym is) (inr (alive, x))) h
 
 -- the second claim of an equality, as it is handed on
-module _ (g : Grounds) (row opposite : List ℤ) (equal : Bool) (e : equal ≡ true) (is : opposite ≡ negated row) (old middle : List ℕ)
+module _ (g : PathFacts) (row opposite : List ℤ) (equal : Bool) (e : equal ≡ true) (is : opposite ≡ negated row) (old middle : List ℕ)
     (first : AddsLines g (row ∷ []) old middle) where
   pub two_told : {X : Type 0} (new : List ℕ) (r : Result X PathFailure) → OnOk r (AddsLines g (opposite ∷ []) middle new) →
       OnOk r (AddsLines g (with_row equal row []) old new)

@@ -10,16 +10,16 @@ use Rattle.lra_systems.specs.LinearSystems.{LinearSystem, constraints}
 use Rattle.lra_domain.specs.Actions.{Action}
 use Rattle.lra_paths.specs.Paths.{path_by}
 use Rattle.lra_path_segments.specs.Segments.{violates}
-use Rattle.lra_multipliers.specs.Symbols.{walk_of}
+use Rattle.lra_multipliers.specs.Symbols.{executed_path}
 use Rattle.lra_multipliers.proofs.CheckSteps.{length_zeros}
-use Rattle.lra_certificate.specs.Judged.{State}
-use Rattle.lra_lines.specs.TrackViews.{AreGroundsOf, IsTrack, IsWhole, AreGrounds, AreCounted}
-use Rattle.lra_lines.specs.declared.tracks.Grounds.{Grounds}
-use Rattle.lra_lines.specs.declared.tracks.Track.{Track}
+use Rattle.lra_certificate_spec.specs.Judged.{RowsAtPoint}
+use Rattle.lra_certificate_lines.specs.PathCheckViews.{ArePathFactsOf, IsPathCheck, IsWhole, ArePathFacts, AreCounted}
+use Rattle.lra_certificate_lines.specs.declared.path_checks.PathFacts.{PathFacts}
+use Rattle.lra_certificate_lines.specs.declared.path_checks.PathCheck.{PathCheck}
 use Rattle.lra_farkas.proofs.FirstPoints.{as_wide}
 use Rattle.lra_certify.specs.declared.failures.PathFailure.{PathFailure}
-use Rattle.lra_certify.specs.Staying.{StaysFrom}
-use Rattle.lra_certify.specs.GroundViews.{AllLead, IsEvidence, Adds, TargetStrains, IfStrained}
+use Rattle.lra_certify.specs.InductiveRows.{IsInductiveFrom}
+use Rattle.lra_certify.specs.PathFactViews.{AllLead, IsEvidence, AddsEvidence, TargetStrains, IfStrained}
 use Rattle.lra_certify.specs.WrittenPaths.{FoundOn, StrainsOn}
 use Rattle.lra_certify.proofs.FoundPaths.{all_lead, evidence_found, path_strains}
 use Rattle.lra_certify.proofs.NeverUnshown.{AreLaws}
@@ -33,50 +33,51 @@ rows_wide s seen is wide = λ f k.
     (as_wide s seen (zeros (suc s.dims)) is wide (length_zeros (suc s.dims))).each f k ∙ length_zeros (suc s.dims)
 
 -- ---- a path with its grounds
-module _ (rows : LinearSystem ConKind) (steps : List Action) (t : Track) (track : IsTrack rows.dims (constraints rows) steps t) (target : State) where
-  abbrev HasGrounds : Option Grounds → Type 0
-  HasGrounds o = MatchOption o ((e : Excess) × (walk_of rows.dims steps ≡ Err e)) (AreGroundsOf rows.dims (constraints rows) steps)
+module _ (rows : LinearSystem ConKind) (steps : List Action) (t : PathCheck) (track : IsPathCheck rows.dims (constraints rows) steps t) (target : RowsAtPoint)
+  where
+    abbrev HasGrounds : Option PathFacts → Type 0
+    HasGrounds o = MatchOption o ((e : Excess) × (executed_path rows.dims steps ≡ Err e)) (ArePathFactsOf rows.dims (constraints rows) steps)
 
-  passes_on : t.grounds ≡ None → (e : Excess) × (walk_of rows.dims steps ≡ Err e)
-  passes_on none = subst HasGrounds none track.grounds
+    passes_on : t.facts ≡ None → (e : Excess) × (executed_path rows.dims steps ≡ Err e)
+    passes_on none = subst HasGrounds none track.facts
 
-  pub walk_strained : t.grounds ≡ None → StrainsOn rows.dims steps (Some (constraints rows)) target
-  walk_strained none = λ path is.
-      let p = passes_on none in inl (p.0, subst (λ (s : List Action). walk_of rows.dims s ≡ Err p.0) (sym is) p.1)
+    pub walk_strained : t.facts ≡ None → StrainsOn rows.dims steps (Some (constraints rows)) target
+    walk_strained none = λ path is.
+        let p = passes_on none in inl (p.0, subst (λ (s : List Action). executed_path rows.dims s ≡ Err p.0) (sym is) p.1)
 
-  module _ (g : Grounds) (some : t.grounds ≡ Some g) where
-    grounds_of : AreGroundsOf rows.dims (constraints rows) steps g
-    grounds_of = subst HasGrounds some track.grounds
+    module _ (g : PathFacts) (some : t.facts ≡ Some g) where
+      grounds_of : ArePathFactsOf rows.dims (constraints rows) steps g
+      grounds_of = subst HasGrounds some track.facts
 
-    pub grounds_lead : (seen : List (List ℤ)) → seen ≡ rows.rows → All (λ r. length r ≡ suc rows.dims) seen →
-        StaysFrom rows.dims steps (Some (constraints rows)) target → AllLead g target
-    grounds_lead seen is wide stays =
-        all_lead rows.dims (constraints rows) (path_by 0 (violates 0) steps) g grounds_of target (rows_wide rows seen is wide) stays
+      pub grounds_lead : (seen : List (List ℤ)) → seen ≡ rows.rows → All (λ r. length r ≡ suc rows.dims) seen →
+          IsInductiveFrom rows.dims steps (Some (constraints rows)) target → AllLead g target
+      grounds_lead seen is wide stays =
+          all_lead rows.dims (constraints rows) (path_by 0 (violates 0) steps) g grounds_of target (rows_wide rows seen is wide) stays
 
-    evidence_adds : AreLaws → (old new : List ℕ) → Adds (IsEvidence g target) old new →
-        Adds (FoundOn rows.dims steps (Some (constraints rows)) target) old new
-    evidence_adds laws old new h = record {
-      evidence = h.evidence;
-      is = λ path e. evidence_found rows.dims (constraints rows) path g
-          (subst (λ (s : List Action). AreGroundsOf rows.dims (constraints rows) s g) (sym e) grounds_of) laws target h.evidence h.is;
-      text = h.text;
-    }
+      evidence_adds : AreLaws → (old new : List ℕ) → AddsEvidence (IsEvidence g target) old new →
+          AddsEvidence (FoundOn rows.dims steps (Some (constraints rows)) target) old new
+      evidence_adds laws old new h = record {
+        evidence = h.evidence;
+        is = λ path e. evidence_found rows.dims (constraints rows) path g
+            (subst (λ (s : List Action). ArePathFactsOf rows.dims (constraints rows) s g) (sym e) grounds_of) laws target h.evidence h.is;
+        text = h.text;
+      }
 
-    evidence_strains : AreLaws → TargetStrains g target → StrainsOn rows.dims steps (Some (constraints rows)) target
-    evidence_strains laws h = λ path e. path_strains rows.dims (constraints rows) path g
-        (subst (λ (s : List Action). AreGroundsOf rows.dims (constraints rows) s g) (sym e) grounds_of) laws target h
+      evidence_strains : AreLaws → TargetStrains g target → StrainsOn rows.dims steps (Some (constraints rows)) target
+      evidence_strains laws h = λ path e. path_strains rows.dims (constraints rows) path g
+          (subst (λ (s : List Action). ArePathFactsOf rows.dims (constraints rows) s g) (sym e) grounds_of) laws target h
 
-    -- handed on
-    pub evidence_told : {X : Type 0} → AreLaws → (old new : List ℕ) (r : Result X PathFailure) → OnOk r (Adds (IsEvidence g target) old new) →
-        OnOk r (Adds (FoundOn rows.dims steps (Some (constraints rows)) target) old new)
-    evidence_told laws old new (Ok x) h = evidence_adds laws old new h
-    evidence_told laws old new (Err e) h = tt
+      -- handed on
+      pub evidence_told : {X : Type 0} → AreLaws → (old new : List ℕ) (r : Result X PathFailure) → OnOk r (AddsEvidence (IsEvidence g target) old new) →
+          OnOk r (AddsEvidence (FoundOn rows.dims steps (Some (constraints rows)) target) old new)
+      evidence_told laws old new (Ok x) h = evidence_adds laws old new h
+      evidence_told laws old new (Err e) h = tt
 
-    pub evidence_failed : {X : Type 0} → AreLaws → (r : Result X PathFailure) → IfErr r (IfStrained (TargetStrains g target)) →
-        IfErr r (IfStrained (StrainsOn rows.dims steps (Some (constraints rows)) target))
-    evidence_failed laws (Ok x) h = tt
-    evidence_failed laws (Err e) h =
-        strained_weaker (TargetStrains g target) (StrainsOn rows.dims steps (Some (constraints rows)) target) e (evidence_strains laws) h
+      pub evidence_failed : {X : Type 0} → AreLaws → (r : Result X PathFailure) → IfErr r (IfStrained (TargetStrains g target)) →
+          IfErr r (IfStrained (StrainsOn rows.dims steps (Some (constraints rows)) target))
+      evidence_failed laws (Ok x) h = tt
+      evidence_failed laws (Err e) h =
+          strained_weaker (TargetStrains g target) (StrainsOn rows.dims steps (Some (constraints rows)) target) e (evidence_strains laws) h
 
-pub grounds_are : (t : Track) (g : Grounds) → IsWhole t → t.grounds ≡ Some g → AreGrounds g
-grounds_are t g whole some = (subst (λ (o : Option Grounds). IfSome o (AreCounted t.count)) some whole.grounds).are
+pub grounds_are : (t : PathCheck) (g : PathFacts) → IsWhole t → t.facts ≡ Some g → ArePathFacts g
+grounds_are t g whole some = (subst (λ (o : Option PathFacts). IfSome o (AreCounted t.count)) some whole.grounds).are

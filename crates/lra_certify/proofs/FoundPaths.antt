@@ -14,20 +14,21 @@ use Rattle.lra_linear_spec.proofs.Descriptions.{con_solves}
 use Rattle.lra_linear_spec.proofs.Membership.{contains_head, contains_tail, map_has}
 use Rattle.lra_systems.specs.LinearSystems.{constraints}
 use Rattle.lra_paths.specs.Paths.{Path}
-use Rattle.lra_multipliers.specs.Symbols.{Walked, composed, width_of}
-use Rattle.lra_multipliers.specs.Multipliers.{Multipliers, Shows, yes, IsAnswer}
-use Rattle.lra_certificate.specs.Certificates.{Evidence, none, dead, by, Along, padded, premises_of, nothing_left, IsDead, IsShown, AreShown, AreNumbers}
-use Rattle.lra_certificate.specs.Judged.{State}
-use Rattle.lra_certificate.proofs.WalkedRows.{ok_is, AreOfWidth}
-use Rattle.lra_lines.specs.TrackViews.{AreGrounds, AreGroundsOf}
-use Rattle.lra_lines.specs.declared.tracks.Grounds.{Grounds}
+use Rattle.lra_multipliers.specs.Symbols.{SymbolicState, composed, width_of}
+use Rattle.lra_multipliers.specs.Multipliers.{Multipliers, IsFarkasCertificate, yes, IsAnswer}
+use Rattle.lra_certificate_spec.specs.Certificates.{Evidence, none, infeasible, implies, PathPremises, padded, premises_of, contradiction, IsShownInfeasible}
+use Rattle.lra_certificate_spec.specs.Certificates.{IsClaimImplied, AreImplied, AreNumbers}
+use Rattle.lra_certificate_spec.specs.Judged.{RowsAtPoint}
+use Rattle.lra_certificate_spec.proofs.WalkedRows.{ok_is, AreOfWidth}
+use Rattle.lra_certificate_lines.specs.PathCheckViews.{ArePathFacts, ArePathFactsOf}
+use Rattle.lra_certificate_lines.specs.declared.path_checks.PathFacts.{PathFacts}
 use Rattle.lra_farkas.specs.MultiplierRows.{multiplier_dims, multiplier_rows, AreAsWide}
 use Rattle.lra_farkas.specs.FirstMultipliers.{AreFirst, MultipliersStrain}
-use Rattle.lra_certify.specs.Staying.{IsIn, StaysFrom}
+use Rattle.lra_certify.specs.InductiveRows.{IsIn, IsInductiveFrom}
 use Rattle.lra_certify.specs.Each.{Each}
-use Rattle.lra_certify.specs.Found.{IsFirstDead, IsNeverDead, IsFirstShown, IsFound, ClaimStrains, WalkStrains, PathStrains}
-use Rattle.lra_certify.specs.GroundViews.{claim_on, led_to, AllLead, HoldsOn, AllHold, IsLine, IsNotShown, LineStrains, IsClaimLine, ClaimStrained}
-use Rattle.lra_certify.specs.GroundViews.{IsEvidence, TargetStrains}
+use Rattle.lra_certify.specs.PathEvidence.{IsFirstInfeasible, IsNotShownInfeasible, IsFirstShown, IsEvidenceAlong, ClaimStrains, EvidenceStrains, PathStrains}
+use Rattle.lra_certify.specs.PathFactViews.{claim_on, led_to, AllLead, HoldsOn, AllHold, IsLine, IsNotShown, LineStrains, IsClaimLine, ClaimStrained}
+use Rattle.lra_certify.specs.PathFactViews.{IsEvidence, TargetStrains}
 use Rattle.lra_certify.proofs.EachSteps.{stops_has}
 use Rattle.lra_certify.proofs.NeverUnshown.{AreLaws, none_show, never_unshown, never_alive}
 use Rattle.lra_certify.proofs.WalkedBack.{composed_at, point_at, walked_back, padded_holds}
@@ -37,13 +38,13 @@ wide_forms : (n : ℕ) (forms : List (List ℤ)) → ((f : List ℤ) → Contain
 wide_forms n [] h = tt
 wide_forms n (f ∷ fs) h = (h f (contains_head f fs), wide_forms n fs (λ g k. h g (contains_tail f g fs k)))
 
-pub grounds_wide : (g : Grounds) → AreGrounds g → AreOfWidth (suc g.premises.dims) g.forms.items
+pub grounds_wide : (g : PathFacts) → ArePathFacts g → AreOfWidth (suc g.premises.dims) g.forms.items
 grounds_wide g h = wide_forms (suc g.premises.dims) g.forms.items
     (λ f k. All-contains (λ (f : List ℤ). length f ≡ suc g.premises.dims) g.forms.items f h.forms k)
 
 -- ---- claims over the symbols
 -- the row of a claim is at a point of the symbols what the claim is at that of the forms
-pub claim_at : (g : Grounds) (claim row x : List ℤ) → AreGrounds g → 0 < length claim → composed (suc g.premises.dims) claim g.forms.items ≡ Ok row →
+pub claim_at : (g : PathFacts) (claim row x : List ℤ) → ArePathFacts g → 0 < length claim → composed (suc g.premises.dims) claim g.forms.items ≡ Ok row →
     (length row ≡ suc g.premises.dims) × (product row x ≡ product claim (led_to g x))
 claim_at g [] row x are some made = absurd (omega (arith, some))
 claim_at g (k ∷ cs) row x are some made = composed_at g.premises.dims k cs g.forms.items row x (grounds_wide g are) made
@@ -53,7 +54,7 @@ falsity_is : (n : ℕ) → falsity (suc n - 1) ≡ falsity n
 falsity_is n = ap falsity (let e : suc n - 1 ≡ n = omega arith in e)
 
 -- a claim that holds has multipliers, as long as -1 >= 0 has none
-pub claim_shown : AreLaws → (g : Grounds) (claim : List ℤ) → AreGrounds g → 0 < length claim → HoldsOn g claim →
+pub claim_shown : AreLaws → (g : PathFacts) (claim : List ℤ) → ArePathFacts g → 0 < length claim → HoldsOn g claim →
     IsNotShown g None → IsNotShown g (Some claim) → ⊥
 claim_shown laws g claim are some holds alive unshown =
     let n = g.premises.dims in
@@ -65,7 +66,7 @@ claim_shown laws g claim are some holds alive unshown =
     (subst (λ (r : List ℤ). IsEmptySet (multiplier_dims (constraints g.premises)) (Con (multiplier_rows (constraints g.premises) r))) (sym nothing) alive.never)
 
 -- where no point meets the premises, -1 >= 0 has some
-pub dead_shown : AreLaws → (g : Grounds) → AllLead g None → IsNotShown g None → ⊥
+pub dead_shown : AreLaws → (g : PathFacts) → AllLead g None → IsNotShown g None → ⊥
 dead_shown laws g lead alive =
     let n = g.premises.dims in
     let nothing = sym (falsity_is n) ∙ ok_is (falsity (suc n - 1)) alive.row alive.made in
@@ -74,19 +75,19 @@ dead_shown laws g lead alive =
     (subst (λ (r : List ℤ). IsEmptySet (multiplier_dims (constraints g.premises)) (Con (multiplier_rows (constraints g.premises) r))) (sym nothing) alive.never)
 
 -- the claims of a target's rows hold where all points lead to it
-pub target_holds : (g : Grounds) (rows : List LinearRow) → AllLead g (Some rows) → AllHold g (system_of rows)
+pub target_holds : (g : PathFacts) (rows : List LinearRow) → AllLead g (Some rows) → AllHold g (system_of rows)
 target_holds g rows lead = λ claim k x is_point meets. con_solves rows (led_to g x) (lead x is_point meets) claim k
 
 ok_err : (row : List ℤ) (e : Excess) → (let r : Result (List ℤ) Excess = Ok row in r) ≡ Err e → ⊥
 ok_err row e is = cc
 
 -- ---- the grounds of a path
-module _ (live : ℕ) (rows : List LinearRow) (path : Path) (g : Grounds) (of : AreGroundsOf live rows path.actions g) where
-  abbrev along : Along
+module _ (live : ℕ) (rows : List LinearRow) (path : Path) (g : PathFacts) (of : ArePathFactsOf live rows path.actions g) where
+  abbrev along : PathPremises
   along = record { live = live; rows = rows; path = path }
 
   -- rows as wide as there are variables
-  pub all_lead : (target : State) → ((f : LinearRow) → Contains rows f → length f.row ≡ suc live) → StaysFrom live path.actions (Some rows) target →
+  pub all_lead : (target : RowsAtPoint) → ((f : LinearRow) → Contains rows f → length f.row ≡ suc live) → IsInductiveFrom live path.actions (Some rows) target →
       AllLead g target
   all_lead target wide stays = λ x is_point meets.
       let con = subst (λ (gs : List LinearRow). Con gs x) of.premises meets in
@@ -118,7 +119,7 @@ module _ (live : ℕ) (rows : List LinearRow) (path : Path) (g : Grounds) (of : 
       subst (λ (forms : List (List ℤ)). composed (width_of live path.actions) claim forms ≡ Ok row) of.forms
       (subst (λ (n : ℕ). composed n claim g.forms.items ≡ Ok row) of.width made)
 
-  nothing_is : (row : List ℤ) → claim_on g None ≡ Ok row → row ≡ nothing_left along
+  nothing_is : (row : List ℤ) → claim_on g None ≡ Ok row → row ≡ contradiction along
   nothing_is row made = sym (ok_is (falsity (suc g.premises.dims - 1)) row made) ∙ ap (λ (n : ℕ). falsity (n - 1)) of.width
 
   abbrev Shown : List LinearRow → List ℤ → Multipliers → Type 0
@@ -127,19 +128,19 @@ module _ (live : ℕ) (rows : List LinearRow) (path : Path) (g : Grounds) (of : 
   line_premises : (claim : Option (List ℤ)) (m : Multipliers) (line : IsLine g claim m) → Shown (premises_of along of.walk) line.row m
   line_premises claim m line = subst (λ (ps : List LinearRow). Shown ps line.row m) of.premises (line.shown, line.first)
 
-  dead_line : (m : Multipliers) → IsLine g None m → IsDead along m × IsFirstDead along m
+  dead_line : (m : Multipliers) → IsLine g None m → IsShownInfeasible along m × IsFirstInfeasible along m
   dead_line m line =
       let both = subst (λ (r : List ℤ). Shown (premises_of along of.walk) r m) (nothing_is line.row line.made) (line_premises None m line) in
       ((of.walk, of.walks, both.0), (of.walk, of.walks, both.1))
 
-  shown_line : (claim : List ℤ) (m : Multipliers) → IsLine g (Some claim) m → IsShown along claim m × IsFirstShown along claim m
+  shown_line : (claim : List ℤ) (m : Multipliers) → IsLine g (Some claim) m → IsClaimImplied along claim m × IsFirstShown along claim m
   shown_line claim m line =
       let both = line_premises (Some claim) m line in
       let made = claim_is claim line.row line.made in
       ((of.walk, line.row, of.walks, made, both.0), (of.walk, line.row, of.walks, made, both.1))
 
   shown_lines : (claims : List (List ℤ)) (ms : List Multipliers) → Each (IsClaimLine g) claims ms →
-      AreShown along claims ms × Each (IsFirstShown along) claims ms × AllByRecursion AreNumbers ms
+      AreImplied along claims ms × Each (IsFirstShown along) claims ms × AllByRecursion AreNumbers ms
   shown_lines [] [] h = (tt, tt, tt)
   shown_lines [] (m ∷ ms) h = absurd h
   shown_lines (claim ∷ claims) [] h = absurd h
@@ -148,24 +149,24 @@ module _ (live : ℕ) (rows : List LinearRow) (path : Path) (g : Grounds) (of : 
       let rest = shown_lines claims ms h.1 in
       ((first.0, rest.0), (first.1, rest.1), (h.0.numbers, rest.2))
 
-  never_dead : AreLaws → IsNotShown g None → IsNeverDead along
+  never_dead : AreLaws → IsNotShown g None → IsNotShownInfeasible along
   never_dead laws alive = λ w m walks shows.
       let same = ok_is of.walk w (sym of.walks ∙ walks) in
       none_show laws (constraints g.premises) alive.row m alive.wide alive.never
-      (subst (λ (ps : List LinearRow). Shows ps alive.row m) (sym of.premises)
-      (subst (λ (r : List ℤ). Shows (premises_of along of.walk) r m) (sym (nothing_is alive.row alive.made))
-      (subst (λ (v : Walked). Shows (premises_of along v) (nothing_left along) m) (sym same) shows)))
+      (subst (λ (ps : List LinearRow). IsFarkasCertificate ps alive.row m) (sym of.premises)
+      (subst (λ (r : List ℤ). IsFarkasCertificate (premises_of along of.walk) r m) (sym (nothing_is alive.row alive.made))
+      (subst (λ (v : SymbolicState). IsFarkasCertificate (premises_of along v) (contradiction along) m) (sym same) shows)))
 
-  pub evidence_found : AreLaws → (target : State) (evidence : Evidence) → IsEvidence g target evidence → IsFound along target evidence
+  pub evidence_found : AreLaws → (target : RowsAtPoint) (evidence : Evidence) → IsEvidence g target evidence → IsEvidenceAlong along target evidence
   evidence_found laws target none h = absurd h
-  evidence_found laws target (dead m) h = let line = dead_line m h in record { meets = line.0; first = line.1; numbers = h.numbers }
-  evidence_found laws None (by ms) h = absurd h
-  evidence_found laws (Some claims) (by ms) h =
+  evidence_found laws target (infeasible m) h = let line = dead_line m h in record { meets = line.0; first = line.1; numbers = h.numbers }
+  evidence_found laws None (implies ms) h = absurd h
+  evidence_found laws (Some claims) (implies ms) h =
       let lines = shown_lines (system_of claims) ms h.1 in
       record { meets = lines.0; first = (never_dead laws h.0, lines.1); numbers = lines.2 }
 
   -- strain
-  dead_strains : LineStrains g None → MultipliersStrain (premises_of along of.walk) (nothing_left along)
+  dead_strains : LineStrains g None → MultipliersStrain (premises_of along of.walk) (contradiction along)
   dead_strains (inl (e, passes)) = absurd (ok_err (falsity (suc g.premises.dims - 1)) e passes)
   dead_strains (inr (row, made, strains)) =
       subst (λ (r : List ℤ). MultipliersStrain (premises_of along of.walk) r) (nothing_is row made)
@@ -180,11 +181,11 @@ module _ (live : ℕ) (rows : List LinearRow) (path : Path) (g : Grounds) (of : 
   claim_strains claim (inr (row, made, strains)) =
       inr (row, claim_is claim row made, subst (λ (ps : List LinearRow). MultipliersStrain ps row) of.premises strains)
 
-  target_strains : AreLaws → (target : State) → TargetStrains g target → WalkStrains along target of.walk
+  target_strains : AreLaws → (target : RowsAtPoint) → TargetStrains g target → EvidenceStrains along target of.walk
   target_strains laws None h = inl (dead_strains h)
   target_strains laws (Some claims) (inl h) = inl (dead_strains h)
   target_strains laws (Some claims) (inr (alive, (claim, stops))) =
       inr (never_dead laws alive, claim, stops_has (IsClaimLine g) (ClaimStrained g) (system_of claims) claim stops, claim_strains claim stops.bad)
 
-  pub path_strains : AreLaws → (target : State) → TargetStrains g target → PathStrains along target
+  pub path_strains : AreLaws → (target : RowsAtPoint) → TargetStrains g target → PathStrains along target
   path_strains laws target h = inr (of.walk, of.walks, target_strains laws target h)

@@ -4,7 +4,7 @@ use Rattle.lra_linear_spec.specs.Descriptions.{LinearRow, Con}
 use Rattle.lra_linear_spec.specs.Points.{IsEmptySet, IsWithin}
 use Rattle.lra_linear_spec.specs.Polyhedra.{falsity}
 use Rattle.lra_linear_spec.specs.Vectors.{product}
-use Rattle.lra_multipliers.specs.Multipliers.{Multipliers, Shows}
+use Rattle.lra_multipliers.specs.Multipliers.{Multipliers, IsFarkasCertificate}
 use Rattle.lra_farkas.specs.MultiplierRows.{multiplier_dims, multiplier_rows, point_of, AreAsWide, PointsShow}
 use Rattle.lra_farkas.specs.MultiplierRows.{WhatHoldsAtPointsIsShown, NoPointIsShown}
 
@@ -18,7 +18,8 @@ pub record AreLaws : Type 0 where
   pub nowhere : NoPointIsShown
 
 module _ (laws : AreLaws) where
-  pub none_show : (premises : List LinearRow) (claim : List ℤ) (m : Multipliers) → AreAsWide premises claim → AreNone premises claim → Shows premises claim m →
+  pub none_show : (premises : List LinearRow) (claim : List ℤ) (m : Multipliers) → AreAsWide premises claim → AreNone premises claim →
+      IsFarkasCertificate premises claim m →
       ⊥
   none_show premises claim m wide none shows =
       let p = (laws.points premises claim m wide).1 shows in none (point_of m) p.is_point p.meets

@@ -20,11 +20,11 @@ use Rattle.lra_path_disjuncts.specs.TableDisjuncts.{all_done, lists_done}
 use Rattle.lra_paths.specs.Sources.{to_goal}
 use Rattle.lra_paths.specs.declared.sources.Source.{Source}
 use Rattle.lra_path_segments.proofs.Lists.{flat_map_has}
-use Rattle.lra_certificate.specs.Certificates.{Evidence, none, Listed, state_from, state_to}
-use Rattle.lra_certificate.specs.CertificateText.{text_line, edge_text, assert_text, evidence_text, listed_text}
-use Rattle.lra_certificate.specs.Judged.{State}
-use Rattle.lra_verify.specs.EdgeViews.{sites_in, states_in, led_from, led_by, live_by}
-use Rattle.lra_verify.specs.declared.ways.Ways.{Ways}
+use Rattle.lra_certificate_spec.specs.Certificates.{Evidence, none, ListedAssertion, state_from, state_to}
+use Rattle.lra_certificate_spec.specs.CertificateText.{text_line, edge_text, assert_text, evidence_text, listed_text}
+use Rattle.lra_certificate_spec.specs.Judged.{RowsAtPoint}
+use Rattle.lra_verify.specs.EdgeViews.{sites_in, states_in, actions_out_of, actions_by, live_by}
+use Rattle.lra_verify.specs.declared.annotated.AnnotatedProgram.{AnnotatedProgram}
 use Rattle.lra_verify.proofs.EdgeSteps.{lists_next, lists_end, numbers_next, numbers_end}
 use Rattle.lra_certify.specs.declared.failures.PathFailure.{PathFailure}
 use Rattle.lra_certify.specs.declared.failures.PathFailure.TheVariants as of_path
@@ -32,13 +32,14 @@ use Rattle.lra_certify.specs.declared.failures.CertifyFailure.{CertifyFailure}
 use Rattle.lra_certify.specs.declared.failures.CertifyFailure.TheVariants as of_program
 use Rattle.lra_certify.specs.declared.failures.StrainedAt.{StrainedAt}
 use Rattle.lra_certify.specs.declared.failures.StrainedAt.TheVariants.{Edge, Assertion}
-use Rattle.lra_certify.specs.Staying.{Stays, StaysFrom}
+use Rattle.lra_certify.specs.InductiveRows.{IsInductiveAlong, IsInductiveFrom}
 use Rattle.lra_certify.specs.Each.{Each, each_text}
-use Rattle.lra_certify.specs.Found.{FoundFrom, Found, StrainsFrom, Strains, StopsIn}
+use Rattle.lra_certify.specs.PathEvidence.{IsEvidenceFrom, IsEvidenceFor, StrainsFrom, StrainsAlong, StopsIn}
 use Rattle.lra_certify.specs.Failures.{failed_at}
-use Rattle.lra_certify.specs.GroundViews.{Adds, IfStrained}
-use Rattle.lra_certify.specs.WrittenPaths.{paths_to, paths_from, all_paths, denied_paths, AllStay, edge_lines, denial_lines, AddsPaths, FoundOn, StrainsOn}
-use Rattle.lra_certify.specs.WrittenPaths.{FoundDead, StrainsDead, AddsDead}
+use Rattle.lra_certify.specs.PathFactViews.{AddsEvidence, IfStrained}
+use Rattle.lra_certify.specs.WrittenPaths.{paths_to, paths_from, all_paths, violating_paths, AllAreInductive, edge_lines, violation_lines, AddsPaths, FoundOn}
+use Rattle.lra_certify.specs.WrittenPaths.{StrainsOn}
+use Rattle.lra_certify.specs.WrittenPaths.{IsInfeasibleEvidence, StrainsDead, AddsDead}
 use Rattle.lra_certify.specs.WrittenPaths.{AllDead, DeadLeft, SomeDeadStops, SomePathStops, SomeStops, IfStopped, PathsLeft}
 use Rattle.lra_certify.specs.WrittenPaths.{IsListed, AddsListed, AssertionStops, ListedLeft, ListStops}
 use Rattle.lra_certify.proofs.EachSteps.{adds_one, stops_one, left_all, left_next, left_stops, left_end, stops_has}
@@ -58,86 +59,90 @@ stopped_weaker P Q (of_program.Strained at) f h = f at h
 stopped_weaker P Q of_program.Memory f h = h
 
 -- ---- one path
-module _ (w : Ways) (path : Path) where
-  abbrev rows_from : State
+module _ (w : AnnotatedProgram) (path : Path) where
+  abbrev rows_from : RowsAtPoint
   rows_from = state_from (states_in w) path.source
 
-  abbrev rows_to : State
+  abbrev rows_to : RowsAtPoint
   rows_to = state_to (states_in w) path.goal
 
   abbrev live : ℕ
   live = live_by (sites_in w) path.source
 
-  stays_here : AllStay w (path ∷ []) → Stays (sites_in w) (states_in w) path
+  stays_here : AllAreInductive w (path ∷ []) → IsInductiveAlong (sites_in w) (states_in w) path
   stays_here h = h path (contains_head path [])
 
   -- from a source that isn't empty
-  pub stays_on : (n : ℕ) (from to : State) → n ≡ live → from ≡ rows_from → to ≡ rows_to → AllStay w (path ∷ []) → StaysFrom n path.actions from to
+  pub stays_on : (n : ℕ) (from to : RowsAtPoint) → n ≡ live → from ≡ rows_from → to ≡ rows_to → AllAreInductive w (path ∷ []) →
+      IsInductiveFrom n path.actions from to
   stays_on n from to e f t h =
-      subst (λ (k : ℕ). StaysFrom k path.actions from to) (sym e)
-      (subst (λ (s : State). StaysFrom live path.actions s to) (sym f) (subst (λ (s : State). StaysFrom live path.actions rows_from s) (sym t) (stays_here h)))
+      subst (λ (k : ℕ). IsInductiveFrom k path.actions from to) (sym e)
+      (subst (λ (s : RowsAtPoint). IsInductiveFrom live path.actions s to) (sym f)
+      (subst (λ (s : RowsAtPoint). IsInductiveFrom live path.actions rows_from s) (sym t) (stays_here h)))
 
-  pub found_on : (n : ℕ) (from to : State) (evidence : Evidence) → n ≡ live → from ≡ rows_from → to ≡ rows_to → FoundOn n path.actions from to evidence →
-      Found (sites_in w) (states_in w) path evidence
+  pub found_on : (n : ℕ) (from to : RowsAtPoint) (evidence : Evidence) → n ≡ live → from ≡ rows_from → to ≡ rows_to → FoundOn n path.actions from to evidence →
+      IsEvidenceFor (sites_in w) (states_in w) path evidence
   found_on n from to evidence e f t h =
-      subst (λ (s : State). FoundFrom live path rows_from s evidence) t
-      (subst (λ (s : State). FoundFrom live path s to evidence) f (subst (λ (k : ℕ). FoundFrom k path from to evidence) e (h path refl)))
+      subst (λ (s : RowsAtPoint). IsEvidenceFrom live path rows_from s evidence) t
+      (subst (λ (s : RowsAtPoint). IsEvidenceFrom live path s to evidence) f (subst (λ (k : ℕ). IsEvidenceFrom k path from to evidence) e (h path refl)))
 
-  pub strains_on : (n : ℕ) (from to : State) → n ≡ live → from ≡ rows_from → to ≡ rows_to → StrainsOn n path.actions from to →
-      Strains (sites_in w) (states_in w) path
+  pub strains_on : (n : ℕ) (from to : RowsAtPoint) → n ≡ live → from ≡ rows_from → to ≡ rows_to → StrainsOn n path.actions from to →
+      StrainsAlong (sites_in w) (states_in w) path
   strains_on n from to e f t h =
-      subst (λ (s : State). StrainsFrom live path rows_from s) t
-      (subst (λ (s : State). StrainsFrom live path s to) f (subst (λ (k : ℕ). StrainsFrom k path from to) e (h path refl)))
+      subst (λ (s : RowsAtPoint). StrainsFrom live path rows_from s) t
+      (subst (λ (s : RowsAtPoint). StrainsFrom live path s to) f (subst (λ (k : ℕ). StrainsFrom k path from to) e (h path refl)))
 
   -- from an empty one nothing is said
-  pub nothing_found : None ≡ rows_from → Found (sites_in w) (states_in w) path none
-  nothing_found e = subst (λ (s : State). FoundFrom live path s rows_to none) e refl
+  pub nothing_found : None ≡ rows_from → IsEvidenceFor (sites_in w) (states_in w) path none
+  nothing_found e = subst (λ (s : RowsAtPoint). IsEvidenceFrom live path s rows_to none) e refl
 
-  pub adds_path : (evidence : Evidence) (old middle new : List ℕ) → Found (sites_in w) (states_in w) path evidence →
+  pub adds_path : (evidence : Evidence) (old middle new : List ℕ) → IsEvidenceFor (sites_in w) (states_in w) path evidence →
       middle ≡ old ++ text_line (edge_text path) →
       new ≡ middle ++ evidence_text evidence → AddsPaths w edge_lines (path ∷ []) old new
   adds_path evidence old middle new found first e =
-      adds_one (Found (sites_in w) (states_in w)) edge_lines path evidence old new found
+      adds_one (IsEvidenceFor (sites_in w) (states_in w)) edge_lines path evidence old new found
       (e ∙ ap (λ (t : List ℕ). t ++ evidence_text evidence) first ∙ append_assoc old (text_line (edge_text path)) (evidence_text evidence))
 
-  pub path_stops : Strains (sites_in w) (states_in w) path → SomePathStops w (path ∷ [])
-  path_stops h = (path, stops_one (Found (sites_in w) (states_in w)) edge_lines (Strains (sites_in w) (states_in w)) path h)
+  pub path_stops : StrainsAlong (sites_in w) (states_in w) path → SomePathStops w (path ∷ [])
+  path_stops h = (path, stops_one (IsEvidenceFor (sites_in w) (states_in w)) edge_lines (StrainsAlong (sites_in w) (states_in w)) path h)
 
 -- ---- which path stops
-stops_at : (w : Ways) (p : ℕ) (goal : Goal) (path : Path) → StopsIn (sites_in w) (states_in w) (paths_to w p goal) path → (path.source ≡ p) × (path.goal ≡ goal)
+stops_at : (w : AnnotatedProgram) (p : ℕ) (goal : Goal) (path : Path) → StopsIn (sites_in w) (states_in w) (paths_to w p goal) path →
+    (path.source ≡ p) × (path.goal ≡ goal)
 stops_at w p goal path h =
-    let from = map_from (path_by p goal) (led_by w p goal) path
-    (stops_has (Found (sites_in w) (states_in w)) (Strains (sites_in w) (states_in w)) (paths_to w p goal) path h) in
+    let from = map_from (path_by p goal) (actions_by w p goal) path
+    (stops_has (IsEvidenceFor (sites_in w) (states_in w)) (StrainsAlong (sites_in w) (states_in w)) (paths_to w p goal) path h) in
     (ap (λ (x : Path). x.source) (sym from.2), ap (λ (x : Path). x.goal) (sym from.2))
 
-pub edge_stops : (w : Ways) (p q : ℕ) → SomePathStops w (paths_to w p (comes_to q)) → SomeStops w (paths_to w p (comes_to q)) (Edge p q)
+pub edge_stops : (w : AnnotatedProgram) (p q : ℕ) → SomePathStops w (paths_to w p (comes_to q)) → SomeStops w (paths_to w p (comes_to q)) (Edge p q)
 edge_stops w p q (path, h) = (path, stops_at w p (comes_to q) path h, h)
 
-pub failed_edge : (w : Ways) (p q : ℕ) (e : PathFailure) → IfStrained (SomePathStops w (paths_to w p (comes_to q))) e →
+pub failed_edge : (w : AnnotatedProgram) (p q : ℕ) (e : PathFailure) → IfStrained (SomePathStops w (paths_to w p (comes_to q))) e →
     IfStopped (SomeStops w (paths_to w p (comes_to q))) (failed_at (Edge p q) e)
 failed_edge w p q of_path.Strained h = edge_stops w p q h
 failed_edge w p q of_path.Memory h = tt
 
 -- ---- paths that stay, out of a longer list
-pub stay_first : (w : Ways) (xs us all : List Path) → all ≡ xs ++ us → AllStay w all → AllStay w xs
+pub stay_first : (w : AnnotatedProgram) (xs us all : List Path) → all ≡ xs ++ us → AllAreInductive w all → AllAreInductive w xs
 stay_first w xs us all e h = λ path k. h path (subst (λ (l : List Path). Contains l path) (sym e) (Contains-append_left xs us path k))
 
 -- ---- to where an assertion is false
-none_each : (w : Ways) (p q : ℕ) (lists : List (List Action)) → None ≡ state_from (states_in w) p →
-    AddsPaths w denial_lines (map (path_by p (violates q)) lists) [] []
+none_each : (w : AnnotatedProgram) (p q : ℕ) (lists : List (List Action)) → None ≡ state_from (states_in w) p →
+    AddsPaths w violation_lines (map (path_by p (violates q)) lists) [] []
 none_each w p q [] e = record { found = []; are = tt; text = refl }
 none_each w p q (steps ∷ lists) e =
     let rest = none_each w p q lists e in
     record { found = none ∷ rest.found; are = (nothing_found w (path_by p (violates q) steps) e, rest.are); text = rest.text }
 
-pub none_denied : (w : Ways) (p q : ℕ) (text : List ℕ) → None ≡ state_from (states_in w) p → AddsPaths w denial_lines (paths_to w p (violates q)) text text
+pub none_denied : (w : AnnotatedProgram) (p q : ℕ) (text : List ℕ) → None ≡ state_from (states_in w) p →
+    AddsPaths w violation_lines (paths_to w p (violates q)) text text
 none_denied w p q text e =
-    let all = none_each w p q (led_by w p (violates q)) e in
+    let all = none_each w p q (actions_by w p (violates q)) e in
     record { found = all.found; are = all.are; text = sym (append-nil text) ∙ ap (λ (t : List ℕ). text ++ t) all.text }
 
-module _ (w : Ways) (p q n : ℕ) (rows : List LinearRow) (is : n ≡ live_by (sites_in w) p) (from : Some rows ≡ state_from (states_in w) p) where
-  denied_each : (lists : List (List Action)) (found : List Evidence) → Each (FoundDead n rows) lists found →
-      Each (Found (sites_in w) (states_in w)) (map (path_by p (violates q)) lists) found
+module _ (w : AnnotatedProgram) (p q n : ℕ) (rows : List LinearRow) (is : n ≡ live_by (sites_in w) p) (from : Some rows ≡ state_from (states_in w) p) where
+  denied_each : (lists : List (List Action)) (found : List Evidence) → Each (IsInfeasibleEvidence n rows) lists found →
+      Each (IsEvidenceFor (sites_in w) (states_in w)) (map (path_by p (violates q)) lists) found
   denied_each [] [] h = tt
   denied_each [] (e ∷ es) h = absurd h
   denied_each (steps ∷ lists) [] h = absurd h
@@ -145,21 +150,22 @@ module _ (w : Ways) (p q n : ℕ) (rows : List LinearRow) (is : n ≡ live_by (s
       (found_on w (path_by p (violates q) steps) n (Some rows) None e is from refl h.0, denied_each lists es h.1)
 
   denied_text : (lists : List (List Action)) (found : List Evidence) → each_text (λ steps evidence. evidence_text evidence) lists found ≡
-      each_text denial_lines (map (path_by p (violates q)) lists) found
+      each_text violation_lines (map (path_by p (violates q)) lists) found
   denied_text [] found = refl
   denied_text (steps ∷ lists) [] = refl
   denied_text (steps ∷ lists) (e ∷ es) = ap (λ (t : List ℕ). evidence_text e ++ t) (denied_text lists es)
 
-  pub denied_adds : (lists : List (List Action)) (old new : List ℕ) → lists ≡ led_by w p (violates q) → AddsDead n rows lists old new →
-      AddsPaths w denial_lines (paths_to w p (violates q)) old new
+  pub denied_adds : (lists : List (List Action)) (old new : List ℕ) → lists ≡ actions_by w p (violates q) → AddsDead n rows lists old new →
+      AddsPaths w violation_lines (paths_to w p (violates q)) old new
   denied_adds lists old new e h =
-      subst (λ (l : List (List Action)). AddsPaths w denial_lines (map (path_by p (violates q)) l) old new) e (record {
+      subst (λ (l : List (List Action)). AddsPaths w violation_lines (map (path_by p (violates q)) l) old new) e (record {
         found = h.found;
         are = denied_each lists h.found h.are;
         text = h.text ∙ ap (λ (t : List ℕ). old ++ t) (denied_text lists h.found);
       })
 
-  pub denied_stops : (lists : List (List Action)) → lists ≡ led_by w p (violates q) → SomeDeadStops n rows lists → SomePathStops w (paths_to w p (violates q))
+  pub denied_stops : (lists : List (List Action)) → lists ≡ actions_by w p (violates q) → SomeDeadStops n rows lists →
+      SomePathStops w (paths_to w p (violates q))
   denied_stops lists e (steps, h) =
       subst (λ (l : List (List Action)). SomePathStops w (map (path_by p (violates q)) l)) e (
         path_by p (violates q) steps,
@@ -183,26 +189,26 @@ range_has a (suc n) i low high =
           (contains_head a (range_with_len (a + 1) n))
     ]
 
-module _ (w : Ways) where
-  pub stay_to : (p q : ℕ) → q < length w.sites.now → AllStay w (paths_from w p) → AllStay w (paths_to w p (comes_to q))
+module _ (w : AnnotatedProgram) where
+  pub stay_to : (p q : ℕ) → q < length w.sites.now → AllAreInductive w (paths_from w p) → AllAreInductive w (paths_to w p (comes_to q))
   stay_to p q h stay = λ path k.
       stay path (flat_map_has (λ r. paths_to w p (comes_to r)) (range_with_len 0 (length w.sites.now)) q path
       (range_has 0 (length w.sites.now) q (omega arith) (omega (arith, h))) k)
 
-  pub stay_from : (p : ℕ) → p < length w.sources.now → AllStay w (all_paths w) → AllStay w (paths_from w p)
+  pub stay_from : (p : ℕ) → p < length w.sources.now → AllAreInductive w (all_paths w) → AllAreInductive w (paths_from w p)
   stay_from p h stay = λ path k.
       stay path (flat_map_has (paths_from w) (range_with_len 0 (length w.sources.now)) p path
       (range_has 0 (length w.sources.now) p (omega arith) (omega (arith, h))) k)
 
-  pub stay_denied : (q p : ℕ) → p < length w.sources.now → AllStay w (denied_paths w q) → AllStay w (paths_to w p (violates q))
+  pub stay_denied : (q p : ℕ) → p < length w.sources.now → AllAreInductive w (violating_paths w q) → AllAreInductive w (paths_to w p (violates q))
   stay_denied q p h stay = λ path k.
       stay path (flat_map_has (λ r. paths_to w r (violates q)) (range_with_len 0 (length w.sources.now)) p path
       (range_has 0 (length w.sources.now) p (omega arith) (omega (arith, h))) k)
 
-  pub stay_path : (f : List Action → Path) (lists : List (List Action)) (steps : List Action) → Contains lists steps → AllStay w (map f lists) →
-      AllStay w (f steps ∷ [])
+  pub stay_path : (f : List Action → Path) (lists : List (List Action)) (steps : List Action) → Contains lists steps → AllAreInductive w (map f lists) →
+      AllAreInductive w (f steps ∷ [])
   stay_path f lists steps k stay = λ path h.
-      subst (λ (x : Path). Stays (sites_in w) (states_in w) x) (only (f steps) path (contains_cases (f steps) path [] h))
+      subst (λ (x : Path). IsInductiveAlong (sites_in w) (states_in w) x) (only (f steps) path (contains_cases (f steps) path [] h))
       (stay (f steps) (map_has f lists steps k))
     where
       only : (x path : Path) → (x ≡ path) ⊎ Contains [] path → x ≡ path
@@ -218,14 +224,15 @@ list_has paths i p steps h is e =
     (map_has (λ v. all_done v.items) paths p (subst (λ (v : Vec (Bor Change) Global). Contains paths v) (sym is) (Contains-get_or paths i p h)))
 
 -- ---- one after the other
-module _ (w : Ways) (show : Path → Evidence → List ℕ) (xs us rest all : List Path) (is : rest ≡ xs ++ us) (now start : List ℕ)
+module _ (w : AnnotatedProgram) (show : Path → Evidence → List ℕ) (xs us rest all : List Path) (is : rest ≡ xs ++ us) (now start : List ℕ)
     (left : PathsLeft w show rest all now start) where
   pub paths_next : (next : List ℕ) → AddsPaths w show xs now next → PathsLeft w show us all next start
   paths_next next h =
-      left_next (Found (sites_in w) (states_in w)) show (Strains (sites_in w) (states_in w)) xs us rest all is now start left next h
+      left_next (IsEvidenceFor (sites_in w) (states_in w)) show (StrainsAlong (sites_in w) (states_in w)) xs us rest all is now start left next h
 
   stops_all : (path : Path) → StopsIn (sites_in w) (states_in w) xs path → StopsIn (sites_in w) (states_in w) all path
-  stops_all path h = left_stops (Found (sites_in w) (states_in w)) show (Strains (sites_in w) (states_in w)) xs us rest all is now start left path h
+  stops_all path h = left_stops (IsEvidenceFor (sites_in w) (states_in w)) show (StrainsAlong (sites_in w) (states_in w)) xs us rest all is now start left path
+      h
 
   pub paths_stop : {X : Type 0} (r : Result X PathFailure) (e : PathFailure) → IsErrAnd r (λ y. y ≡ e) → IfStrained (SomePathStops w xs) e →
       IfErr r (IfStrained (SomePathStops w all))
@@ -239,13 +246,14 @@ module _ (w : Ways) (show : Path → Evidence → List ℕ) (xs us rest all : Li
       exit_with (IfStopped (SomeStops w all)) r e out
       (stopped_weaker (SomeStops w xs) (SomeStops w all) e (λ at x. (x.0, x.1, stops_all x.0 x.2)) h)
 
-pub paths_begin : (w : Ways) (show : Path → Evidence → List ℕ) (all : List Path) (start : List ℕ) → PathsLeft w show all all start start
-paths_begin w show all start = left_all (Found (sites_in w) (states_in w)) show (Strains (sites_in w) (states_in w)) all start
+pub paths_begin : (w : AnnotatedProgram) (show : Path → Evidence → List ℕ) (all : List Path) (start : List ℕ) → PathsLeft w show all all start start
+paths_begin w show all start = left_all (IsEvidenceFor (sites_in w) (states_in w)) show (StrainsAlong (sites_in w) (states_in w)) all start
 
-pub paths_end : (w : Ways) (show : Path → Evidence → List ℕ) (rest all : List Path) (now start : List ℕ) → rest ≡ [] → PathsLeft w show rest all now start →
+pub paths_end : (w : AnnotatedProgram) (show : Path → Evidence → List ℕ) (rest all : List Path) (now start : List ℕ) → rest ≡ [] →
+    PathsLeft w show rest all now start →
     AddsPaths w show all start now
 paths_end w show rest all now start nil left =
-    left_end (Found (sites_in w) (states_in w)) show (Strains (sites_in w) (states_in w)) rest all now start nil left
+    left_end (IsEvidenceFor (sites_in w) (states_in w)) show (StrainsAlong (sites_in w) (states_in w)) rest all now start nil left
 
 -- the numbers of sources, and of points
 pub numbers_flat : (f : ℕ → List Path) (i n : ℕ) → i < n → flat_map f (range_with_len i (n - i)) ≡ f i ++ flat_map f (range_with_len (i + 1) (n - (i + 1)))
@@ -266,23 +274,23 @@ pub no_paths : (f : List Action → Path) (paths : List (Vec (Bor Change) Global
 no_paths f paths i h = ap (λ (l : List (List Action)). map f l) (lists_end paths i h)
 
 -- ---- to where an assertion is false: of a source, and of all
-pub dead_one : (n : ℕ) (rows : List LinearRow) (steps : List Action) (old new : List ℕ) → Adds (FoundOn n steps (Some rows) None) old new →
+pub dead_one : (n : ℕ) (rows : List LinearRow) (steps : List Action) (old new : List ℕ) → AddsEvidence (FoundOn n steps (Some rows) None) old new →
     AddsDead n rows (steps ∷ []) old new
-dead_one n rows steps old new h = adds_one (FoundDead n rows) (λ s evidence. evidence_text evidence) steps h.evidence old new h.is h.text
+dead_one n rows steps old new h = adds_one (IsInfeasibleEvidence n rows) (λ s evidence. evidence_text evidence) steps h.evidence old new h.is h.text
 
 module _ (n : ℕ) (rows : List LinearRow) where
   pub dead_begin : (all : List (List Action)) (start : List ℕ) → DeadLeft n rows all all start start
-  dead_begin all start = left_all (FoundDead n rows) (λ s evidence. evidence_text evidence) (StrainsDead n rows) all start
+  dead_begin all start = left_all (IsInfeasibleEvidence n rows) (λ s evidence. evidence_text evidence) (StrainsDead n rows) all start
 
   pub dead_end : (rest all : List (List Action)) (now start : List ℕ) → rest ≡ [] → DeadLeft n rows rest all now start → AddsDead n rows all start now
   dead_end rest all now start nil left =
-      left_end (FoundDead n rows) (λ s evidence. evidence_text evidence) (StrainsDead n rows) rest all now start nil left
+      left_end (IsInfeasibleEvidence n rows) (λ s evidence. evidence_text evidence) (StrainsDead n rows) rest all now start nil left
 
   module _ (steps : List Action) (us rest all : List (List Action)) (is : rest ≡ steps ∷ us) (now start : List ℕ)
       (left : DeadLeft n rows rest all now start) where
-    pub dead_next : (next : List ℕ) → Adds (FoundOn n steps (Some rows) None) now next → DeadLeft n rows us all next start
+    pub dead_next : (next : List ℕ) → AddsEvidence (FoundOn n steps (Some rows) None) now next → DeadLeft n rows us all next start
     dead_next next h =
-        left_next (FoundDead n rows) (λ s evidence. evidence_text evidence) (StrainsDead n rows) (steps ∷ []) us rest all is now start left next
+        left_next (IsInfeasibleEvidence n rows) (λ s evidence. evidence_text evidence) (StrainsDead n rows) (steps ∷ []) us rest all is now start left next
         (dead_one n rows steps now next h)
 
     pub dead_stop : {X : Type 0} (r : Result X PathFailure) (e : PathFailure) → IsErrAnd r (λ y. y ≡ e) →
@@ -292,31 +300,31 @@ module _ (n : ℕ) (rows : List LinearRow) where
         (strained_weaker (StrainsOn n steps (Some rows) None) (SomeDeadStops n rows all) e
         (λ x. (
           steps,
-          left_stops (FoundDead n rows) (λ s evidence. evidence_text evidence) (StrainsDead n rows) (steps ∷ []) us rest all is now start left steps
-              (stops_one (FoundDead n rows) (λ s evidence. evidence_text evidence) (StrainsDead n rows) steps x),
+          left_stops (IsInfeasibleEvidence n rows) (λ s evidence. evidence_text evidence) (StrainsDead n rows) (steps ∷ []) us rest all is now start left steps
+              (stops_one (IsInfeasibleEvidence n rows) (λ s evidence. evidence_text evidence) (StrainsDead n rows) steps x),
         )) h)
 
 -- ---- assertions
-denial_texts : (Is : Path → Evidence → Type 0) (paths : List Path) (found : List Evidence) → Each Is paths found → each_text denial_lines paths found ≡
+denial_texts : (Is : Path → Evidence → Type 0) (paths : List Path) (found : List Evidence) → Each Is paths found → each_text violation_lines paths found ≡
     flat_map evidence_text found
 denial_texts Is [] [] h = refl
 denial_texts Is [] (e ∷ es) h = absurd h
 denial_texts Is (path ∷ paths) [] h = absurd h
 denial_texts Is (path ∷ paths) (e ∷ es) h = ap (λ (t : List ℕ). evidence_text e ++ t) (denial_texts Is paths es h.1)
 
-module _ (w : Ways) where
-  abbrev list_text : ℕ → Listed → List ℕ
+module _ (w : AnnotatedProgram) where
+  abbrev list_text : ℕ → ListedAssertion → List ℕ
   list_text q one = listed_text one
 
-  pub one_listed : (q : ℕ) (old first new : List ℕ) → first ≡ old ++ text_line (assert_text q) → AddsPaths w denial_lines (denied_paths w q) first new →
+  pub one_listed : (q : ℕ) (old first new : List ℕ) → first ≡ old ++ text_line (assert_text q) → AddsPaths w violation_lines (violating_paths w q) first new →
       AddsListed w (q ∷ []) old new
   one_listed q old first new a h =
-      let one : Listed = record { number = q; evidence = h.found } in
+      let one : ListedAssertion = record { number = q; evidence = h.found } in
       adds_one (IsListed w) list_text q one old new (refl, h.are)
-      (h.text ∙ ap (λ (t : List ℕ). first ++ t) (denial_texts (Found (sites_in w) (states_in w)) (denied_paths w q) h.found h.are) ∙
+      (h.text ∙ ap (λ (t : List ℕ). first ++ t) (denial_texts (IsEvidenceFor (sites_in w) (states_in w)) (violating_paths w q) h.found h.are) ∙
       ap (λ (t : List ℕ). t ++ flat_map evidence_text h.found) a ∙ append_assoc old (text_line (assert_text q)) (flat_map evidence_text h.found))
 
-  pub failed_assertion : (q : ℕ) (e : PathFailure) → IfStrained (SomePathStops w (denied_paths w q)) e →
+  pub failed_assertion : (q : ℕ) (e : PathFailure) → IfStrained (SomePathStops w (violating_paths w q)) e →
       IfStopped (ListStops w (q ∷ [])) (failed_at (Assertion q) e)
   failed_assertion q of_path.Strained h = (q, refl, stops_one (IsListed w) list_text (AssertionStops w) q h)
   failed_assertion q of_path.Memory h = tt
@@ -352,10 +360,10 @@ list_first paths i p steps h is e =
     lists_next paths i p h is ∙ ap (λ (s : List Action). s ∷ lists_done (drop (i + 1) paths)) (sym e)
 
 -- ---- a path from a source that isn't empty, as its lines are told
-module _ (w : Ways) (path : Path) (n : ℕ) (from to : State) (live_is : n ≡ live_by (sites_in w) path.source)
+module _ (w : AnnotatedProgram) (path : Path) (n : ℕ) (from to : RowsAtPoint) (live_is : n ≡ live_by (sites_in w) path.source)
     (from_is : from ≡ state_from (states_in w) path.source) (to_is : to ≡ state_to (states_in w) path.goal) where
   pub path_adds : {X : Type 0} (old middle new : List ℕ) → middle ≡ old ++ text_line (edge_text path) → (r : Result X PathFailure) →
-      OnOk r (Adds (FoundOn n path.actions from to) middle new) → OnOk r (AddsPaths w edge_lines (path ∷ []) old new)
+      OnOk r (AddsEvidence (FoundOn n path.actions from to) middle new) → OnOk r (AddsPaths w edge_lines (path ∷ []) old new)
   path_adds old middle new first (Ok x) h =
       adds_path w path h.evidence old middle new (found_on w path n from to h.evidence live_is from_is to_is h.is) first h.text
   path_adds old middle new first (Err e) h = tt
@@ -368,21 +376,21 @@ module _ (w : Ways) (path : Path) (n : ℕ) (from to : State) (live_is : n ≡ l
       (λ s. path_stops w path (strains_on w path n from to live_is from_is to_is s)) h
 
 -- ---- the paths that a source's table has for a goal
-pub led_lists : (w : Ways) (p : ℕ) (goal : Goal) (s : Source) (lists : List (List Action)) → slice_get w.sources.now p ≡ Some s →
-    lists ≡ to_goal s.entries.items s.segments.items goal → lists ≡ led_by w p goal
-led_lists w p goal s lists got led = led ∙ ap (λ (o : Option Source). led_from o goal) (sym got)
+pub led_lists : (w : AnnotatedProgram) (p : ℕ) (goal : Goal) (s : Source) (lists : List (List Action)) → slice_get w.sources.now p ≡ Some s →
+    lists ≡ to_goal s.entries.items s.segments.items goal → lists ≡ actions_by w p goal
+led_lists w p goal s lists got led = led ∙ ap (λ (o : Option Source). actions_out_of o goal) (sym got)
 
 -- ---- to where an assertion is false, from a source that isn't empty, as it is handed on
-module _ (w : Ways) (p q n : ℕ) (rows : List LinearRow) (is : n ≡ live_by (sites_in w) p) (from : Some rows ≡ state_from (states_in w) p)
-    (lists : List (List Action)) (led : lists ≡ led_by w p (violates q)) where
-  pub denied_stay : AllStay w (paths_to w p (violates q)) → AllDead n rows lists
+module _ (w : AnnotatedProgram) (p q n : ℕ) (rows : List LinearRow) (is : n ≡ live_by (sites_in w) p) (from : Some rows ≡ state_from (states_in w) p)
+    (lists : List (List Action)) (led : lists ≡ actions_by w p (violates q)) where
+  pub denied_stay : AllAreInductive w (paths_to w p (violates q)) → AllDead n rows lists
   denied_stay stay = λ steps k.
       let path = path_by p (violates q) steps in
       stays_on w path n (Some rows) None is from refl
-      (stay_path w (path_by p (violates q)) (led_by w p (violates q)) steps (subst (λ (l : List (List Action)). Contains l steps) led k) stay)
+      (stay_path w (path_by p (violates q)) (actions_by w p (violates q)) steps (subst (λ (l : List (List Action)). Contains l steps) led k) stay)
 
   pub denied_told : {X : Type 0} (old new : List ℕ) (r : Result X PathFailure) → OnOk r (AddsDead n rows lists old new) →
-      OnOk r (AddsPaths w denial_lines (paths_to w p (violates q)) old new)
+      OnOk r (AddsPaths w violation_lines (paths_to w p (violates q)) old new)
   denied_told old new (Ok x) h = denied_adds w p q n rows is from lists old new led h
   denied_told old new (Err e) h = tt
 

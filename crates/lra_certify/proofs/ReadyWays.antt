@@ -13,15 +13,15 @@ use Rattle.lra_path_segments.specs.Segments.{Goal}
 use Rattle.lra_path_disjuncts.specs.Tables.{IsTable}
 use Rattle.lra_paths.specs.Paths.{actions_between_in, AreFewIn}
 use Rattle.lra_paths.specs.declared.sources.Source.{Source}
-use Rattle.lra_verify.specs.EdgeViews.{AreWays, led_from, sites_in}
+use Rattle.lra_verify.specs.EdgeViews.{IsAnnotatedProgram, actions_out_of, sites_in}
 use Rattle.lra_verify.specs.PointViews.{HaveDims}
 use Rattle.lra_verify.specs.SourceViews.{AreSources, LeadAs}
-use Rattle.lra_verify.specs.declared.ways.Ways.{Ways}
+use Rattle.lra_verify.specs.declared.annotated.AnnotatedProgram.{AnnotatedProgram}
 use Rattle.lra_verify.proofs.VerifySteps.{ways_ready, sources_ready, lead_ready}
 
-ways_are : (w : Ways) (items : List declared.Site) → w.sites.now ≡ items → w.start.now.rows ≡ [] → w.start.now.dims ≡ 0 →
+ways_are : (w : AnnotatedProgram) (items : List declared.Site) → w.sites.now ≡ items → w.start.now.rows ≡ [] → w.start.now.dims ≡ 0 →
     length w.states.now ≡ length items → HaveDims (map site_view items) w.states.now → AreSources (length w.sites.now) w.sources.now →
-    length items < 2 ^ 31 → All (λ s. s.live < 2 ^ 31) items → AreWays w
+    length items < 2 ^ 31 → All (λ s. s.live < 2 ^ 31) items → IsAnnotatedProgram w
 ways_are w items is none no_dims count dims sources short live =
     ways_ready w w.states.now none no_dims refl (count ∙ ap (λ (l : List declared.Site). length l) (sym is))
     (subst (λ (l : List declared.Site). HaveDims (map site_view l) w.states.now) (sym is) dims) sources
@@ -29,20 +29,20 @@ ways_are w items is none no_dims count dims sources short live =
     (subst (λ (l : List declared.Site). All (λ s. s.live < 2 ^ 31) l) (sym is) live)
 
 -- what is asked of ways that are written
-pub record AreReady (P : Program) (g : Node) (w : Ways) : Type 0 where
-  pub ways : AreWays w
+pub record AreReady (P : Program) (g : Node) (w : AnnotatedProgram) : Type 0 where
+  pub ways : IsAnnotatedProgram w
   pub sites : sites_in w ≡ sites_of P
   pub lead : LeadAs P g w.sources.now
 
-pub many_points : (P : Program) (g : Node) (w : Ways) → AreReady P g w → length (sites_of P) ≡ length w.sites.now
+pub many_points : (P : Program) (g : Node) (w : AnnotatedProgram) → AreReady P g w → length (sites_of P) ≡ length w.sites.now
 many_points P g w ready = ap length (sym ready.sites) ∙ length-map w.sites.now site_view
 
 -- of the points `all` of the graph, with the paths found over `globals` and `sites`, and the sources `items` of these
-module _ (P : Program) (g : Node) (w : Ways) (globals given : List GlobalVariable) (sites all : List declared.Site) (items : List Source)
+module _ (P : Program) (g : Node) (w : AnnotatedProgram) (globals given : List GlobalVariable) (sites all : List declared.Site) (items : List Source)
     (of_globals : globals ≡ given) (given_is : given ≡ P.globals) (of_sites : sites ≡ all) (seen : w.sites.now ≡ all)
     (sites_are : map site_view all ≡ sites_of P) (few : AreFewIn given (map site_view all) g) where
   pub are_ready : w.sources.now ≡ items → length items ≡ suc (length sites) → All (λ s. IsTable s.entries.items) items →
-      ((p : ℕ) (goal : Goal) → p ≤ length sites → led_from (slice_get items p) goal ≡ actions_between_in globals (map site_view sites) g p goal) →
+      ((p : ℕ) (goal : Goal) → p ≤ length sites → actions_out_of (slice_get items p) goal ≡ actions_between_in globals (map site_view sites) g p goal) →
       w.start.now.rows ≡ [] → w.start.now.dims ≡ 0 → length w.states.now ≡ length all → HaveDims (map site_view all) w.states.now →
       length all < 2 ^ 31 → All (λ s. s.live < 2 ^ 31) all → AreReady P g w
   are_ready same count tables leads none no_dims states dims short live = record {

@@ -19,11 +19,11 @@ use Rattle.lra_program.specs.Sites.{Site}
 use Rattle.lra_paths.specs.Paths.{path_by}
 use Rattle.lra_path_segments.specs.Segments.{comes_to}
 use Rattle.lra_multipliers.specs.Multipliers.{Multipliers}
-use Rattle.lra_certificate.specs.Certificates.{IsPointRow, IsState, AreStates}
-use Rattle.lra_certificate.specs.CertificateText.{text_line, numbers_text, relation_text, row_text, point_text, state_text, states_text, multipliers_text}
-use Rattle.lra_certificate.specs.CertificateText.{edge_text}
-use Rattle.lra_certificate.specs.Judged.{State}
-use Rattle.lra_lines.specs.TrackViews.{rows_of}
+use Rattle.lra_certificate_spec.specs.Certificates.{IsPointRow, IsState, AreStates}
+use Rattle.lra_certificate_spec.specs.CertificateText.{text_line, numbers_text, relation_text, row_text, point_text, state_text, states_text, multipliers_text}
+use Rattle.lra_certificate_spec.specs.CertificateText.{edge_text}
+use Rattle.lra_certificate_spec.specs.Judged.{RowsAtPoint}
+use Rattle.lra_certificate_lines.specs.PathCheckViews.{target_rows}
 use Rattle.lra_verify.specs.PointViews.{state_view, HaveDims}
 use Rattle.lra_certify.specs.Lines.{rows_text, ArePointRows, HasPointRows}
 
@@ -68,15 +68,15 @@ point_rows rows seen is w h =
     (λ r m. All-contains (All InRange) seen r h m))
 
 -- ---- points
-module _ (t0 t1 all : List ℕ) (n : ℕ) (s : State) (rest here : List State) (is : here ≡ s ∷ rest) (before : t0 ++ states_text n here ≡ all)
+module _ (t0 t1 all : List ℕ) (n : ℕ) (s : RowsAtPoint) (rest here : List RowsAtPoint) (is : here ≡ s ∷ rest) (before : t0 ++ states_text n here ≡ all)
     (written : t1 ≡ t0 ++ state_text n s) where
   pub states_left : t1 ++ states_text (suc n) rest ≡ all
   states_left =
       ap (λ (t : List ℕ). t ++ states_text (suc n) rest) written ∙ append_assoc t0 (state_text n s) (states_text (suc n) rest) ∙
-      ap (λ (ss : List State). t0 ++ states_text n ss) (sym is) ∙ before
+      ap (λ (ss : List RowsAtPoint). t0 ++ states_text n ss) (sym is) ∙ before
 
-pub states_end : (t all : List ℕ) (n : ℕ) (here : List State) → here ≡ [] → t ++ states_text n here ≡ all → t ≡ all
-states_end t all n here none before = sym (append-nil t) ∙ ap (λ (ss : List State). t ++ states_text n ss) (sym none) ∙ before
+pub states_end : (t all : List ℕ) (n : ℕ) (here : List RowsAtPoint) → here ≡ [] → t ++ states_text n here ≡ all → t ≡ all
+states_end t all n here none before = sym (append-nil t) ∙ ap (λ (ss : List RowsAtPoint). t ++ states_text n ss) (sym none) ∙ before
 
 -- they are as wide as their points
 is_state : (live : ℕ) (o : Option (LinearSystem ConKind)) → ((rows : LinearSystem ConKind) → o ≡ Some rows → rows.dims ≡ live) → HasPointRows o →
@@ -139,16 +139,16 @@ rows_written old first new n rows a b =
 -- ---- as they are handed on
 module _ {X E : Type 0} (old new : List ℕ) (n : ℕ) (o : Option (Bor (LinearSystem ConKind))) where
   pub empty_told : (r : Result X E) → o ≡ None → OnOk r (new ≡ old ++ (codes "point " ++ (decimal n ++ codes " empty\n"))) →
-      OnOk r (new ≡ old ++ state_text n (rows_of o))
+      OnOk r (new ≡ old ++ state_text n (target_rows o))
   empty_told r is h =
-      on_ok_weaker r (λ e. empty_written old new n e ∙ ap (λ (x : Option (Bor (LinearSystem ConKind))). old ++ state_text n (rows_of x)) (sym is)) h
+      on_ok_weaker r (λ e. empty_written old new n e ∙ ap (λ (x : Option (Bor (LinearSystem ConKind))). old ++ state_text n (target_rows x)) (sym is)) h
 
   pub rows_told : (rows : Bor (LinearSystem ConKind)) → o ≡ Some rows → (first : List ℕ) → first ≡ old ++ (codes "point " ++ (decimal n ++ codes "\n")) →
-      (r : Result X E) → OnOk r (new ≡ first ++ rows_text (constraints rows.now)) → OnOk r (new ≡ old ++ state_text n (rows_of o))
+      (r : Result X E) → OnOk r (new ≡ first ++ rows_text (constraints rows.now)) → OnOk r (new ≡ old ++ state_text n (target_rows o))
   rows_told rows is first a r h =
       on_ok_weaker r
       (λ e. rows_written old first new n (constraints rows.now) (numbered_written (codes "point ") old first n n refl a) e ∙
-      ap (λ (x : Option (Bor (LinearSystem ConKind))). old ++ state_text n (rows_of x)) (sym is)) h
+      ap (λ (x : Option (Bor (LinearSystem ConKind))). old ++ state_text n (target_rows x)) (sym is)) h
 
 pub fit_none : {X E : Type 0} (r : Result X E) (o : Option (Bor (LinearSystem ConKind))) → o ≡ None → OnOk r (IfSome o (λ x. ArePointRows x.now))
 fit_none (Ok x) o is = subst (λ (p : Option (Bor (LinearSystem ConKind))). IfSome p (λ x. ArePointRows x.now)) (sym is) tt
@@ -162,7 +162,7 @@ fit_some (Err e) o rows is h = tt
 
 -- a point of a list as the code takes it
 module _ (r : Option (Bor (LinearSystem ConKind))) (o : Option (LinearSystem ConKind)) (is : option_copied r ≡ o) where
-  here_seen : (x : Option (Bor (LinearSystem ConKind))) → rows_of x ≡ state_view (option_copied x)
+  here_seen : (x : Option (Bor (LinearSystem ConKind))) → target_rows x ≡ state_view (option_copied x)
   here_seen None = refl
   here_seen (Some rows) = refl
 
@@ -170,7 +170,7 @@ module _ (r : Option (Bor (LinearSystem ConKind))) (o : Option (LinearSystem Con
   here_fits None h = tt
   here_fits (Some rows) h = h
 
-  state_seen : rows_of r ≡ state_view o
+  state_seen : target_rows r ≡ state_view o
   state_seen = here_seen r ∙ ap state_view is
 
   state_fits : IfSome r (λ y. ArePointRows y.now) → HasPointRows o
@@ -184,11 +184,11 @@ module _ (r : Option (Bor (LinearSystem ConKind))) (o : Option (LinearSystem Con
         ap (λ (j : ℕ). state_view o ∷ map state_view (drop j xs)) (sym (add-one i))
 
     pub states_so_far : (old new all : List ℕ) → old ++ states_text (suc i) (map state_view (drop i xs)) ≡ all →
-        new ≡ old ++ state_text (i + 1) (rows_of r) → new ++ states_text (suc (i + 1)) (map state_view (drop (i + 1) xs)) ≡ all
+        new ≡ old ++ state_text (i + 1) (target_rows r) → new ++ states_text (suc (i + 1)) (map state_view (drop (i + 1) xs)) ≡ all
     states_so_far old new all before written =
         ap (λ (k : ℕ). new ++ states_text (suc k) (map state_view (drop (i + 1) xs))) (add-one i) ∙
         states_left old new all (suc i) (state_view o) (map state_view (drop (i + 1) xs)) (map state_view (drop i xs)) states_next before
-        (written ∙ ap (λ (k : ℕ). old ++ state_text k (rows_of r)) (add-one i) ∙ ap (λ (s : State). old ++ state_text (suc i) s) state_seen)
+        (written ∙ ap (λ (k : ℕ). old ++ state_text k (target_rows r)) (add-one i) ∙ ap (λ (s : RowsAtPoint). old ++ state_text (suc i) s) state_seen)
 
     pub fit_so_far : All HasPointRows (take i xs) → IfSome r (λ y. ArePointRows y.now) → All HasPointRows (take (i + 1) xs)
     fit_so_far before h =

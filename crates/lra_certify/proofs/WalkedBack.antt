@@ -13,11 +13,12 @@ use Rattle.lra_linear_spec.proofs.Products.{product_none}
 use Rattle.lra_linear_spec.proofs.UnitRows.{entry_product}
 use Rattle.lra_linear_forms.specs.Form.{form_row}
 use Rattle.lra_domain.specs.Actions.{Action, assign, forget, test, embed, remove_last}
-use Rattle.lra_multipliers.specs.Symbols.{symbol, symbols, composed, Walked, tests_too, gives, walked_by, walked, new_symbols, width_of, walk_of}
+use Rattle.lra_multipliers.specs.Symbols.{symbol, symbols, composed, SymbolicState, tests_too, gives, executed_action, executed, new_symbols, width_of}
+use Rattle.lra_multipliers.specs.Symbols.{executed_path}
 use Rattle.lra_multipliers.proofs.CheckSteps.{length_zeros}
-use Rattle.lra_certificate.specs.Certificates.{padded}
-use Rattle.lra_certificate.proofs.WalkedRows.{and_ok, ok_is, AreOfWidth, values, composed_from_value, symbols_values, all_put, all_behind, all_taken}
-use Rattle.lra_certificate.proofs.WalkedRows.{symbol_width, symbols_width}
+use Rattle.lra_certificate_spec.specs.Certificates.{padded}
+use Rattle.lra_certificate_spec.proofs.WalkedRows.{and_ok, ok_is, AreOfWidth, values, composed_from_value, symbols_values, all_put, all_behind, all_taken}
+use Rattle.lra_certificate_spec.proofs.WalkedRows.{symbol_width, symbols_width}
 use Rattle.lra_certify.specs.PointMoves.{PointLeadsAll}
 
 -- ---- the row of a form, and of a claim
@@ -29,11 +30,11 @@ composed_at n k cs forms row u w e =
 
 -- ---- paths
 -- the values of the forms, as a point
-abbrev pub point_at : List ℤ → Walked → List ℤ
+abbrev pub point_at : List ℤ → SymbolicState → List ℤ
 point_at u w = entry u 0 ∷ values u w.forms
 
 -- the tests so far hold, and the steps lead from the values of the forms to those behind them
-abbrev GoesBack : List ℤ → List Action → Walked → Walked → Type 0
+abbrev GoesBack : List ℤ → List Action → SymbolicState → SymbolicState → Type 0
 GoesBack u steps w x = Con w.tests u × PointLeadsAll steps (point_at u w) (point_at u x)
 
 count_symbols : (n free count : ℕ) → length (symbols n free count) ≡ count
@@ -41,7 +42,7 @@ count_symbols n free zero = refl
 count_symbols n free (suc count) = ap suc (count_symbols n (free + 1) count)
 
 module _ (n : ℕ) (u : List ℤ) where
-  put_point : (w : Walked) (i : ℕ) (row : List ℤ) (z : ℤ) → product row u ≡ z →
+  put_point : (w : SymbolicState) (i : ℕ) (row : List ℤ) (z : ℤ) → product row u ≡ z →
       entry u 0 ∷ values u (slice_set w.forms i row) ≡ slice_set (point_at u w) (suc i) z
   put_point w i row z e =
       ap (λ (ys : List ℤ). entry u 0 ∷ ys)
@@ -55,29 +56,29 @@ module _ (n : ℕ) (u : List ℤ) where
       (let l = length-map forms (λ (f : List ℤ). product f u) in
       let e : length forms - k ≡ suc (length (values u forms)) - suc k = omega (arith, l) in e)
 
-  goes_back : (steps : List Action) (w x : Walked) → AreOfWidth (suc n) w.forms → walked (suc n) steps w ≡ Ok x → Con x.tests u → GoesBack u steps w x
-  goes_back [] w x h a c = subst (λ (y : Walked). GoesBack u [] w y) (ok_is w x a)
-      (subst (λ (y : Walked). Con y.tests u) (sym (ok_is w x a)) c, refl)
+  goes_back : (steps : List Action) (w x : SymbolicState) → AreOfWidth (suc n) w.forms → executed (suc n) steps w ≡ Ok x → Con x.tests u → GoesBack u steps w x
+  goes_back [] w x h a c = subst (λ (y : SymbolicState). GoesBack u [] w y) (ok_is w x a)
+      (subst (λ (y : SymbolicState). Con y.tests u) (sym (ok_is w x a)) c, refl)
   goes_back (assign i e ∷ steps) w x h a c =
-      let first = and_ok (walked_by (suc n) (assign i e) w) (λ (next : Walked). walked (suc n) steps next) x a in
+      let first = and_ok (executed_action (suc n) (assign i e) w) (λ (next : SymbolicState). executed (suc n) steps next) x a in
       let made = and_ok (composed (suc n) (form_row e) w.forms) (λ (row : List ℤ). Ok (gives w i row)) first.0 first.1 in
       let value = composed_at n e.constant e.coefficients w.forms made.0 u h made.1 in
       let rest = goes_back steps (gives w i made.0) x (all_put (suc n) w.forms i made.0 value.0 h)
-      (subst (λ (y : Walked). walked (suc n) steps y ≡ Ok x) (sym (ok_is (gives w i made.0) first.0 made.2)) first.2) c in
+      (subst (λ (y : SymbolicState). executed (suc n) steps y ≡ Ok x) (sym (ok_is (gives w i made.0) first.0 made.2)) first.2) c in
       (rest.0, (point_at u (gives w i made.0), put_point w i made.0 (product (form_row e) (point_at u w)) value.1, rest.1))
   goes_back (forget i ∷ steps) w x h a c =
       let row = symbol (suc n) w.free in
-      let next : Walked = record (gives w i row) { free = suc w.free } in
+      let next : SymbolicState = record (gives w i row) { free = suc w.free } in
       let rest = goes_back steps next x (all_put (suc n) w.forms i row (symbol_width (suc n) w.free) h) a c in
       (rest.0, (point_at u next, (product row u, put_point w i row (product row u) refl), rest.1))
   goes_back (test kind e ∷ steps) w x h a c =
-      let first = and_ok (walked_by (suc n) (test kind e) w) (λ (next : Walked). walked (suc n) steps next) x a in
+      let first = and_ok (executed_action (suc n) (test kind e) w) (λ (next : SymbolicState). executed (suc n) steps next) x a in
       let made = and_ok (composed (suc n) (form_row e) w.forms) (λ (row : List ℤ). Ok (tests_too w (record { row = row; equal = is_equality kind }))) first.0
       first.1 in
       let value = composed_at n e.constant e.coefficients w.forms made.0 u h made.1 in
       let g : LinearRow = record { row = made.0; equal = is_equality kind } in
       let rest = goes_back steps (tests_too w g) x h
-      (subst (λ (y : Walked). walked (suc n) steps y ≡ Ok x) (sym (ok_is (tests_too w g) first.0 made.2)) first.2) c in (
+      (subst (λ (y : SymbolicState). executed (suc n) steps y ≡ Ok x) (sym (ok_is (tests_too w g) first.0 made.2)) first.2) c in (
         λ f m. rest.0 f (Contains-append_left w.tests (g ∷ []) f m),
         (
           point_at u w,
@@ -87,7 +88,7 @@ module _ (n : ℕ) (u : List ℤ) where
       )
   goes_back (embed k ∷ steps) w x h a c =
       let more = symbols (suc n) w.free k in
-      let next : Walked = record w { forms = w.forms ++ more; free = w.free + k } in
+      let next : SymbolicState = record w { forms = w.forms ++ more; free = w.free + k } in
       let rest = goes_back steps next x (all_behind (suc n) w.forms more h (symbols_width (suc n) w.free k)) a c in (
         rest.0,
         (
@@ -101,7 +102,7 @@ module _ (n : ℕ) (u : List ℤ) where
         ),
       )
   goes_back (remove_last k ∷ steps) w x h a c =
-      let next : Walked = record w { forms = take (length w.forms - k) w.forms } in
+      let next : SymbolicState = record w { forms = take (length w.forms - k) w.forms } in
       let rest = goes_back steps next x (all_taken (suc n) (length w.forms - k) w.forms h) a c in
       (rest.0, (point_at u next, ap (λ (ys : List ℤ). entry u 0 ∷ ys) (cut_point k w.forms), rest.1))
 
@@ -117,7 +118,7 @@ first_values live steps (d ∷ us) e =
     symbols_values (live + new_symbols steps) (d ∷ us) 1 (take live us) (drop live us) (omega (arith, taken)) (sym (take-append-drop live us)))
 
 -- a point of the symbols at which the tests hold comes from one of the source, which the path leads to that of the forms
-pub walked_back : (live : ℕ) (steps : List Action) (w : Walked) (u : List ℤ) → walk_of live steps ≡ Ok w → length u ≡ width_of live steps →
+pub walked_back : (live : ℕ) (steps : List Action) (w : SymbolicState) (u : List ℤ) → executed_path live steps ≡ Ok w → length u ≡ width_of live steps →
     Con w.tests u → PointLeadsAll steps (take (suc live) u) (point_at u w)
 walked_back live steps w u e long c =
     let n = live + new_symbols steps in

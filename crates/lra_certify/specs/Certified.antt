@@ -6,15 +6,15 @@ use Rattle.lra_program.specs.Sites.{Site, sites_of}
 use Rattle.lra_operations.specs.Tree.{Node}
 use Rattle.lra_path_segments.specs.Segments.{comes_to}
 use Rattle.lra_paths.specs.Paths.{Path, paths_of, violations_of, AreFewPaths, HasTooManyPaths}
-use Rattle.lra_certificate.specs.Certificates.{Evidence, Listed, Certificate, Meets}
-use Rattle.lra_certificate.specs.CertificateText.{body_text}
-use Rattle.lra_certificate.specs.Judged.{State}
+use Rattle.lra_certificate_spec.specs.Certificates.{Evidence, ListedAssertion, Certificate, Certifies}
+use Rattle.lra_certificate_spec.specs.CertificateText.{body_text}
+use Rattle.lra_certificate_spec.specs.Judged.{RowsAtPoint}
 use Rattle.lra_certify.specs.declared.failures.CertifyFailure.{CertifyFailure}
 use Rattle.lra_certify.specs.declared.failures.CertifyFailure.TheVariants.{TooMany, Strained, Memory}
 use Rattle.lra_certify.specs.declared.failures.StrainedAt.{StrainedAt}
 use Rattle.lra_certify.specs.declared.failures.StrainedAt.TheVariants.{Edge, Assertion}
 use Rattle.lra_certify.specs.Each.{Each, Stops}
-use Rattle.lra_certify.specs.Found.{Found, StopsIn}
+use Rattle.lra_certify.specs.PathEvidence.{IsEvidenceFor, StopsIn}
 
 -- the numbers of assertions, in ascending order
 abbrev pub AscendStrictly : List ℕ → Type 0
@@ -26,46 +26,47 @@ pub record AreListable (sites : List Site) (proved : List ℕ) : Type 0 where
   pub ascend : AscendStrictly proved
   pub assert : (q : ℕ) → Contains proved q → (s : Site) × (slice_get sites q ≡ Some s) × (s.asserts ≡ true)
 
-abbrev pub certificate_by : List State → List Evidence → List Listed → List ℕ → Certificate
+abbrev pub certificate_by : List RowsAtPoint → List Evidence → List ListedAssertion → List ℕ → Certificate
 certificate_by states paths asserted source =
     record { source = source; states = states; paths = paths; asserted = asserted }
 
 -- an assertion with evidence for each path to where it is false
-abbrev pub IsListedFound : Program → Node → List State → ℕ → Listed → Type 0
+abbrev pub IsListedFound : Program → Node → List RowsAtPoint → ℕ → ListedAssertion → Type 0
 IsListedFound P g states q one =
-    (one.number ≡ q) × Each (Found (sites_of P) states) (violations_of P g q) one.evidence
+    (one.number ≡ q) × Each (IsEvidenceFor (sites_of P) states) (violations_of P g q) one.evidence
 
 -- of whichever source it is said to be
-pub record IsCertified (P : Program) (g : Node) (states : List State) (proved bytes : List ℕ) : Type 0 where
+pub record IsCertified (P : Program) (g : Node) (states : List RowsAtPoint) (proved bytes : List ℕ) : Type 0 where
   pub paths : List Evidence
-  pub asserted : List Listed
-  pub meets : (source : List ℕ) → Meets P g (certificate_by states paths asserted source)
+  pub asserted : List ListedAssertion
+  pub meets : (source : List ℕ) → Certifies P g (certificate_by states paths asserted source)
   pub text : (source : List ℕ) → bytes ≡ body_text (paths_of P g) (certificate_by states paths asserted source)
   -- all of its evidence is first
-  pub paths_first : Each (Found (sites_of P) states) (paths_of P g) paths
+  pub paths_first : Each (IsEvidenceFor (sites_of P) states) (paths_of P g) paths
   pub asserted_first : Each (IsListedFound P g states) proved asserted
 
 -- a path that strains, to all before which there is evidence: edges before assertions
-pub record StopsAtEdge (P : Program) (g : Node) (states : List State) (p q : ℕ) : Type 0 where
+pub record StopsAtEdge (P : Program) (g : Node) (states : List RowsAtPoint) (p q : ℕ) : Type 0 where
   pub path : Path
   pub source : path.source ≡ p
   pub goal : path.goal ≡ comes_to q
   pub stops : StopsIn (sites_of P) states (paths_of P g) path
 
-abbrev pub AssertionStops : Program → Node → List State → ℕ → Type 0
+abbrev pub AssertionStops : Program → Node → List RowsAtPoint → ℕ → Type 0
 AssertionStops P g states q = (path : Path) × StopsIn (sites_of P) states (violations_of P g q) path
 
-pub record StopsAtAssertion (P : Program) (g : Node) (states : List State) (proved : List ℕ) (q : ℕ) : Type 0 where
-  pub evidence : List Evidence
-  pub edges : Each (Found (sites_of P) states) (paths_of P g) evidence
-  pub stops : Stops (IsListedFound P g states) (AssertionStops P g states) proved q
+pub record StopsAtAssertion (P : Program) (g : Node) (states : List RowsAtPoint) (proved : List ℕ) (q : ℕ) : Type 0
+  where
+    pub evidence : List Evidence
+    pub edges : Each (IsEvidenceFor (sites_of P) states) (paths_of P g) evidence
+    pub stops : Stops (IsListedFound P g states) (AssertionStops P g states) proved q
 
-abbrev pub StopsAt : Program → Node → List State → List ℕ → StrainedAt → Type 0
+abbrev pub StopsAt : Program → Node → List RowsAtPoint → List ℕ → StrainedAt → Type 0
 StopsAt P g states proved (Edge p q) = StopsAtEdge P g states p q
 StopsAt P g states proved (Assertion q) = StopsAtAssertion P g states proved q
 
 -- why there is no certificate
-abbrev pub IsFailure : Program → Node → List State → List ℕ → CertifyFailure → Type 0
+abbrev pub IsFailure : Program → Node → List RowsAtPoint → List ℕ → CertifyFailure → Type 0
 IsFailure P g states proved (TooMany p) = HasTooManyPaths P g p
 IsFailure P g states proved (Strained at) = AreFewPaths P g × StopsAt P g states proved at
 IsFailure P g states proved Memory = Unit {0}

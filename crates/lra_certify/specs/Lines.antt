@@ -4,8 +4,8 @@ use Rattle.std.specs.List.{flat_map, AllByRecursion}
 use Rattle.lra_linear_spec.specs.declared.ConKind.{ConKind}
 use Rattle.lra_linear_spec.specs.Descriptions.{LinearRow}
 use Rattle.lra_systems.specs.LinearSystems.{LinearSystem, constraints}
-use Rattle.lra_certificate.specs.Certificates.{IsPointRow}
-use Rattle.lra_certificate.specs.CertificateText.{text_line, row_text}
+use Rattle.lra_certificate_spec.specs.Certificates.{IsPointRow}
+use Rattle.lra_certificate_spec.specs.CertificateText.{text_line, row_text}
 
 abbrev pub rows_text : List LinearRow → List ℕ
 rows_text rows = flat_map (λ g. text_line (row_text g)) rows

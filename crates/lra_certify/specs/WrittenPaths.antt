@@ -5,36 +5,36 @@ use Rattle.lra_path_segments.specs.Segments.{Goal, comes_to, violates}
 use Rattle.lra_paths.specs.Paths.{Path, path_by}
 use Rattle.lra_linear_spec.specs.Descriptions.{LinearRow}
 use Rattle.lra_domain.specs.Actions.{Action}
-use Rattle.lra_certificate.specs.Certificates.{Evidence, Listed, AreStates}
-use Rattle.lra_certificate.specs.CertificateText.{text_line, edge_text, evidence_text, listed_text, states_text}
-use Rattle.lra_certificate.specs.CertificateText.{end_text}
-use Rattle.lra_certificate.specs.Judged.{State}
-use Rattle.lra_verify.specs.EdgeViews.{sites_in, states_in, led_by}
-use Rattle.lra_verify.specs.declared.ways.Ways.{Ways}
+use Rattle.lra_certificate_spec.specs.Certificates.{Evidence, ListedAssertion, AreStates}
+use Rattle.lra_certificate_spec.specs.CertificateText.{text_line, edge_text, evidence_text, listed_text, states_text}
+use Rattle.lra_certificate_spec.specs.CertificateText.{end_text}
+use Rattle.lra_certificate_spec.specs.Judged.{RowsAtPoint}
+use Rattle.lra_verify.specs.EdgeViews.{sites_in, states_in, actions_by}
+use Rattle.lra_verify.specs.declared.annotated.AnnotatedProgram.{AnnotatedProgram}
 use Rattle.lra_certify.specs.declared.failures.CertifyFailure.{CertifyFailure}
 use Rattle.lra_certify.specs.declared.failures.CertifyFailure.TheVariants as of_program
 use Rattle.lra_certify.specs.declared.failures.StrainedAt.{StrainedAt}
 use Rattle.lra_certify.specs.declared.failures.StrainedAt.TheVariants.{Edge, Assertion}
 use Rattle.lra_certify.specs.Each.{Each, Stops, AddsEach, IsLeft}
-use Rattle.lra_certify.specs.Found.{Found, FoundFrom, Strains, StrainsFrom, StopsIn}
-use Rattle.lra_certify.specs.Staying.{Stays, StaysFrom}
+use Rattle.lra_certify.specs.PathEvidence.{IsEvidenceFor, IsEvidenceFrom, StrainsAlong, StrainsFrom, StopsIn}
+use Rattle.lra_certify.specs.InductiveRows.{IsInductiveAlong, IsInductiveFrom}
 
 -- paths --------------------------------------------------------------------------------------------------------------
 
-abbrev pub paths_to : Ways → ℕ → Goal → List Path
-paths_to w p goal = map (path_by p goal) (led_by w p goal)
+abbrev pub paths_to : AnnotatedProgram → ℕ → Goal → List Path
+paths_to w p goal = map (path_by p goal) (actions_by w p goal)
 
-abbrev pub paths_from : Ways → ℕ → List Path
+abbrev pub paths_from : AnnotatedProgram → ℕ → List Path
 paths_from w p = flat_map (λ q. paths_to w p (comes_to q)) (range_with_len 0 (length w.sites.now))
 
-abbrev pub all_paths : Ways → List Path
+abbrev pub all_paths : AnnotatedProgram → List Path
 all_paths w = flat_map (paths_from w) (range_with_len 0 (length w.sources.now))
 
-abbrev pub denied_paths : Ways → ℕ → List Path
-denied_paths w q = flat_map (λ p. paths_to w p (violates q)) (range_with_len 0 (length w.sources.now))
+abbrev pub violating_paths : AnnotatedProgram → ℕ → List Path
+violating_paths w q = flat_map (λ p. paths_to w p (violates q)) (range_with_len 0 (length w.sources.now))
 
-abbrev pub AllStay : Ways → List Path → Type 0
-AllStay w paths = (path : Path) → Contains paths path → Stays (sites_in w) (states_in w) path
+abbrev pub AllAreInductive : AnnotatedProgram → List Path → Type 0
+AllAreInductive w paths = (path : Path) → Contains paths path → IsInductiveAlong (sites_in w) (states_in w) path
 
 -- their lines --------------------------------------------------------------------------------------------------------
 
@@ -42,43 +42,44 @@ AllStay w paths = (path : Path) → Contains paths path → Stays (sites_in w) (
 abbrev pub edge_lines : Path → Evidence → List ℕ
 edge_lines path evidence = text_line (edge_text path) ++ evidence_text evidence
 
-abbrev pub denial_lines : Path → Evidence → List ℕ
-denial_lines path evidence = evidence_text evidence
+abbrev pub violation_lines : Path → Evidence → List ℕ
+violation_lines path evidence = evidence_text evidence
 
-abbrev pub AddsPaths : Ways → (Path → Evidence → List ℕ) → List Path → List ℕ → List ℕ → Type 0
-AddsPaths w show paths old new = AddsEach (Found (sites_in w) (states_in w)) show paths old new
+abbrev pub AddsPaths : AnnotatedProgram → (Path → Evidence → List ℕ) → List Path → List ℕ → List ℕ → Type 0
+AddsPaths w show paths old new = AddsEach (IsEvidenceFor (sites_in w) (states_in w)) show paths old new
 
 -- of a path of these actions, whichever it is
-abbrev pub FoundOn : ℕ → List Action → State → State → Evidence → Type 0
+abbrev pub FoundOn : ℕ → List Action → RowsAtPoint → RowsAtPoint → Evidence → Type 0
 FoundOn live steps from target evidence = (path : Path) → path.actions ≡ steps →
-    FoundFrom live path from target evidence
+    IsEvidenceFrom live path from target evidence
 
-abbrev pub StrainsOn : ℕ → List Action → State → State → Type 0
+abbrev pub StrainsOn : ℕ → List Action → RowsAtPoint → RowsAtPoint → Type 0
 StrainsOn live steps from target = (path : Path) → path.actions ≡ steps → StrainsFrom live path from target
 
 -- to where an assertion is false
-abbrev pub FoundDead : ℕ → List LinearRow → List Action → Evidence → Type 0
-FoundDead live rows steps evidence = FoundOn live steps (Some rows) None evidence
+abbrev pub IsInfeasibleEvidence : ℕ → List LinearRow → List Action → Evidence → Type 0
+IsInfeasibleEvidence live rows steps evidence = FoundOn live steps (Some rows) None evidence
 
 abbrev pub StrainsDead : ℕ → List LinearRow → List Action → Type 0
 StrainsDead live rows steps = StrainsOn live steps (Some rows) None
 
 abbrev pub AllDead : ℕ → List LinearRow → List (List Action) → Type 0
-AllDead live rows lists = (steps : List Action) → Contains lists steps → StaysFrom live steps (Some rows) None
+AllDead live rows lists = (steps : List Action) → Contains lists steps → IsInductiveFrom live steps (Some rows) None
 
 abbrev pub AddsDead : ℕ → List LinearRow → List (List Action) → List ℕ → List ℕ → Type 0
 AddsDead live rows lists old new =
-    AddsEach (FoundDead live rows) (λ steps evidence. evidence_text evidence) lists old new
+    AddsEach (IsInfeasibleEvidence live rows) (λ steps evidence. evidence_text evidence) lists old new
 
 abbrev pub DeadLeft : ℕ → List LinearRow → List (List Action) → List (List Action) → List ℕ → List ℕ → Type 0
 DeadLeft live rows rest all now start =
-    IsLeft (FoundDead live rows) (StrainsDead live rows) (λ steps evidence. evidence_text evidence) rest all now start
+    IsLeft (IsInfeasibleEvidence live rows) (StrainsDead live rows) (λ steps evidence. evidence_text evidence) rest all
+    now start
 
 abbrev pub SomeDeadStops : ℕ → List LinearRow → List (List Action) → Type 0
 SomeDeadStops live rows lists =
-    (steps : List Action) × Stops (FoundDead live rows) (StrainsDead live rows) lists steps
+    (steps : List Action) × Stops (IsInfeasibleEvidence live rows) (StrainsDead live rows) lists steps
 
-abbrev pub SomePathStops : Ways → List Path → Type 0
+abbrev pub SomePathStops : AnnotatedProgram → List Path → Type 0
 SomePathStops w paths = (path : Path) × StopsIn (sites_in w) (states_in w) paths path
 
 -- which path strains
@@ -86,7 +87,7 @@ abbrev pub IsAt : StrainedAt → Path → Type 0
 IsAt (Edge p q) path = (path.source ≡ p) × (path.goal ≡ comes_to q)
 IsAt (Assertion q) path = path.goal ≡ violates q
 
-abbrev pub SomeStops : Ways → List Path → StrainedAt → Type 0
+abbrev pub SomeStops : AnnotatedProgram → List Path → StrainedAt → Type 0
 SomeStops w paths at = (path : Path) × IsAt at path × StopsIn (sites_in w) (states_in w) paths path
 
 abbrev pub IfStopped : (StrainedAt → Type 0) → CertifyFailure → Type 0
@@ -94,35 +95,35 @@ IfStopped P (of_program.TooMany p) = ⊥
 IfStopped P (of_program.Strained at) = P at
 IfStopped P of_program.Memory = Unit {0}
 
-abbrev pub PathsLeft : Ways → (Path → Evidence → List ℕ) → List Path → List Path → List ℕ → List ℕ → Type 0
+abbrev pub PathsLeft : AnnotatedProgram → (Path → Evidence → List ℕ) → List Path → List Path → List ℕ → List ℕ → Type 0
 PathsLeft w show rest all now start =
-    IsLeft (Found (sites_in w) (states_in w)) (Strains (sites_in w) (states_in w)) show rest all now start
+    IsLeft (IsEvidenceFor (sites_in w) (states_in w)) (StrainsAlong (sites_in w) (states_in w)) show rest all now start
 
 -- assertions ---------------------------------------------------------------------------------------------------------
 
-abbrev pub IsListed : Ways → ℕ → Listed → Type 0
-IsListed w q one = (one.number ≡ q) × Each (Found (sites_in w) (states_in w)) (denied_paths w q) one.evidence
+abbrev pub IsListed : AnnotatedProgram → ℕ → ListedAssertion → Type 0
+IsListed w q one = (one.number ≡ q) × Each (IsEvidenceFor (sites_in w) (states_in w)) (violating_paths w q) one.evidence
 
-abbrev pub AddsListed : Ways → List ℕ → List ℕ → List ℕ → Type 0
+abbrev pub AddsListed : AnnotatedProgram → List ℕ → List ℕ → List ℕ → Type 0
 AddsListed w proved old new = AddsEach (IsListed w) (λ q one. listed_text one) proved old new
 
-abbrev pub AllDenied : Ways → List ℕ → Type 0
-AllDenied w proved = (q : ℕ) → Contains proved q → AllStay w (denied_paths w q)
+abbrev pub AllAssertionsInductive : AnnotatedProgram → List ℕ → Type 0
+AllAssertionsInductive w proved = (q : ℕ) → Contains proved q → AllAreInductive w (violating_paths w q)
 
-abbrev pub AssertionStops : Ways → ℕ → Type 0
-AssertionStops w q = SomePathStops w (denied_paths w q)
+abbrev pub AssertionStops : AnnotatedProgram → ℕ → Type 0
+AssertionStops w q = SomePathStops w (violating_paths w q)
 
-abbrev pub ListedLeft : Ways → List ℕ → List ℕ → List ℕ → List ℕ → Type 0
+abbrev pub ListedLeft : AnnotatedProgram → List ℕ → List ℕ → List ℕ → List ℕ → Type 0
 ListedLeft w rest all now start = IsLeft (IsListed w) (AssertionStops w) (λ q one. listed_text one) rest all now start
 
 -- one stops, and those before it are listed
-abbrev pub ListStops : Ways → List ℕ → StrainedAt → Type 0
+abbrev pub ListStops : AnnotatedProgram → List ℕ → StrainedAt → Type 0
 ListStops w proved at = (q : ℕ) × (at ≡ Assertion q)
     × Stops (IsListed w) (AssertionStops w) proved q
 
 -- all lines ----------------------------------------------------------------------------------------------------------
 
-pub record AddsBody (w : Ways) (proved old new : List ℕ) : Type 0 where
+pub record AddsBody (w : AnnotatedProgram) (proved old new : List ℕ) : Type 0 where
   pub middle : List ℕ
   pub last : List ℕ
   pub states : AreStates (sites_in w) (states_in w)
@@ -130,10 +131,10 @@ pub record AddsBody (w : Ways) (proved old new : List ℕ) : Type 0 where
   pub listed : AddsListed w proved middle last
   pub text : new ≡ last ++ end_text
 
-pub record StopsListing (w : Ways) (proved : List ℕ) (at : StrainedAt) : Type 0 where
+pub record StopsListing (w : AnnotatedProgram) (proved : List ℕ) (at : StrainedAt) : Type 0 where
   pub evidence : List Evidence
-  pub edges : Each (Found (sites_in w) (states_in w)) (all_paths w) evidence
+  pub edges : Each (IsEvidenceFor (sites_in w) (states_in w)) (all_paths w) evidence
   pub stops : ListStops w proved at
 
-abbrev pub BodyStops : Ways → List ℕ → StrainedAt → Type 0
+abbrev pub BodyStops : AnnotatedProgram → List ℕ → StrainedAt → Type 0
 BodyStops w proved at = SomeStops w (all_paths w) at ⊎ StopsListing w proved at

@@ -6,11 +6,12 @@ ghost use Rattle.lra_program.specs.ProgramViews.{program_view};
 ghost use Rattle.lra_program.specs.Sites.{sites_of};
 ghost use Rattle.lra_operations.specs.TreeViews.{node_view, site_view};
 ghost use Rattle.lra_paths.specs.Paths.{AreFewPaths};
-ghost use Rattle.lra_verify.specs.EdgeViews.{AreWays};
+ghost use Rattle.lra_verify.specs.EdgeViews.{IsAnnotatedProgram};
 ghost use Rattle.lra_verify.specs.PointViews.{HaveDims, state_view};
 ghost use Rattle.lra_certify.specs.Certified.{AreListable, IsCertified, IsFailure};
-ghost use Rattle.lra_certify.specs.Staying.{PathsStay};
-ghost use Rattle.lra_certify.specs.WrittenPaths.{AllStay, AllDenied, AddsBody, BodyStops, IfStopped, all_paths};
+ghost use Rattle.lra_certify.specs.InductiveRows.{AreInductiveRows};
+ghost use Rattle.lra_certify.specs.WrittenPaths.{AllAreInductive, AllAssertionsInductive, AddsBody, BodyStops};
+ghost use Rattle.lra_certify.specs.WrittenPaths.{IfStopped, all_paths};
 
 use crate::edges::push_sources;
 use crate::failures::CertifyFailure;
@@ -20,20 +21,20 @@ use lra_operations::InlinedProgram;
 use lra_paths::{PathsFailure, find_paths};
 use lra_program::Program;
 use lra_systems::ConSys;
-use lra_verify::{Ways, all_sources};
+use lra_verify::{AnnotatedProgram, all_sources};
 use std::alloc::Global;
 
 /// Appends all lines behind the source, with these assertions listed.
 fn push_body(
     text: &mut String,
     alloc: Global,
-    ways: &Ways<'_>,
+    ways: &AnnotatedProgram<'_>,
     proved: &[usize],
 ) -> Result<(), CertifyFailure>
-    requires ways { AreWays ways.now }
+    requires ways { IsAnnotatedProgram ways.now }
     requires points { All (λ q. q < length ways.now.sites.now) proved.now }
-    requires stay { AllStay ways.now (all_paths ways.now) }
-    requires denied { AllDenied ways.now proved.now }
+    requires stay { AllAreInductive ways.now (all_paths ways.now) }
+    requires denied { AllAssertionsInductive ways.now proved.now }
     ensures adds { OnOk result (AddsBody ways.now proved.now
         (string_bytes text.old) (string_bytes text.new)) }
     ensures failure { IfErr result (IfStopped (BodyStops ways.now proved.now)) }
@@ -60,7 +61,7 @@ pub fn certify(
     requires states { length states.now ≡ length graph.now.sites.items }
     requires dims { HaveDims (map site_view graph.now.sites.items) states.now }
     requires proved { AreListable (sites_of (program_view program.now)) proved.now }
-    requires stay { PathsStay (program_view program.now) (node_view graph.now.tree)
+    requires stay { AreInductiveRows (program_view program.now) (node_view graph.now.tree)
         (map state_view states.now) proved.now }
     ensures certified { IfOk result (λ text. IsCertified (program_view program.now)
         (node_view graph.now.tree) (map state_view states.now) proved.now (string_bytes text)) }
@@ -72,7 +73,7 @@ pub fn certify(
         Ok(paths) => {
             let sources = all_sources(alloc, &paths)?;
             let start = ConSys::new(alloc, 0);
-            let ways = Ways {
+            let ways = AnnotatedProgram {
                 sites: graph.sites.as_slice(),
                 states,
                 start: &start,

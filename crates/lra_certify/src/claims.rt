@@ -7,15 +7,16 @@ ghost use Rattle.lra_linear_spec.specs.Descriptions.{system_of};
 ghost use Rattle.lra_linear_spec.specs.Kinds.{is_equality};
 ghost use Rattle.lra_systems.specs.LinearSystems.{constraints};
 ghost use Rattle.lra_multipliers.specs.MultiplierViews.{multipliers_view};
-ghost use Rattle.lra_lines.specs.TrackViews.{AreGrounds, row_of, rows_of};
-ghost use Rattle.lra_certify.specs.GroundViews.{IsLine, IsLineFailure, IsNotShown, IsEvidence, HoldsOn, AllLead};
-ghost use Rattle.lra_certify.specs.GroundViews.{AllHold, AddsLines, Adds, SomeStrains, TargetStrains, IfStrained};
+ghost use Rattle.lra_certificate_lines.specs.PathCheckViews.{ArePathFacts, claim_row, target_rows};
+ghost use Rattle.lra_certify.specs.PathFactViews.{IsLine, IsLineFailure, IsNotShown, IsEvidence, HoldsOn, AllLead};
+ghost use Rattle.lra_certify.specs.PathFactViews.{AllHold, AddsLines, AddsEvidence, SomeStrains, TargetStrains};
+ghost use Rattle.lra_certify.specs.PathFactViews.{IfStrained};
 
 use crate::failures::PathFailure;
 use crate::text::push_multipliers;
+use lra_certificate_lines::PathFacts;
 use lra_farkas::{MultipliersFailure, multipliers};
 use lra_linear_spec::ConKind;
-use lra_lines::Grounds;
 use lra_multipliers::Multipliers;
 use lra_row::{Row, RowError};
 use lra_systems::ConSys;
@@ -24,14 +25,14 @@ use std::alloc::Global;
 /// The first multipliers of a claim: a row over the variables, or that nothing is left.
 fn find_multipliers(
     alloc: Global,
-    grounds: &Grounds,
+    grounds: &PathFacts,
     claim: Option<&Row>,
 ) -> Result<Multipliers, MultipliersFailure>
-    requires are { AreGrounds grounds.now }
+    requires are { ArePathFacts grounds.now }
     requires row { IfSome claim (λ r. 0 < length r.now) }
     ensures line { IfOk result (λ m.
-        IsLine grounds.now (row_of claim.entry) (multipliers_view m)) }
-    ensures failure { IfErr result (IsLineFailure grounds.now (row_of claim.entry)) }
+        IsLine grounds.now (claim_row claim.entry) (multipliers_view m)) }
+    ensures failure { IfErr result (IsLineFailure grounds.now (claim_row claim.entry)) }
 {
     let _premises = grounds.premises.rows();
     match grounds.claim(alloc, claim) {
@@ -45,10 +46,10 @@ fn find_multipliers(
 fn push_claim(
     text: &mut String,
     alloc: Global,
-    grounds: &Grounds,
+    grounds: &PathFacts,
     claim: &Row,
 ) -> Result<(), PathFailure>
-    requires are { AreGrounds grounds.now }
+    requires are { ArePathFacts grounds.now }
     requires row { 0 < length claim.now }
     requires alive { IsNotShown grounds.now None }
     requires holds { HoldsOn grounds.now claim.now }
@@ -71,11 +72,11 @@ fn push_claim(
 fn push_row_claims(
     text: &mut String,
     alloc: Global,
-    grounds: &Grounds,
+    grounds: &PathFacts,
     row: &Row,
     kind: ConKind,
 ) -> Result<(), PathFailure>
-    requires are { AreGrounds grounds.now }
+    requires are { ArePathFacts grounds.now }
     requires row { 0 < length row.now }
     requires alive { IsNotShown grounds.now None }
     requires holds { AllHold grounds.now (with_row (is_equality kind) row.now []) }
@@ -97,10 +98,10 @@ fn push_row_claims(
 fn push_claims(
     text: &mut String,
     alloc: Global,
-    grounds: &Grounds,
+    grounds: &PathFacts,
     rows: &ConSys,
 ) -> Result<(), PathFailure>
-    requires are { AreGrounds grounds.now }
+    requires are { ArePathFacts grounds.now }
     requires alive { IsNotShown grounds.now None }
     requires holds { AllHold grounds.now (system_of (constraints rows.now)) }
     ensures lines { OnOk result (AddsLines grounds.now (system_of (constraints rows.now))
@@ -119,14 +120,15 @@ fn push_claims(
 pub fn push_evidence(
     text: &mut String,
     alloc: Global,
-    grounds: &Grounds,
+    grounds: &PathFacts,
     target: Option<&ConSys>,
 ) -> Result<(), PathFailure>
-    requires are { AreGrounds grounds.now }
-    requires lead { AllLead grounds.now (rows_of target) }
-    ensures evidence { OnOk result (Adds (IsEvidence grounds.now (rows_of target.entry))
+    requires are { ArePathFacts grounds.now }
+    requires lead { AllLead grounds.now (target_rows target) }
+    ensures evidence { OnOk result (AddsEvidence (IsEvidence grounds.now (target_rows target.entry))
         (string_bytes text.old) (string_bytes text.new)) }
-    ensures failure { IfErr result (IfStrained (TargetStrains grounds.now (rows_of target.entry))) }
+    ensures failure { IfErr result
+        (IfStrained (TargetStrains grounds.now (target_rows target.entry))) }
 {
     match find_multipliers(alloc, grounds, None) {
         Ok(shown) => {

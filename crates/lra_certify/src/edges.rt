@@ -5,21 +5,22 @@ ghost use Rattle.lra_systems.specs.LinearSystems.{constraints};
 ghost use Rattle.lra_paths.specs.Paths.{path_by};
 ghost use Rattle.lra_path_disjuncts.specs.TableDisjuncts.{all_done, lists_done};
 ghost use Rattle.lra_path_segments.specs.Segments.{comes_to};
-ghost use Rattle.lra_lines.specs.TrackViews.{rows_of};
-ghost use Rattle.lra_verify.specs.EdgeViews.{AreWays};
-ghost use Rattle.lra_certify.specs.Staying.{StaysFrom};
-ghost use Rattle.lra_certify.specs.GroundViews.{Adds, IfStrained};
-ghost use Rattle.lra_certify.specs.WrittenPaths.{FoundOn, StrainsOn, AllStay, AddsPaths, SomeStops, SomePathStops};
+ghost use Rattle.lra_certificate_lines.specs.PathCheckViews.{target_rows};
+ghost use Rattle.lra_verify.specs.EdgeViews.{IsAnnotatedProgram};
+ghost use Rattle.lra_certify.specs.InductiveRows.{IsInductiveFrom};
+ghost use Rattle.lra_certify.specs.PathFactViews.{AddsEvidence, IfStrained};
+ghost use Rattle.lra_certify.specs.WrittenPaths.{FoundOn, StrainsOn, AllAreInductive, AddsPaths, SomeStops};
+ghost use Rattle.lra_certify.specs.WrittenPaths.{SomePathStops};
 ghost use Rattle.lra_certify.specs.WrittenPaths.{IfStopped, edge_lines, paths_to, paths_from, all_paths};
 
 use crate::claims::push_evidence;
 use crate::failures::{CertifyFailure, PathFailure, StrainedAt};
 use crate::text::push_edge;
+use lra_certificate_lines::PathCheck;
 use lra_domain::Change;
-use lra_lines::Track;
 use lra_path_segments::Goal;
 use lra_systems::ConSys;
-use lra_verify::Ways;
+use lra_verify::AnnotatedProgram;
 use std::alloc::Global;
 
 /// Appends what is said of a path from a source with these rows to a target.
@@ -31,17 +32,17 @@ pub fn push_path(
     target: Option<&ConSys>,
 ) -> Result<(), PathFailure>
     requires live { rows.now.dims < 2 ^ 31 }
-    requires stays { StaysFrom rows.now.dims (all_done path.now) (Some (constraints rows.now))
-        (rows_of target) }
-    ensures found { OnOk result (Adds (FoundOn rows.now.dims (all_done path.now)
-        (Some (constraints rows.now)) (rows_of target.entry))
+    requires stays { IsInductiveFrom rows.now.dims (all_done path.now) (Some (constraints rows.now))
+        (target_rows target) }
+    ensures found { OnOk result (AddsEvidence (FoundOn rows.now.dims (all_done path.now)
+        (Some (constraints rows.now)) (target_rows target.entry))
         (string_bytes text.old) (string_bytes text.new)) }
     ensures failure { IfErr result (IfStrained (StrainsOn rows.now.dims (all_done path.now)
-        (Some (constraints rows.now)) (rows_of target.entry))) }
+        (Some (constraints rows.now)) (target_rows target.entry))) }
 {
     let _rows = rows.rows();
-    let track = Track::of(alloc, rows, path)?;
-    match &track.grounds {
+    let track = PathCheck::of(alloc, rows, path)?;
+    match &track.facts {
         None => Err(PathFailure::Strained),
         Some(grounds) => push_evidence(text, alloc, grounds, target),
     }
@@ -51,15 +52,16 @@ pub fn push_path(
 fn push_edge_path(
     text: &mut String,
     alloc: Global,
-    ways: &Ways<'_>,
+    ways: &AnnotatedProgram<'_>,
     source: usize,
     point: usize,
     path: &[&Change],
 ) -> Result<(), PathFailure>
-    requires ways { AreWays ways.now }
+    requires ways { IsAnnotatedProgram ways.now }
     requires source { source ≤ length ways.now.sites.now }
     requires point { point < length ways.now.sites.now }
-    requires stay { AllStay ways.now (path_by source (comes_to point) (all_done path.now) ∷ []) }
+    requires stay { AllAreInductive ways.now
+        (path_by source (comes_to point) (all_done path.now) ∷ []) }
     ensures adds { OnOk result (AddsPaths ways.now edge_lines
         (path_by source (comes_to point) (all_done path.now) ∷ [])
         (string_bytes text.old) (string_bytes text.new)) }
@@ -77,15 +79,15 @@ fn push_edge_path(
 fn push_edge_paths(
     text: &mut String,
     alloc: Global,
-    ways: &Ways<'_>,
+    ways: &AnnotatedProgram<'_>,
     source: usize,
     point: usize,
     paths: &[Vec<&Change>],
 ) -> Result<(), PathFailure>
-    requires ways { AreWays ways.now }
+    requires ways { IsAnnotatedProgram ways.now }
     requires source { source ≤ length ways.now.sites.now }
     requires point { point < length ways.now.sites.now }
-    requires stay { AllStay ways.now
+    requires stay { AllAreInductive ways.now
         (map (path_by source (comes_to point)) (lists_done paths.now)) }
     ensures adds { OnOk result (AddsPaths ways.now edge_lines
         (map (path_by source (comes_to point)) (lists_done paths.now))
@@ -103,14 +105,14 @@ fn push_edge_paths(
 fn push_edges(
     text: &mut String,
     alloc: Global,
-    ways: &Ways<'_>,
+    ways: &AnnotatedProgram<'_>,
     source: usize,
     point: usize,
 ) -> Result<(), CertifyFailure>
-    requires ways { AreWays ways.now }
+    requires ways { IsAnnotatedProgram ways.now }
     requires source { source ≤ length ways.now.sites.now }
     requires point { point < length ways.now.sites.now }
-    requires stay { AllStay ways.now (paths_to ways.now source (comes_to point)) }
+    requires stay { AllAreInductive ways.now (paths_to ways.now source (comes_to point)) }
     ensures adds { OnOk result (AddsPaths ways.now edge_lines
         (paths_to ways.now source (comes_to point))
         (string_bytes text.old) (string_bytes text.new)) }
@@ -128,12 +130,12 @@ fn push_edges(
 fn push_source(
     text: &mut String,
     alloc: Global,
-    ways: &Ways<'_>,
+    ways: &AnnotatedProgram<'_>,
     source: usize,
 ) -> Result<(), CertifyFailure>
-    requires ways { AreWays ways.now }
+    requires ways { IsAnnotatedProgram ways.now }
     requires source { source ≤ length ways.now.sites.now }
-    requires stay { AllStay ways.now (paths_from ways.now source) }
+    requires stay { AllAreInductive ways.now (paths_from ways.now source) }
     ensures adds { OnOk result (AddsPaths ways.now edge_lines (paths_from ways.now source)
         (string_bytes text.old) (string_bytes text.new)) }
     ensures failure { IfErr result (IfStopped (SomeStops ways.now (paths_from ways.now source))) }
@@ -145,9 +147,13 @@ fn push_source(
 }
 
 /// Appends the lines of the paths from all sources, in order.
-pub fn push_sources(text: &mut String, alloc: Global, ways: &Ways<'_>) -> Result<(), CertifyFailure>
-    requires ways { AreWays ways.now }
-    requires stay { AllStay ways.now (all_paths ways.now) }
+pub fn push_sources(
+    text: &mut String,
+    alloc: Global,
+    ways: &AnnotatedProgram<'_>,
+) -> Result<(), CertifyFailure>
+    requires ways { IsAnnotatedProgram ways.now }
+    requires stay { AllAreInductive ways.now (all_paths ways.now) }
     ensures adds { OnOk result (AddsPaths ways.now edge_lines (all_paths ways.now)
         (string_bytes text.old) (string_bytes text.new)) }
     ensures failure { IfErr result (IfStopped (SomeStops ways.now (all_paths ways.now))) }

@@ -15,4 +15,4 @@ mod text;
 
 pub use certifying::certify;
 pub use failures::{CertifyFailure, PathFailure, StrainedAt};
-pub use laws::symbols_walk_back;
+pub use laws::symbols_give_points;

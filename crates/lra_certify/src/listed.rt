@@ -5,11 +5,11 @@ ghost use Rattle.std.specs.List.{All};
 ghost use Rattle.lra_systems.specs.LinearSystems.{constraints};
 ghost use Rattle.lra_path_disjuncts.specs.TableDisjuncts.{lists_done};
 ghost use Rattle.lra_path_segments.specs.Segments.{violates};
-ghost use Rattle.lra_verify.specs.EdgeViews.{AreWays};
-ghost use Rattle.lra_certify.specs.GroundViews.{IfStrained};
-ghost use Rattle.lra_certify.specs.WrittenPaths.{AllStay, AllDead, AddsPaths, AddsDead, AddsListed};
+ghost use Rattle.lra_verify.specs.EdgeViews.{IsAnnotatedProgram};
+ghost use Rattle.lra_certify.specs.PathFactViews.{IfStrained};
+ghost use Rattle.lra_certify.specs.WrittenPaths.{AllAreInductive, AllDead, AddsPaths, AddsDead, AddsListed};
 ghost use Rattle.lra_certify.specs.WrittenPaths.{SomePathStops, SomeDeadStops, ListStops, IfStopped};
-ghost use Rattle.lra_certify.specs.WrittenPaths.{denial_lines, paths_to, denied_paths, AllDenied};
+ghost use Rattle.lra_certify.specs.WrittenPaths.{violation_lines, paths_to, violating_paths, AllAssertionsInductive};
 
 use crate::edges::push_path;
 use crate::failures::{CertifyFailure, PathFailure, StrainedAt};
@@ -17,7 +17,7 @@ use crate::text::push_assertion;
 use lra_domain::Change;
 use lra_path_segments::Goal;
 use lra_systems::ConSys;
-use lra_verify::Ways;
+use lra_verify::AnnotatedProgram;
 use std::alloc::Global;
 
 /// Appends the lines of paths from a source with these rows along which nothing goes.
@@ -44,14 +44,14 @@ fn push_dead_paths(
 fn push_denials_from(
     text: &mut String,
     alloc: Global,
-    ways: &Ways<'_>,
+    ways: &AnnotatedProgram<'_>,
     source: usize,
     point: usize,
 ) -> Result<(), PathFailure>
-    requires ways { AreWays ways.now }
+    requires ways { IsAnnotatedProgram ways.now }
     requires source { source ≤ length ways.now.sites.now }
-    requires stay { AllStay ways.now (paths_to ways.now source (violates point)) }
-    ensures adds { OnOk result (AddsPaths ways.now denial_lines
+    requires stay { AllAreInductive ways.now (paths_to ways.now source (violates point)) }
+    ensures adds { OnOk result (AddsPaths ways.now violation_lines
         (paths_to ways.now source (violates point))
         (string_bytes text.old) (string_bytes text.new)) }
     ensures failure { IfErr result (IfStrained (SomePathStops ways.now
@@ -70,15 +70,15 @@ fn push_denials_from(
 fn push_denials(
     text: &mut String,
     alloc: Global,
-    ways: &Ways<'_>,
+    ways: &AnnotatedProgram<'_>,
     point: usize,
 ) -> Result<(), PathFailure>
-    requires ways { AreWays ways.now }
-    requires stay { AllStay ways.now (denied_paths ways.now point) }
-    ensures adds { OnOk result (AddsPaths ways.now denial_lines (denied_paths ways.now point)
+    requires ways { IsAnnotatedProgram ways.now }
+    requires stay { AllAreInductive ways.now (violating_paths ways.now point) }
+    ensures adds { OnOk result (AddsPaths ways.now violation_lines (violating_paths ways.now point)
         (string_bytes text.old) (string_bytes text.new)) }
     ensures failure { IfErr result (IfStrained (SomePathStops ways.now
-        (denied_paths ways.now point))) }
+        (violating_paths ways.now point))) }
 {
     for source in 0..ways.sources.len() {
         push_denials_from(text, alloc, ways, source, point)?;
@@ -90,12 +90,12 @@ fn push_denials(
 fn push_one(
     text: &mut String,
     alloc: Global,
-    ways: &Ways<'_>,
+    ways: &AnnotatedProgram<'_>,
     point: usize,
 ) -> Result<(), CertifyFailure>
-    requires ways { AreWays ways.now }
+    requires ways { IsAnnotatedProgram ways.now }
     requires point { point < length ways.now.sites.now }
-    requires stay { AllStay ways.now (denied_paths ways.now point) }
+    requires stay { AllAreInductive ways.now (violating_paths ways.now point) }
     ensures adds { OnOk result (AddsListed ways.now (point ∷ [])
         (string_bytes text.old) (string_bytes text.new)) }
     ensures failure { IfErr result (IfStopped (ListStops ways.now (point ∷ []))) }
@@ -111,12 +111,12 @@ fn push_one(
 pub fn push_listed(
     text: &mut String,
     alloc: Global,
-    ways: &Ways<'_>,
+    ways: &AnnotatedProgram<'_>,
     proved: &[usize],
 ) -> Result<(), CertifyFailure>
-    requires ways { AreWays ways.now }
+    requires ways { IsAnnotatedProgram ways.now }
     requires points { All (λ q. q < length ways.now.sites.now) proved.now }
-    requires stay { AllDenied ways.now proved.now }
+    requires stay { AllAssertionsInductive ways.now proved.now }
     ensures adds { OnOk result (AddsListed ways.now proved.now
         (string_bytes text.old) (string_bytes text.new)) }
     ensures failure { IfErr result (IfStopped (ListStops ways.now proved.now)) }

@@ -5,12 +5,12 @@ ghost use Rattle.std.specs.List.{All};
 ghost use Rattle.lra_linear_spec.specs.Kinds.{is_equality};
 ghost use Rattle.lra_systems.specs.LinearSystems.{constraints};
 ghost use Rattle.lra_multipliers.specs.MultiplierViews.{multipliers_view};
-ghost use Rattle.lra_certificate.specs.CertificateText.{text_line, numbers_text, row_text, multipliers_text};
-ghost use Rattle.lra_certificate.specs.CertificateText.{state_text, states_text, relation_text, edge_text};
-ghost use Rattle.lra_certificate.specs.CertificateText.{assert_text, end_text};
+ghost use Rattle.lra_certificate_spec.specs.CertificateText.{text_line, numbers_text, row_text, multipliers_text};
+ghost use Rattle.lra_certificate_spec.specs.CertificateText.{state_text, states_text, relation_text, edge_text};
+ghost use Rattle.lra_certificate_spec.specs.CertificateText.{assert_text, end_text};
 ghost use Rattle.lra_paths.specs.Paths.{path_by};
 ghost use Rattle.lra_path_segments.specs.Segments.{comes_to};
-ghost use Rattle.lra_lines.specs.TrackViews.{rows_of};
+ghost use Rattle.lra_certificate_lines.specs.PathCheckViews.{target_rows};
 ghost use Rattle.lra_certify.specs.Lines.{rows_text, ArePointRows, HasPointRows};
 ghost use Rattle.lra_verify.specs.PointViews.{state_view};
 
@@ -69,7 +69,7 @@ fn push_rows(text: &mut String, rows: &ConSys) -> Result<(), AllocError>
 /// Appends the lines of the point of this number; where nothing comes it has no rows.
 fn push_state(text: &mut String, number: usize, state: Option<&ConSys>) -> Result<(), AllocError>
     ensures text { OnOk result (string_bytes text.new ≡ string_bytes text.old ++
-        state_text number (rows_of state.entry)) }
+        state_text number (target_rows state.entry)) }
     ensures fit { OnOk result (IfSome state.entry (λ r. ArePointRows r.now)) }
 {
     match state {

@@ -9,7 +9,7 @@ use Rattle.lra_linear_spec.specs.Vectors.{entry}
 use Rattle.lra_linear_spec.proofs.Descriptions.{con_none, con_cons, con_head, con_tail}
 use Rattle.lra_linear_spec.proofs.Membership.{contains_none, contains_cases}
 use Rattle.lra_linear_spec.proofs.Ring.{ring, v, ◌⊕◌, ◌⊗◌}
-use Rattle.lra_multipliers.specs.Multipliers.{Shows}
+use Rattle.lra_multipliers.specs.Multipliers.{IsFarkasCertificate}
 use Rattle.lra_farkas.specs.MultiplierRows.{multiplier_rows, AreAsWide}
 use Rattle.lra_farkas.proofs.ShownPoints.{points_show}
 
@@ -64,7 +64,7 @@ five_hold a b c d e x ha hb hc hd he =
     (con_cons d (e ∷ []) x hd (con_cons e [] x he (con_none x)))))
 
 shown_by : (d : ℕ) (l0 l1 l2 : ℤ) → Con (constant_column ∷ variable_column ∷ one_sign ∷ least_sign ∷ most_sign ∷ []) (pos (suc d) ∷ l0 ∷ l1 ∷ l2 ∷ []) →
-    Shows below_ten one_more (record { divisor = pos (suc d); constant = l0; factors = l1 ∷ l2 ∷ [] })
+    IsFarkasCertificate below_ten one_more (record { divisor = pos (suc d); constant = l0; factors = l1 ∷ l2 ∷ [] })
 shown_by d l0 l1 l2 h =
     (points_show below_ten one_more (record { divisor = pos (suc d); constant = l0; factors = l1 ∷ l2 ∷ [] })
     (two_wide (inequality (pos 0 ∷ pos 1 ∷ [])) (inequality (pos 9 ∷ negsuc 0 ∷ [])) one_more refl refl refl)).0 (record {
@@ -79,11 +79,11 @@ nine_times = pos 9 ∷ pos 0 ∷ pos 10 ∷ pos 1 ∷ []
 abbrev with_one : List ℤ
 with_one = pos 1 ∷ pos 1 ∷ pos 1 ∷ pos 0 ∷ []
 
-pub nine_times_shows : Shows below_ten one_more (record { divisor = pos 9; constant = pos 0; factors = pos 10 ∷ pos 1 ∷ [] })
+pub nine_times_shows : IsFarkasCertificate below_ten one_more (record { divisor = pos 9; constant = pos 0; factors = pos 10 ∷ pos 1 ∷ [] })
 nine_times_shows = shown_by 8 (pos 0) (pos 10) (pos 1)
     (five_hold constant_column variable_column one_sign least_sign most_sign nine_times refl refl (at_least 0) (at_least 10) (at_least 1))
 
-pub with_one_shows : Shows below_ten one_more (record { divisor = pos 1; constant = pos 1; factors = pos 1 ∷ pos 0 ∷ [] })
+pub with_one_shows : IsFarkasCertificate below_ten one_more (record { divisor = pos 1; constant = pos 1; factors = pos 1 ∷ pos 0 ∷ [] })
 with_one_shows = shown_by 0 (pos 1) (pos 1) (pos 0)
     (five_hold constant_column variable_column one_sign least_sign most_sign with_one refl refl (at_least 1) (at_least 1) (at_least 0))
 

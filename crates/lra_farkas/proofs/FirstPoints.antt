@@ -26,12 +26,12 @@ use Rattle.lra_duality.proofs.SaturationLemmas.{given_length}
 use Rattle.lra_poly.specs.Outcomes.{IfExact, IfFlagged, IsOfRows}
 use Rattle.lra_poly.specs.declared.outcome.Outcome.{Outcome}
 use Rattle.lra_poly.specs.declared.outcome.Outcome.TheVariants.{Exact, Flagged}
-use Rattle.lra_multipliers.specs.Multipliers.{Multipliers, Shows, IsWide, IsAnswer, yes}
+use Rattle.lra_multipliers.specs.Multipliers.{Multipliers, IsFarkasCertificate, IsCheckWide, IsAnswer, yes}
 use Rattle.lra_multipliers.specs.MultiplierViews.{answer_view}
 use Rattle.lra_multipliers.specs.declared.columns.Answer.{Answer}
 use Rattle.lra_multipliers.specs.declared.columns.Answer.TheVariants.{Yes, No}
 use Rattle.lra_farkas.specs.MultiplierRows.{multiplier_dims, multiplier_rows, point_of, AreAsWide}
-use Rattle.lra_farkas.specs.FirstMultipliers.{AreFirst, IsFailure, MultipliersStrain}
+use Rattle.lra_farkas.specs.FirstMultipliers.{AreFirst, IsMultipliersFailure, MultipliersStrain}
 use Rattle.lra_farkas.specs.RowsByKinds.{HasNoFirst}
 use Rattle.lra_farkas.specs.declared.first.MultipliersFailure.{MultipliersFailure}
 use Rattle.lra_farkas.specs.declared.first.MultipliersFailure.TheVariants.{NotImplied, Strained, Memory}
@@ -149,7 +149,7 @@ module _ (premises : List LinearRow) (claim : List ℤ) (m : Multipliers) (a : A
   pub first_many : length m.factors ≡ length premises
   first_many = let w : suc (suc (length m.factors)) ≡ suc (suc (length premises)) = first_is_point.width in omega (arith, w)
 
-  pub first_shows : AreAsWide premises claim → Shows premises claim m
+  pub first_shows : AreAsWide premises claim → IsFarkasCertificate premises claim m
   first_shows wide = (points_show premises claim m wide).0 (record {
     is_point = first_is_point;
     meets = a.is.points.1 (point_of m) first_is_point (subst (Con a.polyhedron.rows) same_row at_first.meets);
@@ -165,7 +165,7 @@ module _ (premises : List LinearRow) (claim : List ℤ) (m : Multipliers) (a : A
         (told_no.0, first_shows wide)
   ]
 
-  pub first_strained : IsWide premises claim m → MultipliersStrain premises claim
+  pub first_strained : IsCheckWide premises claim m → MultipliersStrain premises claim
   first_strained w = inr (m, a, w)
 
 -- the premises of a list are as wide as its claim
@@ -196,12 +196,12 @@ as_many s factors n e = e ∙ given_length is_equality s.rows s.kinds n
 -- why there is no first point, as it is told of multipliers
 pub no_first_fails : (n : ℕ) (rows premises : List LinearRow) (claim : List ℤ) (e : MultipliersFailure) → n ≡ multiplier_dims premises →
     rows ≡ multiplier_rows premises claim →
-    HasNoFirst n rows e → IsFailure premises claim e
+    HasNoFirst n rows e → IsMultipliersFailure premises claim e
 no_first_fails n rows premises claim e en er h =
     by e (subst (λ (k : ℕ). HasNoFirst k (multiplier_rows premises claim) e) en
     (subst (λ (gs : List LinearRow). HasNoFirst n gs e) er h))
   where
-    by : (x : MultipliersFailure) → HasNoFirst (multiplier_dims premises) (multiplier_rows premises claim) x → IsFailure premises claim x
+    by : (x : MultipliersFailure) → HasNoFirst (multiplier_dims premises) (multiplier_rows premises claim) x → IsMultipliersFailure premises claim x
     by NotImplied f = f
     by Strained f = inl f
     by Memory f = tt

@@ -13,7 +13,7 @@ use Rattle.lra_linear_spec.specs.Polyhedra.{Polyhedron, IsPolyhedronOf}
 use Rattle.lra_linear_spec.specs.declared.ConKind.{ConKind}
 use Rattle.lra_systems.specs.LinearSystems.{LinearSystem, rows_by_kind, constraints}
 use Rattle.lra_systems.proofs.LinearRows.{constraints_pushed, given_more}
-use Rattle.lra_farkas.specs.KeyedRows.{given_of}
+use Rattle.lra_farkas.specs.KeyedRows.{row_of_keyed}
 use Rattle.lra_farkas.specs.RowsByKinds.{HasNoFirst, HasNoPoint}
 use Rattle.lra_farkas.specs.declared.first.MultipliersFailure.{MultipliersFailure}
 use Rattle.lra_farkas.specs.declared.first.MultipliersFailure.TheVariants.{NotImplied, Strained, Memory}
@@ -22,21 +22,21 @@ use Rattle.lra_farkas.specs.declared.orders.Keyed.{Keyed}
 -- ---- keys
 pub keyed_pushed : (rows : List (List ℤ)) (kinds : List ConKind) (before new : List Keyed) (i : ℕ) (row : List ℤ) (kind : ConKind) (x : Keyed) →
     length rows ≡ length kinds → i < length rows → slice_get rows i ≡ Some row → slice_get kinds i ≡ Some kind → x.row ≡ row → x.kind ≡ kind →
-    new ≡ before ++ x ∷ [] → map given_of before ≡ rows_by_kind is_equality (take i rows) (take i kinds) →
-    map given_of new ≡ rows_by_kind is_equality (take (i + 1) rows) (take (i + 1) kinds)
+    new ≡ before ++ x ∷ [] → map row_of_keyed before ≡ rows_by_kind is_equality (take i rows) (take i kinds) →
+    map row_of_keyed new ≡ rows_by_kind is_equality (take (i + 1) rows) (take (i + 1) kinds)
 keyed_pushed rows kinds before new i row kind x n h er ek xr xk pushed so_far =
-    ap (map given_of) pushed ∙ map-append given_of before (x ∷ []) ∙ ap (λ (gs : List LinearRow). gs ++ given_of x ∷ []) so_far ∙
+    ap (map row_of_keyed) pushed ∙ map-append row_of_keyed before (x ∷ []) ∙ ap (λ (gs : List LinearRow). gs ++ row_of_keyed x ∷ []) so_far ∙
     ap (λ (r : List ℤ). rows_by_kind is_equality (take i rows) (take i kinds) ++ record { row = r; equal = is_equality x.kind } ∷ []) xr ∙
     ap (λ (k : ConKind). rows_by_kind is_equality (take i rows) (take i kinds) ++ record { row = row; equal = is_equality k } ∷ []) xk ∙
     sym (given_more is_equality rows kinds i row kind n h (sym (get_or_from_slice_get rows i row row er)) (sym (get_or_from_slice_get kinds i kind kind ek)))
 
 pub unkeyed_more : (before new : LinearSystem ConKind) (keyed : List Keyed) (i : ℕ) (x : Keyed) → i < length keyed → x ≡ get_or keyed i x →
     length before.kinds ≡ length before.rows → new.rows ≡ before.rows ++ x.row ∷ [] → new.kinds ≡ before.kinds ++ x.kind ∷ [] →
-    constraints before ≡ map given_of (take i keyed) → constraints new ≡ map given_of (take (i + 1) keyed)
+    constraints before ≡ map row_of_keyed (take i keyed) → constraints new ≡ map row_of_keyed (take (i + 1) keyed)
 unkeyed_more before new keyed i x h is n er ek so_far =
-    constraints_pushed before new x.row x.kind n er ek ∙ ap (λ (gs : List LinearRow). gs ++ given_of x ∷ []) so_far ∙
-    sym (map-append given_of (take i keyed) (x ∷ [])) ∙
-    ap (map given_of) (ap (λ (y : Keyed). take i keyed ++ y ∷ []) is ∙ sym (take_more keyed i x h))
+    constraints_pushed before new x.row x.kind n er ek ∙ ap (λ (gs : List LinearRow). gs ++ row_of_keyed x ∷ []) so_far ∙
+    sym (map-append row_of_keyed (take i keyed) (x ∷ [])) ∙
+    ap (map row_of_keyed) (ap (λ (y : Keyed). take i keyed ++ y ∷ []) is ∙ sym (take_more keyed i x h))
 
 pub sorted_widths : (n m : ℕ) (keyed sorted shown : List Keyed) → m ≡ n → shown ≡ sorted → IsPermutation keyed sorted →
     All (λ (k : Keyed). length k.row ≡ suc n) keyed → All (λ (k : Keyed). length k.row ≡ suc m) shown
@@ -44,11 +44,11 @@ sorted_widths n m keyed sorted shown em es p all =
     subst (λ (j : ℕ). All (λ (k : Keyed). length k.row ≡ suc j) shown) (sym em)
     (subst (All (λ (k : Keyed). length k.row ≡ suc n)) (sym es) (All-permutation (λ (k : Keyed). length k.row ≡ suc n) keyed sorted p all))
 
-pub sorted_rows : (rows all : List LinearRow) (keyed sorted shown : List Keyed) → map given_of keyed ≡ rows → IsPermutation keyed sorted → shown ≡ sorted →
-    all ≡ map given_of shown → IsPermutation rows all
+pub sorted_rows : (rows all : List LinearRow) (keyed sorted shown : List Keyed) → map row_of_keyed keyed ≡ rows → IsPermutation keyed sorted → shown ≡ sorted →
+    all ≡ map row_of_keyed shown → IsPermutation rows all
 sorted_rows rows all keyed sorted shown ek p es ea =
-    subst (IsPermutation rows) (sym (ea ∙ ap (map given_of) es))
-    (subst (λ (gs : List LinearRow). IsPermutation gs (map given_of sorted)) ek (IsPermutation-map given_of keyed sorted p))
+    subst (IsPermutation rows) (sym (ea ∙ ap (map row_of_keyed) es))
+    (subst (λ (gs : List LinearRow). IsPermutation gs (map row_of_keyed sorted)) ek (IsPermutation-map row_of_keyed keyed sorted p))
 
 -- ---- the same points
 same_con : (rows others : List LinearRow) (x : List ℤ) → IsPermutation rows others → Con rows x → Con others x

@@ -14,7 +14,7 @@ use Rattle.lra_linear_spec.proofs.Ring.{ring, v, ⊖, ◌⊕◌, ◌⊗◌, mul_
 use Rattle.lra_linear_spec.proofs.Products.{entry_negated, negated_length, entry_blend, blend_length, dot_same, dot_plus, dot_scale}
 use Rattle.lra_linear_spec.proofs.Signs.{above_zero, zero_at_least, add_nonnegative}
 use Rattle.lra_canonical.proofs.Solutions.{farkas, sum_none}
-use Rattle.lra_multipliers.specs.Multipliers.{Multipliers, AreSigned, Shows}
+use Rattle.lra_multipliers.specs.Multipliers.{Multipliers, AreSigned, IsFarkasCertificate}
 use Rattle.lra_farkas.specs.MultiplierRows.{AreAsWide, WhatHoldsIsShown, WhatHoldsAtPointsIsShown, NoPointIsShown}
 
 -- ---- factors of a system's rows as factors of its constraints
@@ -75,7 +75,7 @@ one_entry n m (suc j) = entry_zeros n j ∙ sym (entry_zeros m j)
 module _ (premises : List LinearRow) (claim : List ℤ) (n : ℕ) (wide : AreAsWide premises claim) (width : length claim ≡ suc n) where
   shown_by : (multiple first : ℕ) (fs : List ℕ) → 0 < multiple →
       ((j : ℕ) → pos multiple *ℤ entry claim j ≡ (pos first *ℤ entry (positivity n) j) +ℤ sum_of fs (system_of premises) j) →
-      (m : Multipliers) × Shows premises claim m
+      (m : Multipliers) × IsFarkasCertificate premises claim m
   shown_by multiple first fs h e =
       let i = gathered premises fs in (
         record { divisor = pos multiple; constant = pos first; factors = i.factors },
@@ -90,7 +90,7 @@ module _ (premises : List LinearRow) (claim : List ℤ) (n : ℕ) (wide : AreAsW
       )
 
   shown_of : (multiple : ℕ) (fs : List ℕ) → 0 < multiple → ((j : ℕ) → pos multiple *ℤ entry claim j ≡ sum_of fs (positivity n ∷ system_of premises) j) →
-      (m : Multipliers) × Shows premises claim m
+      (m : Multipliers) × IsFarkasCertificate premises claim m
   shown_of multiple [] h e =
       shown_by multiple 0 [] h (λ j. e j ∙ ring (v (pos 0)) (v (pos 0) ⊗ v (entry (positivity n) j) ⊕ v (pos 0)) (omega arith))
   shown_of multiple (f ∷ fs) h e = shown_by multiple f fs h e
@@ -105,7 +105,7 @@ module _ (premises : List LinearRow) (claim : List ℤ) (n : ℕ) (wide : AreAsW
   ]
 
   holds_shown_at : ((x : List ℤ) → length x ≡ suc n → pos 0 ≤ℤ entry x 0 → Con premises x → pos 0 ≤ℤ product claim x) →
-      (m : Multipliers) × Shows premises claim m
+      (m : Multipliers) × IsFarkasCertificate premises claim m
   holds_shown_at h =
       let g = farkas (suc n) (positivity n ∷ system_of premises) claim widths width (λ u l s.
       h u l (subst (λ (z : ℤ). pos 0 ≤ℤ z) (positivity_product n u) (s (positivity n) (contains_head (positivity n) (system_of premises))))

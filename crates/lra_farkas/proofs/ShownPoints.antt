@@ -17,7 +17,7 @@ use Rattle.lra_linear_spec.proofs.Products.{entry_past}
 use Rattle.lra_linear_spec.proofs.Ring.{ring, v, ⊖, ◌⊕◌, ◌⊗◌}
 use Rattle.lra_linear_spec.proofs.UnitRows.{unit_product}
 use Rattle.lra_multipliers.specs.Columns.{first_of}
-use Rattle.lra_multipliers.specs.Multipliers.{IsSigned, AreSigned, Shows}
+use Rattle.lra_multipliers.specs.Multipliers.{IsSigned, AreSigned, IsFarkasCertificate}
 use Rattle.lra_farkas.specs.MultiplierRows.{balance_row, inequality_columns, multiplier_dims, sign_row, multiplier_rows, AreAsWide, PointsShow}
 
 -- ---- one column
@@ -177,7 +177,7 @@ module _ (premises : List LinearRow) (claim : List ℤ) (d c : ℤ) (ls : List �
       (map_has (λ i. equality (balance_row (rows_of premises) claim i)) (range_with_len 0 (length claim)) j (range_has (length claim) j less))))
 
   shown_at : IsPoint (multiplier_dims premises) (d ∷ c ∷ ls) → Con (multiplier_rows premises claim) (d ∷ c ∷ ls) →
-      Shows premises claim (record { divisor = d; constant = c; factors = ls })
+      IsFarkasCertificate premises claim (record { divisor = d; constant = c; factors = ls })
   shown_at p h = record {
     divisor = p.divisor;
     constant = sign_held h 1 (contains_head 1 (inequality_columns 2 premises));
@@ -186,14 +186,15 @@ module _ (premises : List LinearRow) (claim : List ℤ) (d c : ℤ) (ls : List �
     sum = λ j. elim (cases_lt j (length claim)) [ inl less ↦ balance_held h j less | inr past ↦ sum_behind j past ];
   }
 
-  sign_holds : Shows premises claim (record { divisor = d; constant = c; factors = ls }) → (k : ℕ) → Contains (1 ∷ inequality_columns 2 premises) k →
+  sign_holds : IsFarkasCertificate premises claim (record { divisor = d; constant = c; factors = ls }) → (k : ℕ) →
+      Contains (1 ∷ inequality_columns 2 premises) k →
       pos 0 ≤ℤ entry (d ∷ c ∷ ls) k
   sign_holds s k m = elim (contains_cases 1 k (inequality_columns 2 premises) m) [
     | inl e ↦ subst (λ (i : ℕ). pos 0 ≤ℤ entry (d ∷ c ∷ ls) i) e s.constant
     | inr t ↦ signs_to (entry (d ∷ c ∷ ls)) 2 premises ls entry_columns s.factors k t
   ]
 
-  holds_at : Shows premises claim (record { divisor = d; constant = c; factors = ls }) → Con (multiplier_rows premises claim) (d ∷ c ∷ ls)
+  holds_at : IsFarkasCertificate premises claim (record { divisor = d; constant = c; factors = ls }) → Con (multiplier_rows premises claim) (d ∷ c ∷ ls)
   holds_at s g m = elim (Contains-append_cases (map (λ j. equality (balance_row (rows_of premises) claim j)) (range_with_len 0 (length claim)))
       (map (sign_row (multiplier_dims premises)) (1 ∷ inequality_columns 2 premises)) g m) [
         | inl left ↦

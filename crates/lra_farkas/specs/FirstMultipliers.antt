@@ -7,7 +7,7 @@ use Rattle.lra_linear_spec.specs.Points.{IsEmptySet}
 use Rattle.lra_linear_spec.specs.Polyhedra.{Polyhedron, IsPolyhedronOf}
 use Rattle.lra_linear_spec.specs.Range.{InRange}
 use Rattle.lra_linear_spec.specs.Strain.{Loss}
-use Rattle.lra_multipliers.specs.Multipliers.{Multipliers, IsWide}
+use Rattle.lra_multipliers.specs.Multipliers.{Multipliers, IsCheckWide}
 use Rattle.lra_farkas.specs.MultiplierRows.{multiplier_dims, multiplier_rows, point_of}
 use Rattle.lra_farkas.specs.declared.first.MultipliersFailure.{MultipliersFailure}
 use Rattle.lra_farkas.specs.declared.first.MultipliersFailure.TheVariants.{NotImplied, Strained, Memory}
@@ -19,7 +19,7 @@ pub record AreFirst (premises : List LinearRow) (claim : List ℤ) (m : Multipli
   pub first : slice_get polyhedron.generators 0 ≡ Some (generator (point_of m))
 
 -- all of them are numbers of the range
-pub record AreInRange (m : Multipliers) : Type 0 where
+pub record MultipliersInRange (m : Multipliers) : Type 0 where
   pub divisor : InRange m.divisor
   pub constant : InRange m.constant
   pub factors : All InRange m.factors
@@ -28,9 +28,10 @@ pub record AreInRange (m : Multipliers) : Type 0 where
 abbrev pub MultipliersStrain : List LinearRow → List ℤ → Type 0
 MultipliersStrain premises claim =
     ((loss : Loss) × FromRowsStrains (multiplier_dims premises) (multiplier_rows premises claim) loss)
-    ⊎ ((m : Multipliers) × AreFirst premises claim m × IsWide premises claim m)
+    ⊎ ((m : Multipliers) × AreFirst premises claim m × IsCheckWide premises claim m)
 
-abbrev pub IsFailure : List LinearRow → List ℤ → MultipliersFailure → Type 0
-IsFailure premises claim NotImplied = IsEmptySet (multiplier_dims premises) (Con (multiplier_rows premises claim))
-IsFailure premises claim Strained = MultipliersStrain premises claim
-IsFailure premises claim Memory = Unit {0}
+abbrev pub IsMultipliersFailure : List LinearRow → List ℤ → MultipliersFailure → Type 0
+IsMultipliersFailure premises claim NotImplied =
+    IsEmptySet (multiplier_dims premises) (Con (multiplier_rows premises claim))
+IsMultipliersFailure premises claim Strained = MultipliersStrain premises claim
+IsMultipliersFailure premises claim Memory = Unit {0}

@@ -7,7 +7,7 @@ use Rattle.lra_linear_spec.specs.OperationStrain.{unit_row}
 use Rattle.lra_linear_spec.specs.Points.{IsPoint, IsEmptySet, IsWithin}
 use Rattle.lra_linear_spec.specs.Polyhedra.{falsity}
 use Rattle.lra_linear_spec.specs.Vectors.{entry, product}
-use Rattle.lra_multipliers.specs.Multipliers.{Multipliers, Shows}
+use Rattle.lra_multipliers.specs.Multipliers.{Multipliers, IsFarkasCertificate}
 use Rattle.lra_multipliers.specs.Columns.{first_of}
 
 -- In this column, the multiple of the claim is the sum of 1 >= 0, which has a column 0 alone, and the premises.
@@ -50,21 +50,21 @@ pub record IsMultipliersPoint (premises : List LinearRow) (claim : List ℤ) (m 
 
 abbrev pub PointsShow : Type 0
 PointsShow = (premises : List LinearRow) (claim : List ℤ) (m : Multipliers) → AreAsWide premises claim →
-    (IsMultipliersPoint premises claim m ↔ Shows premises claim m)
+    (IsMultipliersPoint premises claim m ↔ IsFarkasCertificate premises claim m)
 
 -- Some multipliers show what holds wherever the premises do and column 0 isn't below 0 (Farkas 1902).
 abbrev pub WhatHoldsIsShown : Type 0
 WhatHoldsIsShown = (premises : List LinearRow) (claim : List ℤ) → AreAsWide premises claim →
     ((x : List ℤ) → length x ≡ length claim → pos 0 ≤ℤ entry x 0 → Con premises x → pos 0 ≤ℤ product claim x) →
-    (m : Multipliers) × Shows premises claim m
+    (m : Multipliers) × IsFarkasCertificate premises claim m
 
 -- For premises with a point it suffices that the claim holds at their points; for those without one, some multipliers
 -- show that -1 >= 0.
 abbrev pub WhatHoldsAtPointsIsShown : Type 0
 WhatHoldsAtPointsIsShown = (n : ℕ) (premises : List LinearRow) (claim p : List ℤ) → AreAsWide premises claim →
     length claim ≡ suc n → IsPoint n p → Con premises p →
-    IsWithin n (Con premises) (λ x. pos 0 ≤ℤ product claim x) → (m : Multipliers) × Shows premises claim m
+    IsWithin n (Con premises) (λ x. pos 0 ≤ℤ product claim x) → (m : Multipliers) × IsFarkasCertificate premises claim m
 
 abbrev pub NoPointIsShown : Type 0
 NoPointIsShown = (n : ℕ) (premises : List LinearRow) → AreAsWide premises (falsity n) → IsEmptySet n (Con premises) →
-    (m : Multipliers) × Shows premises (falsity n) m
+    (m : Multipliers) × IsFarkasCertificate premises (falsity n) m

@@ -9,7 +9,7 @@ ghost use Rattle.lra_systems.specs.LinearSystems.{constraints};
 ghost use Rattle.lra_multipliers.specs.Multipliers.{IsAnswer, yes};
 ghost use Rattle.lra_multipliers.specs.MultiplierViews.{multipliers_view};
 ghost use Rattle.lra_farkas.specs.MultiplierRows.{point_of};
-ghost use Rattle.lra_farkas.specs.FirstMultipliers.{AreFirst, AreInRange, IsFailure};
+ghost use Rattle.lra_farkas.specs.FirstMultipliers.{AreFirst, MultipliersInRange, IsMultipliersFailure};
 ghost use Rattle.lra_farkas.specs.RowsByKinds.{HasNoFirst, HasNoPoint};
 
 use crate::orders::{Order, reorder};
@@ -106,7 +106,7 @@ fn first_multipliers(alloc: Global, all: &Poly) -> Result<Multipliers, AllocErro
     requires dims { 0 < all.now.dims }
     ensures first { IfOk result (λ m. slice_get all.now.generators 0 ≡
         Some (generator (point_of (multipliers_view m)))) }
-    ensures numbers { IfOk result (λ m. AreInRange (multipliers_view m)) }
+    ensures numbers { IfOk result (λ m. MultipliersInRange (multipliers_view m)) }
 {
     let (point, _kind) = all.generators().at(0);
     let (_, factors) = point.entries().split_at(2);
@@ -124,8 +124,8 @@ fn find_first(
     requires width { length claim.now ≡ suc premises.now.dims }
     ensures first { IfOk result (λ m.
         AreFirst (constraints premises.now) claim.now (multipliers_view m)) }
-    ensures numbers { IfOk result (λ m. AreInRange (multipliers_view m)) }
-    ensures failure { IfErr result (IsFailure (constraints premises.now) claim.now) }
+    ensures numbers { IfOk result (λ m. MultipliersInRange (multipliers_view m)) }
+    ensures failure { IfErr result (IsMultipliersFailure (constraints premises.now) claim.now) }
 {
     let rows = list_rows(alloc, premises, claim)?;
     let all = convert_by_any(alloc, &rows)?;
@@ -142,10 +142,10 @@ pub fn multipliers(
     requires width { length claim.now ≡ suc premises.now.dims }
     ensures first { IfOk result (λ m.
         AreFirst (constraints premises.now) claim.now (multipliers_view m)) }
-    ensures numbers { IfOk result (λ m. AreInRange (multipliers_view m)) }
+    ensures numbers { IfOk result (λ m. MultipliersInRange (multipliers_view m)) }
     ensures shows { IfOk result (λ m.
         IsAnswer (constraints premises.now) claim.now (multipliers_view m) yes) }
-    ensures failure { IfErr result (IsFailure (constraints premises.now) claim.now) }
+    ensures failure { IfErr result (IsMultipliersFailure (constraints premises.now) claim.now) }
 {
     let (_rows, _kinds) = (premises.rows(), premises.kinds());
     let first = find_first(alloc, premises, claim)?;

@@ -5,7 +5,7 @@ ghost use Rattle.std.specs.List.{All};
 ghost use Rattle.std.specs.List.Sorted.{IsPermutation};
 ghost use Rattle.lra_systems.specs.Dimensions.{too_many_dimensions};
 ghost use Rattle.lra_systems.specs.LinearSystems.{constraints};
-ghost use Rattle.lra_farkas.specs.KeyedRows.{given_of};
+ghost use Rattle.lra_farkas.specs.KeyedRows.{row_of_keyed};
 
 use lra_linear_spec::ConKind;
 use lra_row::Row;
@@ -46,7 +46,7 @@ fn key_of(order: Order, row: &Row, kind: ConKind) -> (bool, u128) {
 
 /// The rows in their order, each with what decides its place in another.
 fn key_rows(alloc: Global, rows: &ConSys, order: Order) -> Result<Vec<Keyed>, AllocError>
-    ensures rows { IfOk result (λ keyed. map given_of keyed.items ≡ constraints rows.now) }
+    ensures rows { IfOk result (λ keyed. map row_of_keyed keyed.items ≡ constraints rows.now) }
     ensures widths { IfOk result (λ keyed.
         All (λ k. length k.row ≡ suc rows.now.dims) keyed.items) }
 {
@@ -65,7 +65,7 @@ fn unkey_rows(alloc: Global, dims: usize, keyed: &[Keyed]) -> Result<ConSys, All
     requires small { dims < too_many_dimensions }
     requires widths { All (λ k. length k.row ≡ suc dims) keyed.now }
     ensures dims { IfOk result (λ s. s.dims ≡ dims) }
-    ensures rows { IfOk result (λ s. constraints s ≡ map given_of keyed.now) }
+    ensures rows { IfOk result (λ s. constraints s ≡ map row_of_keyed keyed.now) }
 {
     let mut rows = ConSys::new(alloc, dims);
     for item in keyed {

@@ -26,7 +26,8 @@ use Rattle.lra_linear_spec.proofs.Lines.{entry_zeros}
 use Rattle.lra_linear_spec.proofs.Products.{entry_past, row_same}
 use Rattle.lra_linear_spec.proofs.Ring.{ring, v, ◌⊕◌, ◌⊗◌}
 use Rattle.lra_multipliers.specs.Symbols.{constant_row}
-use Rattle.lra_multipliers.specs.Multipliers.{Multipliers, IsSigned, AreSigned, Shows, checked_multiple, checked_sum, premises_sum, IsWide, wide, IsAnswer}
+use Rattle.lra_multipliers.specs.Multipliers.{Multipliers, IsSigned, AreSigned, IsFarkasCertificate, checked_multiple, checked_sum, premises_sum, IsCheckWide}
+use Rattle.lra_multipliers.specs.Multipliers.{wide, IsAnswer}
 use Rattle.lra_multipliers.specs.Multipliers.{is_signed, are_signed, may_show, shown_if, compared, checked}
 use Rattle.lra_multipliers.specs.Columns.{within_range, added_to, column_sum, first_of, premises_column, both, column_agrees}
 use Rattle.lra_multipliers.specs.Columns.{AgreeBelow, ColumnsTell, answer_told}
@@ -394,9 +395,10 @@ signs_tell premises m =
 
 shows_decided : (premises : List LinearRow) (c : ℤ) (cs : List ℤ) (m : Multipliers) (row sum : List ℤ) → AreWide (length (c ∷ cs)) premises → checked_multiple
     (c ∷ cs) m.divisor ≡ Ok row →
-    premises_sum premises (c ∷ cs) m ≡ Ok sum → Decides (may_show premises m && pointwise int_eq row sum) (Shows premises (c ∷ cs) m)
+    premises_sum premises (c ∷ cs) m ≡ Ok sum → Decides (may_show premises m && pointwise int_eq row sum) (IsFarkasCertificate premises (c ∷ cs) m)
 shows_decided premises c cs m row sum w f g =
-    Decides-like {P = HasSigns premises m × (row ≡ sum)} {Q = Shows premises (c ∷ cs) m} (may_show premises m && pointwise int_eq row sum) forth back
+    Decides-like {P = HasSigns premises m × (row ≡ sum)} {Q = IsFarkasCertificate premises (c ∷ cs) m} (may_show premises m && pointwise int_eq row sum) forth
+    back
     (Decides-and {P = HasSigns premises m} {Q = row ≡ sum} (may_show premises m) (pointwise int_eq row sum) (signs_tell premises m) (signed_items row sum))
   where
     left : (length row ≡ length (c ∷ cs)) × ((j : ℕ) → entry row j ≡ m.divisor *ℤ entry (c ∷ cs) j)
@@ -410,7 +412,7 @@ shows_decided premises c cs m row sum w f g =
         m.factors (rows_of premises) j
     first j = ap (λ (z : ℤ). z +ℤ signed_sum m.factors (rows_of premises) j) (positive_entry (length (c ∷ cs)) m.constant j)
 
-    forth : HasSigns premises m × (row ≡ sum) → Shows premises (c ∷ cs) m
+    forth : HasSigns premises m × (row ≡ sum) → IsFarkasCertificate premises (c ∷ cs) m
     forth p = record {
       divisor = p.0.0.0;
       constant = p.0.0.1;
@@ -418,7 +420,7 @@ shows_decided premises c cs m row sum w f g =
       sum = λ j. sym (left.1 j) ∙ ap (λ (r : List ℤ). entry r j) p.1 ∙ right.1 j ∙ sym (first j);
     }
 
-    back : Shows premises (c ∷ cs) m → HasSigns premises m × (row ≡ sum)
+    back : IsFarkasCertificate premises (c ∷ cs) m → HasSigns premises m × (row ≡ sum)
     back s = (((s.divisor, s.constant), s.factors), row_same row sum (left.0 ∙ sym right.0) (λ j. left.1 j ∙ s.sum j ∙ first j ∙ sym (right.1 j)))
 
 ok_err : (r : List ℤ) (e : Excess) → (let a : Result (List ℤ) Excess = Ok r in a) ≡ Err e → ⊥
@@ -426,11 +428,12 @@ ok_err r e f = cc
 
 not_wide : (premises : List LinearRow) (claim : List ℤ) (m : Multipliers) (row sum : List ℤ) → checked_multiple claim m.divisor ≡ Ok row → premises_sum premises
     claim m ≡ Ok sum →
-    IsWide premises claim m → ⊥
+    IsCheckWide premises claim m → ⊥
 not_wide premises claim m row sum f g (inl x) = ok_err row x.0 (sym f ∙ x.1)
 not_wide premises claim m row sum f g (inr x) = ok_err sum x.0 (sym g ∙ x.1)
 
-answer_by : (premises : List LinearRow) (claim : List ℤ) (m : Multipliers) (t : Bool) → (IsWide premises claim m → ⊥) → Decides t (Shows premises claim m) →
+answer_by : (premises : List LinearRow) (claim : List ℤ) (m : Multipliers) (t : Bool) → (IsCheckWide premises claim m → ⊥) →
+    Decides t (IsFarkasCertificate premises claim m) →
     IsAnswer premises claim m (shown_if t)
 answer_by premises claim m true n d = (n, d.0 refl)
 answer_by premises claim m false n d = (n, λ s. false_true (d.1 s))
@@ -438,7 +441,8 @@ answer_by premises claim m false n d = (n, λ s. false_true (d.1 s))
 exact_by : (premises : List LinearRow) (claim : List ℤ) (m : Multipliers) (a b : Result (List ℤ) Excess) → checked_multiple claim m.divisor ≡ a → premises_sum
     premises claim m ≡ b →
     ((row sum : List ℤ) → checked_multiple claim m.divisor ≡ Ok row → premises_sum premises claim m ≡ Ok sum →
-    Decides (may_show premises m && pointwise int_eq row sum) (Shows premises claim m)) → IsAnswer premises claim m (compared a b (may_show premises m))
+    Decides (may_show premises m && pointwise int_eq row sum) (IsFarkasCertificate premises claim m)) →
+    IsAnswer premises claim m (compared a b (may_show premises m))
 exact_by premises claim m (Err e) b f g d = inl (e, f)
 exact_by premises claim m (Ok row) (Err e) f g d = inr (e, g)
 exact_by premises claim m (Ok row) (Ok sum) f g d =

@@ -9,7 +9,7 @@ use Rattle.lra_linear_spec.proofs.Products.{dot_same, dot_zero, dot_plus, dot_sc
 use Rattle.lra_linear_spec.proofs.OneSpelling.{positivity_product}
 use Rattle.lra_linear_spec.proofs.Ring.{ring, v, ◌⊗◌, mul_nonnegative}
 use Rattle.lra_linear_spec.proofs.Signs.{as_nat, add_nonnegative, divide_nonnegative, zero_at_least}
-use Rattle.lra_multipliers.specs.Multipliers.{Multipliers, IsSigned, AreSigned, Shows}
+use Rattle.lra_multipliers.specs.Multipliers.{Multipliers, IsSigned, AreSigned, IsFarkasCertificate}
 
 times_held : (b : Bool) (l z : ℤ) → IsSigned b l → HoldsWith b z → pos 0 ≤ℤ (l *ℤ z)
 times_held true l z s h = zero_at_least (l *ℤ z) (ap (λ (y : ℤ). l *ℤ y) h ∙ ring (v l ⊗ v (pos 0)) (v (pos 0)) (omega arith))
@@ -35,7 +35,8 @@ divided d z h k =
     positive m e = omega (arith, ints, h, e)
 
 -- the claim at a point whose column 0 is not below 0
-pub shown_holds : (premises : List LinearRow) (claim x : List ℤ) (m : Multipliers) → Shows premises claim m → pos 0 ≤ℤ entry x 0 → Con premises x → pos 0 ≤ℤ
+pub shown_holds : (premises : List LinearRow) (claim x : List ℤ) (m : Multipliers) → IsFarkasCertificate premises claim m → pos 0 ≤ℤ entry x 0 → Con premises x
+    → pos 0 ≤ℤ
     product claim x
 shown_holds premises claim x m s o h =
     subst (λ (z : ℤ). pos 0 ≤ℤ z) (product_comm x claim)

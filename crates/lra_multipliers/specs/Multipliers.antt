@@ -29,7 +29,7 @@ AreSigned (g ∷ gs) [] = ⊥
 AreSigned (g ∷ gs) (l ∷ ls) = IsSigned g.equal l × AreSigned gs ls
 
 -- a positive multiple of the claim is a sum of 1 >= 0 and the premises, column by column
-pub record Shows (premises : List LinearRow) (claim : List ℤ) (m : Multipliers) : Type 0 where
+pub record IsFarkasCertificate (premises : List LinearRow) (claim : List ℤ) (m : Multipliers) : Type 0 where
   pub divisor : pos 0 <ℤ m.divisor
   pub constant : pos 0 ≤ℤ m.constant
   pub factors : AreSigned premises m.factors
@@ -50,8 +50,8 @@ premises_sum premises claim m = checked_sum (zeros (length claim)) (m.constant �
     (record { row = constant_row (length claim) (pos 1); equal = false } ∷ premises)
 
 -- a product or a partial sum passes the range
-abbrev pub IsWide : List LinearRow → List ℤ → Multipliers → Type 0
-IsWide premises claim m = ((e : Excess) × (checked_multiple claim m.divisor ≡ Err e)) ⊎
+abbrev pub IsCheckWide : List LinearRow → List ℤ → Multipliers → Type 0
+IsCheckWide premises claim m = ((e : Excess) × (checked_multiple claim m.divisor ≡ Err e)) ⊎
     ((e : Excess) × (premises_sum premises claim m ≡ Err e))
 
 pub data Answer : Type 0 where
@@ -61,9 +61,9 @@ pub data Answer : Type 0 where
 
 -- the answer of the check; exactly one is right
 abbrev pub IsAnswer : List LinearRow → List ℤ → Multipliers → Answer → Type 0
-IsAnswer premises claim m yes = (¬ IsWide premises claim m) × Shows premises claim m
-IsAnswer premises claim m no = (¬ IsWide premises claim m) × (¬ Shows premises claim m)
-IsAnswer premises claim m wide = IsWide premises claim m
+IsAnswer premises claim m yes = (¬ IsCheckWide premises claim m) × IsFarkasCertificate premises claim m
+IsAnswer premises claim m no = (¬ IsCheckWide premises claim m) × (¬ IsFarkasCertificate premises claim m)
+IsAnswer premises claim m wide = IsCheckWide premises claim m
 
 -- the check, as it is made: first whether something passes, then the signs, then the sum
 abbrev pub is_signed : Bool → ℤ → Bool
@@ -94,5 +94,6 @@ checked premises claim m = compared (checked_multiple claim m.divisor) (premises
 
 -- where the premises hold, a claim that multipliers show does
 abbrev pub MultipliersShow : Type 0
-MultipliersShow = (premises : List LinearRow) (claim x : List ℤ) (m : Multipliers) → Shows premises claim m →
+MultipliersShow = (premises : List LinearRow) (claim x : List ℤ) (m : Multipliers) →
+    IsFarkasCertificate premises claim m →
     pos 0 ≤ℤ entry x 0 → Con premises x → pos 0 ≤ℤ product claim x

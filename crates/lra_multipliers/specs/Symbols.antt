@@ -33,29 +33,29 @@ composed width [] forms = Ok (zeros width)
 composed width (k ∷ cs) forms = composed_from (constant_row width k) cs forms
 
 -- a path so far: the rows of the variables that live, its tests, and the first column that is free
-pub record Walked : Type 0 where
+pub record SymbolicState : Type 0 where
   pub forms : List (List ℤ)
   pub tests : List LinearRow
   pub free : ℕ
 
-abbrev pub tests_too : Walked → LinearRow → Walked
+abbrev pub tests_too : SymbolicState → LinearRow → SymbolicState
 tests_too w g = record w { tests = w.tests ++ g ∷ [] }
 
-abbrev pub gives : Walked → ℕ → List ℤ → Walked
+abbrev pub gives : SymbolicState → ℕ → List ℤ → SymbolicState
 gives w x row = record w { forms = slice_set w.forms x row }
 
 -- a further action, over rows of this width
-abbrev pub walked_by : ℕ → Action → Walked → Result Walked Excess
-walked_by width (assign x e) w = and_then (composed width (form_row e) w.forms) (λ row. Ok (gives w x row))
-walked_by width (forget x) w = Ok (record (gives w x (symbol width w.free)) { free = suc w.free })
-walked_by width (test kind e) w = and_then (composed width (form_row e) w.forms)
+abbrev pub executed_action : ℕ → Action → SymbolicState → Result SymbolicState Excess
+executed_action width (assign x e) w = and_then (composed width (form_row e) w.forms) (λ row. Ok (gives w x row))
+executed_action width (forget x) w = Ok (record (gives w x (symbol width w.free)) { free = suc w.free })
+executed_action width (test kind e) w = and_then (composed width (form_row e) w.forms)
     (λ row. Ok (tests_too w (record { row = row; equal = is_equality kind })))
-walked_by width (embed k) w = Ok (record w { forms = w.forms ++ symbols width w.free k; free = w.free + k })
-walked_by width (remove_last k) w = Ok (record w { forms = take (length w.forms - k) w.forms })
+executed_action width (embed k) w = Ok (record w { forms = w.forms ++ symbols width w.free k; free = w.free + k })
+executed_action width (remove_last k) w = Ok (record w { forms = take (length w.forms - k) w.forms })
 
-abbrev pub walked : ℕ → List Action → Walked → Result Walked Excess
-walked width [] w = Ok w
-walked width (step ∷ steps) w = and_then (walked_by width step w) (λ next. walked width steps next)
+abbrev pub executed : ℕ → List Action → SymbolicState → Result SymbolicState Excess
+executed width [] w = Ok w
+executed width (step ∷ steps) w = and_then (executed_action width step w) (λ next. executed width steps next)
 
 -- how many symbols actions bring, and how many tests they make
 abbrev pub new_symbols : List Action → ℕ
@@ -78,8 +78,8 @@ tests_in (remove_last k ∷ steps) = tests_in steps
 abbrev pub width_of : ℕ → List Action → ℕ
 width_of live steps = suc (live + new_symbols steps)
 
-abbrev pub walk_of : ℕ → List Action → Result Walked Excess
-walk_of live steps = walked (width_of live steps) steps (record {
+abbrev pub executed_path : ℕ → List Action → Result SymbolicState Excess
+executed_path live steps = executed (width_of live steps) steps (record {
   forms = symbols (width_of live steps) 1 live;
   tests = [];
   free = suc live;

@@ -14,7 +14,7 @@ use Rattle.lra_operations.specs.declared.tree.Site as declared
 use Rattle.lra_report.specs.BackText.{BackReport}
 use Rattle.lra_front_end.specs.Stages.{HasTree, HasInlinedTree, HasConstants}
 use Rattle.lra_paths.specs.Paths.{AreFewIn, HasTooManyIn}
-use Rattle.lra_certificate.specs.Claims.{IsProgram}
+use Rattle.lra_certificate_spec.specs.Claims.{IsProgram}
 use Rattle.lra_poly_domain.specs.Abstraction.{polyhedron_abstraction}
 use Rattle.lra_poly_domain.specs.Backward.{polyhedron_backward}
 use Rattle.lra_source.proofs.ReportSteps.{few_points}

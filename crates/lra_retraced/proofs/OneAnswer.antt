@@ -7,8 +7,8 @@ use Rattle.lra_program.specs.Sites.{sites_of}
 use Rattle.lra_front_end.proofs.EachAnswer.{each_answer}
 use Rattle.lra_paths.specs.Paths.{AreFewPaths}
 use Rattle.lra_paths.proofs.ManyPaths.{not_both}
-use Rattle.lra_certificate.specs.Claims.{IsProgram, program_of}
-use Rattle.lra_certificate.proofs.OneProgram.{accepted_of, as_said}
+use Rattle.lra_certificate_spec.specs.Claims.{IsProgram, program_of}
+use Rattle.lra_certificate_spec.proofs.OneProgram.{accepted_of, as_said}
 use Rattle.lra_back.specs.BackwardAnalysis.{IsAssertion}
 use Rattle.lra_retraced.specs.declared.refusals.BackRefusal.{BackRefusal}
 use Rattle.lra_retraced.specs.declared.refusals.BackRefusal.TheVariants.{Source, NoAssertion, Paths}

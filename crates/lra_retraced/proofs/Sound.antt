@@ -9,7 +9,7 @@ use Rattle.lra_program.specs.Sites.{sites_of}
 use Rattle.lra_operations.specs.Agree.{point_of}
 use Rattle.lra_report.specs.BackText.{BackReport}
 use Rattle.lra_report.specs.Report.{InvariantHolds, Invariant}
-use Rattle.lra_certificate.specs.Claims.{program_of}
+use Rattle.lra_certificate_spec.specs.Claims.{program_of}
 use Rattle.lra_poly_domain.specs.Laws.{polyhedron_laws}
 use Rattle.lra_poly_domain.specs.Abstraction.{polyhedron_abstraction}
 use Rattle.lra_poly_domain.specs.Backward.{polyhedron_backward}

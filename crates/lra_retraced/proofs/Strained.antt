@@ -9,7 +9,7 @@ use Rattle.lra_analysis_spec.specs.Accesses.{OpInside}
 use Rattle.lra_analysis_spec.specs.Analysis.{IsSolution}
 use Rattle.lra_analysis_spec.specs.Judging.{Finding, first_flagged}
 use Rattle.lra_analysis_spec.specs.Operations as iteration
-use Rattle.lra_certificate.specs.Claims.{program_of}
+use Rattle.lra_certificate_spec.specs.Claims.{program_of}
 use Rattle.lra_poly_domain.specs.Abstraction.{polyhedron_abstraction}
 use Rattle.lra_poly_domain.specs.Backward.{polyhedron_backward}
 use Rattle.lra_source.proofs.Found.{none_before}

@@ -30,7 +30,7 @@ use Rattle.lra_analysis_spec.specs.Analysis.{ExactIteration, IsSolution, Strains
 use Rattle.lra_analysis_spec.specs.Operations as iteration
 use Rattle.lra_analysis_spec.specs.Pass.{PassResult}
 use Rattle.lra_paths.specs.Paths.{AreFewPaths, HasTooManyPaths}
-use Rattle.lra_certificate.specs.Claims.{IsProgram, program_of}
+use Rattle.lra_certificate_spec.specs.Claims.{IsProgram, program_of}
 use Rattle.lra_poly_domain.specs.Abstraction.{polyhedron_abstraction}
 use Rattle.lra_poly_domain.specs.Backward.{polyhedron_backward}
 use Rattle.lra_back.specs.Operations.{exact_back_operations, straining_back_operations}

@@ -2,7 +2,7 @@
 use Rattle.std.proofs.Common.{◌≡◌, ℕ, suc, List, subst, inl, inr}
 use Rattle.std.specs.Prelude.{Option}
 use Rattle.std.specs.Io.KnownBytes.{Appends}
-use Rattle.lra_certificate.proofs.OneProgram.{accepted_of}
+use Rattle.lra_certificate_spec.proofs.OneProgram.{accepted_of}
 use Rattle.lra_retraced.proofs.Showing.{backs_same_points}
 use Rattle.lra_retraced.proofs.Sound.{backs_sound, proved_at_first}
 use Rattle.lra_retraced.proofs.Strained.{unflagged_defined, flagged_strain}

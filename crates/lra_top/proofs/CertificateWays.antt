@@ -3,11 +3,11 @@ use Rattle.std.proofs.Common.{◌≡◌, ◌∙◌, ◌≤◌, ◌<◌, ◌+◌,
 use Rattle.std.specs.Prelude.{Some}
 use Rattle.std.proofs.lemmas.Grind.{common_steps}
 use Rattle.lra_program.specs.Sites.{sites_of}
-use Rattle.lra_certificate.specs.Claims.{VerifyAnswer, verified, source_refused, paths_refused, line_refused, Deserves, IsCertificate, program_of}
-use Rattle.lra_certificate.specs.Claims.{greatest_certificate}
+use Rattle.lra_certificate_spec.specs.Claims.{VerifyAnswer, verified, source_refused, paths_refused, line_refused, VerifiesTo, IsCertificate, program_of}
+use Rattle.lra_certificate_spec.specs.Claims.{greatest_certificate}
 use Rattle.lra_verify.specs.RefusalViews.{refusal_view}
-use Rattle.lra_lines.specs.declared.refusals.VerifyRefusal.{VerifyRefusal}
-use Rattle.lra_lines.specs.declared.refusals.VerifyRefusal.TheVariants.{Source, Paths, Line}
+use Rattle.lra_certificate_lines.specs.declared.refusals.VerifyRefusal.{VerifyRefusal}
+use Rattle.lra_certificate_lines.specs.declared.refusals.VerifyRefusal.TheVariants.{Source, Paths, Line}
 use Rattle.lra_answers.specs.Statuses.{Ends, refused}
 use Rattle.lra_answers.proofs.Answering.{IsAnswering, small_as, past_as}
 use Rattle.lra_top.specs.CertificateAnswer.{DeservesCertificate, EachCertificateAnswer, CallsCertificate, certificate_statuses, answer_text, answer_status, verified_text}
@@ -19,7 +19,7 @@ use Rattle.lra_answers.specs.declared.status.Status.TheVariants.{Proved, Refused
 
 -- answers ------------------------------------------------------------------------
 
-pub deserves_verified : (bytes text : List ℕ) (points proved : ℕ) → Deserves bytes (verified points proved) → text ≡ verified_text points proved
+pub deserves_verified : (bytes text : List ℕ) (points proved : ℕ) → VerifiesTo bytes (verified points proved) → text ≡ verified_text points proved
     → DeservesCertificate bytes text Proved
 deserves_verified bytes text points proved d written = record { answer = verified points proved; deserved = d; written = written; ends = refl }
 
@@ -28,7 +28,7 @@ refused_status (Source r) = refl
 refused_status (Paths p) = refl
 refused_status (Line n fault) = refl
 
-pub deserves_refusal : (bytes text : List ℕ) (r : VerifyRefusal) → Deserves bytes (refusal_view r) → text ≡ answer_text (refusal_view r)
+pub deserves_refusal : (bytes text : List ℕ) (r : VerifyRefusal) → VerifiesTo bytes (refusal_view r) → text ≡ answer_text (refusal_view r)
     → DeservesCertificate bytes text Refused
 deserves_refusal bytes text r d written = record { answer = refusal_view r; deserved = d; written = written; ends = sym (refused_status r) }
 
@@ -52,7 +52,7 @@ small_length = omega arith
 
 -- one byte past it ---------------------------------------------------------------
 
-longer_answer : (bytes rest : List ℕ) (a : VerifyAnswer) → greatest_certificate < length bytes → Deserves bytes a → Deserves (bytes ++ rest) a
+longer_answer : (bytes rest : List ℕ) (a : VerifyAnswer) → greatest_certificate < length bytes → VerifiesTo bytes a → VerifiesTo (bytes ++ rest) a
 longer_answer bytes rest (verified points proved) long d = absurd (not_past bytes long d.short)
 longer_answer bytes rest (source_refused cause place) long (h, head, why) = absurd (not_past bytes long head.0)
 longer_answer bytes rest (paths_refused p) long (h, head, x, many) = absurd (not_past bytes long head.0)
@@ -74,14 +74,14 @@ answer_ends (paths_refused p) = inl refl
 answer_ends (line_refused r) = inl refl
 
 -- every answer but one is a refusal
-unverified_ends : (bytes : List ℕ) (a : VerifyAnswer) → ((points proved : ℕ) → Deserves bytes (verified points proved) → ⊥) → Deserves bytes a
+unverified_ends : (bytes : List ℕ) (a : VerifyAnswer) → ((points proved : ℕ) → VerifiesTo bytes (verified points proved) → ⊥) → VerifiesTo bytes a
     → Ends refused (answer_status a)
 unverified_ends bytes (verified points proved) never d = absurd (never points proved d)
 unverified_ends bytes (source_refused cause place) never d = inl refl
 unverified_ends bytes (paths_refused p) never d = inl refl
 unverified_ends bytes (line_refused r) never d = inl refl
 
-refused_ends : (bytes text : List ℕ) (status : Status) → ((points proved : ℕ) → Deserves bytes (verified points proved) → ⊥)
+refused_ends : (bytes text : List ℕ) (status : Status) → ((points proved : ℕ) → VerifiesTo bytes (verified points proved) → ⊥)
     → DeservesCertificate bytes text status → Ends refused status
 refused_ends bytes text status never d = subst (Ends refused) (sym d.ends) (unverified_ends bytes d.answer never d.deserved)
 
@@ -91,7 +91,7 @@ met_ends : (bytes text : List ℕ) (status : Status) → IsCertificate bytes →
 met_ends bytes text status is short d =
     let points = length (sites_of (program_of is.program)) in
     let proved = length is.certificate.asserted in
-    let met : Deserves bytes (verified points proved) = record { short = short; is = is; points_are = refl; proved_are = refl } in
+    let met : VerifiesTo bytes (verified points proved) = record { short = short; is = is; points_are = refl; proved_are = refl } in
     d.ends ∙ ap answer_status (one_verified bytes d.answer (verified points proved) d.deserved met)
 
 certificate_called : (bytes text : List ℕ) (status : Status) (among : List Status) → DeservesCertificate bytes text status → CallsCertificate bytes among

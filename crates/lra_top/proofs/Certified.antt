@@ -4,9 +4,9 @@ use Rattle.std.specs.Prelude.{Option}
 use Rattle.std.specs.Io.KnownBytes.{Appends}
 use Rattle.std.proofs.lemmas.List.{length-map}
 use Rattle.lra_program.specs.Sites.{Site, sites_of}
-use Rattle.lra_certificate.specs.Certificates.{Listed, AreStates}
-use Rattle.lra_certificate.specs.Claims.{program_of, verified, greatest_certificate}
-use Rattle.lra_certificate.specs.Judged.{State}
+use Rattle.lra_certificate_spec.specs.Certificates.{ListedAssertion, AreStates}
+use Rattle.lra_certificate_spec.specs.Claims.{program_of, verified, greatest_certificate}
+use Rattle.lra_certificate_spec.specs.Judged.{RowsAtPoint}
 use Rattle.lra_certified.specs.Settings.{certify_options}
 use Rattle.lra_certified.specs.Certified.{IsCertificateWith}
 use Rattle.lra_certified.proofs.Written.{certificates}
@@ -24,14 +24,15 @@ use Rattle.lra_answers.specs.declared.status.Status.{Status}
 use Rattle.lra_answers.specs.declared.status.Status.TheVariants.{Proved, Refused}
 
 -- a state for each point
-states_many : (sites : List Site) (states : List State) → AreStates sites states → length states ≡ length sites
+states_many : (sites : List Site) (states : List RowsAtPoint) → AreStates sites states → length states ≡ length sites
 states_many [] [] are = refl
 states_many [] (s ∷ ss) are = absurd are
 states_many (site ∷ sites) [] are = absurd are
 states_many (site ∷ sites) (s ∷ ss) are = ap suc (states_many sites ss are.1)
 
 -- it is verified, where it isn't too long
-accepted : (source : List ℕ) (states : List State) (proved text : List ℕ) → IsCertificateWith source states proved text → length text ≤ greatest_certificate
+accepted : (source : List ℕ) (states : List RowsAtPoint) (proved text : List ℕ) → IsCertificateWith source states proved text →
+    length text ≤ greatest_certificate
     → DeservesCertificate text (verified_text (length states) (length proved)) Proved
 accepted source states proved text c short = record {
   answer = verified (length states) (length proved);
@@ -39,7 +40,7 @@ accepted source states proved text c short = record {
     short = short;
     is = c.is;
     points_are = ap length (sym c.states_are) ∙ states_many (sites_of (program_of c.is.program)) c.is.certificate.states c.is.meets.states;
-    proved_are = ap length (sym c.listed_are) ∙ length-map c.is.certificate.asserted (λ (one : Listed). one.number);
+    proved_are = ap length (sym c.listed_are) ∙ length-map c.is.certificate.asserted (λ (one : ListedAssertion). one.number);
   };
   written = refl;
   ends = refl;

@@ -9,11 +9,11 @@ use Rattle.lra_program.specs.Sites.{sites_of}
 use Rattle.lra_front_end.proofs.EachAnswer.{each_answer}
 use Rattle.lra_paths.specs.Paths.{AreFewPaths, HasTooManyPaths}
 use Rattle.lra_paths.proofs.ManyPaths.{not_both}
-use Rattle.lra_certificate.specs.Judged.{Judged, Head, too_long, bad_line, judged, head_of}
-use Rattle.lra_certificate.specs.Claims.{IsProgram, program_of, VerifyAnswer, verified, source_refused, paths_refused, line_refused, Deserves, HasHead}
-use Rattle.lra_certificate.specs.Claims.{greatest_certificate}
-use Rattle.lra_certificate.proofs.JudgedBothWays.{judged_exactly}
-use Rattle.lra_certificate.proofs.OneProgram.{accepted_of, as_said}
+use Rattle.lra_certificate_spec.specs.Judged.{Judged, Head, too_long, bad_line, judged, head_of}
+use Rattle.lra_certificate_spec.specs.Claims.{IsProgram, program_of, VerifyAnswer, verified, source_refused, paths_refused, line_refused, VerifiesTo, HasHead}
+use Rattle.lra_certificate_spec.specs.Claims.{greatest_certificate}
+use Rattle.lra_certificate_spec.proofs.JudgedBothWays.{judged_exactly}
+use Rattle.lra_certificate_spec.proofs.OneProgram.{accepted_of, as_said}
 use Rattle.lra_certified.proofs.OneRefusal.{one_source}
 
 -- answers ------------------------------------------------------------------------
@@ -50,7 +50,7 @@ data Staged (bytes : List ℕ) (a : VerifyAnswer) : Type 0 where
   headless : length bytes ≤ greatest_certificate → head_of bytes ≡ None → a ≡ line_refused (record { line = 0; fault = bad_line }) → Staged bytes a
   headed_by : (h : Head) → HasHead bytes h → Below h a → Staged bytes a
 
-staged : (bytes : List ℕ) (a : VerifyAnswer) → Deserves bytes a → Staged bytes a
+staged : (bytes : List ℕ) (a : VerifyAnswer) → VerifiesTo bytes a → Staged bytes a
 staged bytes (verified points proved) d =
     let (h, x, j) = (judged_exactly bytes points proved).1 d in headed_by h (j.short, j.head) (judges x j.few (sym (ap answer_of j.taken)))
 staged bytes (source_refused cause place) (h, head, why) = headed_by h head (refuses cause place why (λ i. source_refused cause place))
@@ -74,5 +74,5 @@ one_staged bytes a b (headed_by h l e) (headless m n f) = absurd (none-some h (s
 one_staged bytes a b (headed_by h l e) (headed_by k m f) =
     one_below k a b (subst (λ x. Below x a) (same_Some h k (sym l.1 ∙ m.1)) e) f
 
-pub one_verified : (bytes : List ℕ) (a b : VerifyAnswer) → Deserves bytes a → Deserves bytes b → a ≡ b
+pub one_verified : (bytes : List ℕ) (a b : VerifyAnswer) → VerifiesTo bytes a → VerifiesTo bytes b → a ≡ b
 one_verified bytes a b d e = one_staged bytes a b (staged bytes a d) (staged bytes b e)

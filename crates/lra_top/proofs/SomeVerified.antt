@@ -23,10 +23,10 @@ use Rattle.lra_path_segments.specs.Segments.{Goal, comes_to, violates, GoalSegme
 use Rattle.lra_path_disjuncts.specs.Disjuncts.{written}
 use Rattle.lra_paths.specs.Paths.{same_goal, live_at, started, actions_between, AreFewFrom, AreFewPaths, HasTooManyPaths}
 use Rattle.lra_path_disjuncts.specs.Disjuncts.{greatest_paths}
-use Rattle.lra_certificate.specs.Judged.{Judged, Head, too_long, bad_line, judged, head_of}
-use Rattle.lra_certificate.specs.Claims.{IsProgram, program_of, VerifyAnswer, verified, source_refused, paths_refused, line_refused, Deserves, HasHead}
-use Rattle.lra_certificate.specs.Claims.{greatest_certificate, EachVerified}
-use Rattle.lra_certificate.proofs.JudgedBothWays.{judged_exactly}
+use Rattle.lra_certificate_spec.specs.Judged.{Judged, Head, too_long, bad_line, judged, head_of}
+use Rattle.lra_certificate_spec.specs.Claims.{IsProgram, program_of, VerifyAnswer, verified, source_refused, paths_refused, line_refused, VerifiesTo, HasHead}
+use Rattle.lra_certificate_spec.specs.Claims.{greatest_certificate, EachVerified}
+use Rattle.lra_certificate_spec.proofs.JudgedBothWays.{judged_exactly}
 use Rattle.lra_top.proofs.OneVerified.{one_verified}
 
 -- programs -----------------------------------------------------------------------
@@ -185,7 +185,7 @@ module _ (P : Program) (g : Node) where
 -- answers ------------------------------------------------------------------------
 
 abbrev Answered : List ℕ → Type 0
-Answered bytes = (a : VerifyAnswer) × Deserves bytes a
+Answered bytes = (a : VerifyAnswer) × VerifiesTo bytes a
 
 judged_answer : (bytes : List ℕ) (h : Head) → HasHead bytes h → (x : IsProgram h.source) → AreFewPaths (program_of x) x.operations → (j : Judged (ℕ × ℕ))
     → judged (program_of x) x.operations h.rest ≡ j → Answered bytes

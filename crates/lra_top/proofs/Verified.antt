@@ -8,17 +8,17 @@ use Rattle.lra_program.specs.Program.{Program}
 use Rattle.lra_program.specs.Run.{At}
 use Rattle.lra_program.specs.Sites.{Site, sites_of}
 use Rattle.lra_operations.specs.Agree.{point_of}
-use Rattle.lra_certificate.specs.Certificates.{Certificate, state_or_empty}
-use Rattle.lra_certificate.specs.Claims.{VerifyAnswer, verified, source_refused, paths_refused, line_refused, Deserves}
-use Rattle.lra_certificate.specs.Claims.{IsVerified, HoldsAt, RowsHold}
-use Rattle.lra_certificate.proofs.CertificatesHold.{certificates_hold}
+use Rattle.lra_certificate_spec.specs.Certificates.{Certificate, state_or_empty}
+use Rattle.lra_certificate_spec.specs.Claims.{VerifyAnswer, verified, source_refused, paths_refused, line_refused, VerifiesTo}
+use Rattle.lra_certificate_spec.specs.Claims.{IsVerified, RowsHoldAt, RowsHold}
+use Rattle.lra_certificate_spec.proofs.CertificatesHold.{certificates_hold}
 use Rattle.lra_words.specs.Chosen.{Asks}
 use Rattle.lra_words.specs.declared.chosen.Command.TheVariants.{Plain}
 use Rattle.lra_words.specs.declared.chosen.PlainCommand.TheVariants.{Verify}
 use Rattle.lra_top.specs.CertificateAnswer.{DeservesCertificate, answer_text, answer_status, verified_text}
 use Rattle.lra_top.specs.Run.{IsInput, Writes}
 use Rattle.lra_top.specs.Headline.{IsVerifiedInAllRuns, WritesVerified}
-use Rattle.lra_certificate.proofs.OneProgram.{accepted_of}
+use Rattle.lra_certificate_spec.proofs.OneProgram.{accepted_of}
 use Rattle.lra_top.proofs.Ways.{asked_input}
 use Rattle.lra_answers.specs.declared.status.Status.{Status}
 use Rattle.lra_answers.specs.declared.status.Status.TheVariants.{Proved}
@@ -28,8 +28,8 @@ use Rattle.lra_answers.specs.declared.status.Status.TheVariants.{Proved}
 module _ (P : Program) (c : Certificate) (h : RowsHold P c) where
   says : (q : ℕ) (s : Site) (store : List ℤ) (state : Option (Option (List LinearRow))) → slice_get (sites_of P) q ≡ Some s → slice_get c.states q ≡ state
       → At P (point_of s) store
-      → HoldsAt (state_or_empty state) store
-  says q s store state there is at = subst (λ x. HoldsAt (state_or_empty x) store) is (h.rows q s store there at)
+      → RowsHoldAt (state_or_empty state) store
+  says q s store state there is at = subst (λ x. RowsHoldAt (state_or_empty x) store) is (h.rows q s store there at)
 
   verified_in_runs : IsVerifiedInAllRuns P c
   verified_in_runs = record {
@@ -53,7 +53,7 @@ writes left held_old held_new bytes points proved input v written =
       written = subst (λ n. Appends held_old held_new (verified_text (length (sites_of (resolve v.is.program.tree))) n)) v.proved_are texts;
     }
 
-of_answer : (left held_old held_new : Option (List ℕ)) (bytes : List ℕ) (a : VerifyAnswer) → IsInput left bytes → answer_status a ≡ Proved → Deserves bytes a
+of_answer : (left held_old held_new : Option (List ℕ)) (bytes : List ℕ) (a : VerifyAnswer) → IsInput left bytes → answer_status a ≡ Proved → VerifiesTo bytes a
     → Appends held_old held_new (answer_text a) → WritesVerified left held_old held_new
 of_answer left held_old held_new bytes (verified points proved) input is d written = writes left held_old held_new bytes points proved input d written
 of_answer left held_old held_new bytes (source_refused cause place) input is d written = absurd (let wrong : ⊥ = cc in wrong)

@@ -3,9 +3,10 @@ use Rattle.std.specs.Prelude.{◌≡◌, ◌≤◌, ◌⊎◌, ℕ, List, ◌∷
 use Rattle.std.specs.Fmt.{decimal}
 use Rattle.lra_row_text.specs.Texts.{text_line}
 use Rattle.lra_report.specs.RefusalText.{refusal_text}
-use Rattle.lra_certificate.specs.Judged.{fault_name}
-use Rattle.lra_certificate.specs.Claims.{VerifyAnswer, verified, source_refused, paths_refused, line_refused, Deserves}
-use Rattle.lra_certificate.specs.Claims.{IsCertificate, greatest_certificate}
+use Rattle.lra_certificate_spec.specs.Judged.{fault_name}
+use Rattle.lra_certificate_spec.specs.Claims.{VerifyAnswer, verified, source_refused, paths_refused, line_refused}
+use Rattle.lra_certificate_spec.specs.Claims.{VerifiesTo}
+use Rattle.lra_certificate_spec.specs.Claims.{IsCertificate, greatest_certificate}
 use Rattle.lra_answers.specs.Statuses.{printed, refused}
 use Rattle.lra_answers.specs.declared.status.Status.{Status}
 use Rattle.lra_answers.specs.declared.status.Status.TheVariants.{Proved, Refused}
@@ -31,7 +32,7 @@ answer_status (line_refused r) = Refused
 -- the text and the status are those of the answer that the input deserves
 pub record DeservesCertificate (bytes text : List ℕ) (status : Status) : Type 0 where
   pub answer : VerifyAnswer
-  pub deserved : Deserves bytes answer
+  pub deserved : VerifiesTo bytes answer
   pub written : text ≡ answer_text answer
   pub ends : status ≡ answer_status answer
 

@@ -6,7 +6,7 @@ use Rattle.lra_report.specs.Report.{Report}
 use Rattle.lra_report.specs.RefusalText.{refusal_text}
 use Rattle.lra_front_end.specs.Claims.{HasRefusal}
 use Rattle.lra_paths.specs.Paths.{HasTooManyPaths}
-use Rattle.lra_certificate.specs.Claims.{IsProgram, program_of}
+use Rattle.lra_certificate_spec.specs.Claims.{IsProgram, program_of}
 use Rattle.lra_certify.specs.declared.failures.StrainedAt.TheVariants.{Edge, Assertion}
 use Rattle.lra_source.specs.Answers.{IsAnswered}
 use Rattle.lra_certified.specs.declared.refusals.CertifyRefusal.{CertifyRefusal}

@@ -9,7 +9,7 @@ use Rattle.lra_answers.specs.Told.{CallsTold}
 use Rattle.lra_top.specs.SourceAnswer.{DeservesSource, written_report}
 use Rattle.lra_top.specs.SampleAnswer.{DeservesSample}
 use Rattle.lra_top.specs.ScriptAnswer.{DeservesScript, CallsScript, script_statuses}
-use Rattle.lra_certificate.specs.Claims.{greatest_certificate}
+use Rattle.lra_certificate_spec.specs.Claims.{greatest_certificate}
 use Rattle.lra_top.specs.CertificateAnswer.{DeservesCertificate, CallsCertificate, certificate_statuses}
 use Rattle.lra_top.specs.CertifyAnswer.{DeservesCertified, CallsCertified}
 use Rattle.lra_top.specs.BackAnswer.{DeservesBack, CallsBack}

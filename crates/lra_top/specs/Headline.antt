@@ -34,8 +34,8 @@ use Rattle.lra_report_build.specs.AnalysisResults.{reported_all, reported_of}
 use Rattle.lra_sample.specs.Sample.{sample_source}
 use Rattle.lra_sample.specs.Summary.{summary_text}
 use Rattle.lra_source.specs.Answers.{Over, IsAnswered}
-use Rattle.lra_certificate.specs.Certificates.{Listed, Certificate}
-use Rattle.lra_certificate.specs.Claims.{IsCertificate, greatest_certificate, program_of}
+use Rattle.lra_certificate_spec.specs.Certificates.{ListedAssertion, Certificate}
+use Rattle.lra_certificate_spec.specs.Claims.{IsCertificate, greatest_certificate, program_of}
 use Rattle.lra_certified.specs.Settings.{certify_options}
 use Rattle.lra_certified.specs.Assertions.{unknown_assertions}
 use Rattle.lra_certified.specs.Certified.{IsCertificateOf, IsCertificateWith}
@@ -172,7 +172,8 @@ pub record IsVerifiedInAllRuns (P : Program) (c : Certificate) : Type 0 where
       slice_get c.states q ≡ Some (Some given) → At P (point_of s) store → Con given (pos 1 ∷ store)
   pub unreached : (q : ℕ) (s : Site) (store : List ℤ) → slice_get (sites_of P) q ≡ Some s →
       slice_get c.states q ≡ Some None → At P (point_of s) store → ⊥
-  pub asserted : (one : Listed) (s : Site) → Contains c.asserted one → slice_get (sites_of P) one.number ≡ Some s →
+  pub asserted : (one : ListedAssertion) (s : Site) → Contains c.asserted one →
+      slice_get (sites_of P) one.number ≡ Some s →
       Fails P (point_of s) → ⊥
 
 -- the input is a certificate that meets the program of its source, all of this is so of it, and the numbers of its

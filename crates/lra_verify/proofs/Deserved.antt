@@ -4,15 +4,15 @@ use Rattle.std.proofs.Common.{Result, Ok, Err, IfOk, refl, ap, sym, ◌∙◌, s
 use Rattle.lra_program.specs.Program.{Program}
 use Rattle.lra_operations.specs.Tree.{Node}
 use Rattle.lra_paths.specs.Paths.{AreFewPaths}
-use Rattle.lra_lines.specs.declared.refusals.VerifyError.{VerifyError}
-use Rattle.lra_lines.specs.declared.refusals.VerifyError.TheVariants.{Refused, Memory}
-use Rattle.lra_lines.specs.declared.refusals.VerifyRefusal.TheVariants.{Source, Paths, Line}
-use Rattle.lra_certificate.specs.Claims.{IsProgram, program_of, HasHead, Deserves, verified, source_refused, line_refused, greatest_certificate}
-use Rattle.lra_certificate.specs.Judged.{Head, judged, head_of, too_long, bad_line}
-use Rattle.lra_lines.specs.LineViews.{IsToldAs}
+use Rattle.lra_certificate_lines.specs.declared.refusals.VerifyError.{VerifyError}
+use Rattle.lra_certificate_lines.specs.declared.refusals.VerifyError.TheVariants.{Refused, Memory}
+use Rattle.lra_certificate_lines.specs.declared.refusals.VerifyRefusal.TheVariants.{Source, Paths, Line}
+use Rattle.lra_certificate_spec.specs.Claims.{IsProgram, program_of, HasHead, VerifiesTo, verified, source_refused, line_refused, greatest_certificate}
+use Rattle.lra_certificate_spec.specs.Judged.{Head, judged, head_of, too_long, bad_line}
+use Rattle.lra_certificate_lines.specs.LineViews.{IsJudgedAs}
 use Rattle.lra_verify.specs.RefusalViews.{IfRefused}
 use Rattle.lra_verify.specs.SourceViews.{IsAnswerTo}
-use Rattle.lra_certificate.proofs.JudgedBothWays.{few_points, judged_exactly}
+use Rattle.lra_certificate_spec.proofs.JudgedBothWays.{few_points, judged_exactly}
 use Rattle.std.specs.List.{All}
 use Rattle.std.specs.Prelude.{map, option_map, ◌^◌}
 use Rattle.std.proofs.lemmas.List.{length-map}
@@ -33,7 +33,7 @@ use Rattle.lra_verify.proofs.VerifySteps.{live_few}
 
 -- what is told of the lines, where the paths are few
 pub lines_answer : (P : Program) (g : Node) (rest : List ℕ) (result : Result (ℕ × ℕ) VerifyError) → AreFewPaths P g →
-    IsToldAs (λ (r : ℕ × ℕ). r) (judged P g rest) result → IsAnswerTo P g rest result
+    IsJudgedAs (λ (r : ℕ × ℕ). r) (judged P g rest) result → IsAnswerTo P g rest result
 lines_answer P g rest (Ok r) few told = (few, told)
 lines_answer P g rest (Err (Refused (Line n fault))) few told = (few, told)
 lines_answer P g rest (Err (Refused (Source r))) few told = told
@@ -42,12 +42,12 @@ lines_answer P g rest (Err Memory) few told = told
 
 module _ (bytes : List ℕ) (h : Head) (has : HasHead bytes h) (x : IsProgram h.source) where
   pub deserves_numbers : (result : Result (ℕ × ℕ) VerifyError) → IsAnswerTo (program_of x) x.operations h.rest result →
-      IfOk result (λ r. Deserves bytes (verified r.0 r.1))
+      IfOk result (λ r. VerifiesTo bytes (verified r.0 r.1))
   deserves_numbers (Ok r) a = (judged_exactly bytes r.0 r.1).0 h x (record { short = has.0; head = has.1; few = a.0; taken = a.1 })
   deserves_numbers (Err e) a = tt
 
   pub deserves_refusal : (result : Result (ℕ × ℕ) VerifyError) → IsAnswerTo (program_of x) x.operations h.rest result →
-      IfRefused result (Deserves bytes)
+      IfRefused result (VerifiesTo bytes)
   deserves_refusal (Ok r) a = tt
   deserves_refusal (Err (Refused (Line n fault))) a = inr (inr (h, has, x, a.0, a.1))
   deserves_refusal (Err (Refused (Source r))) a = absurd a
@@ -55,11 +55,11 @@ module _ (bytes : List ℕ) (h : Head) (has : HasHead bytes h) (x : IsProgram h.
   deserves_refusal (Err Memory) a = tt
 
 -- an input that is too long, one without a head, and one whose source is refused
-pub too_long_deserved : (bytes : List ℕ) → greatest_certificate < length bytes → Deserves bytes (line_refused (record { line = 0; fault = too_long }))
+pub too_long_deserved : (bytes : List ℕ) → greatest_certificate < length bytes → VerifiesTo bytes (line_refused (record { line = 0; fault = too_long }))
 too_long_deserved bytes h = inl (h, refl)
 
 pub no_head_deserved : (bytes : List ℕ) → length bytes ≤ greatest_certificate → head_of bytes ≡ None →
-    Deserves bytes (line_refused (record { line = 0; fault = bad_line }))
+    VerifiesTo bytes (line_refused (record { line = 0; fault = bad_line }))
 no_head_deserved bytes h e = inr (inl (h, e, refl))
 
 module _ (bytes : List ℕ) (o : Option declared.Head) (head : declared.Head) (short : length bytes ≤ greatest_certificate)
@@ -67,7 +67,7 @@ module _ (bytes : List ℕ) (o : Option declared.Head) (head : declared.Head) (s
   has_head : HasHead bytes (head_view head)
   has_head = (short, sym read ∙ ap (option_map head_view) some)
 
-  pub source_deserved : (cause : Cause) (place : Place) → Refuse Spells head.source.now cause place → Deserves bytes (source_refused cause place)
+  pub source_deserved : (cause : Cause) (place : Place) → Refuse Spells head.source.now cause place → VerifiesTo bytes (source_refused cause place)
   source_deserved cause place r = (head_view head, has_head, r)
 
   module _ (f : AcceptedSource) (tree : HasTree head.source.now (tree_view f.tree))
@@ -97,11 +97,11 @@ module _ (bytes : List ℕ) (o : Option declared.Head) (head : declared.Head) (s
 
     pub judged_numbers : (result : Result (ℕ × ℕ) VerifyError) →
         IsAnswerTo (program_view f.resolution.program) (node_view f.graph.tree) head.rest.now result →
-        IfOk result (λ r. Deserves bytes (verified r.0 r.1))
+        IfOk result (λ r. VerifiesTo bytes (verified r.0 r.1))
     judged_numbers result a = deserves_numbers bytes (head_view head) has_head is_program result
         (subst (λ (P : Program). IsAnswerTo P (node_view f.graph.tree) head.rest.now result) program a)
 
     pub judged_refusal : (result : Result (ℕ × ℕ) VerifyError) →
-        IsAnswerTo (program_view f.resolution.program) (node_view f.graph.tree) head.rest.now result → IfRefused result (Deserves bytes)
+        IsAnswerTo (program_view f.resolution.program) (node_view f.graph.tree) head.rest.now result → IfRefused result (VerifiesTo bytes)
     judged_refusal result a = deserves_refusal bytes (head_view head) has_head is_program result
         (subst (λ (P : Program). IsAnswerTo P (node_view f.graph.tree) head.rest.now result) program a)

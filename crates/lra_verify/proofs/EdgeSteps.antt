@@ -18,23 +18,24 @@ use Rattle.lra_paths.specs.Paths.{Path, path_by}
 use Rattle.lra_paths.specs.Sources.{to_goal}
 use Rattle.lra_paths.specs.declared.sources.Source.{Source}
 use Rattle.lra_path_disjuncts.specs.TableDisjuncts.{all_done, lists_done}
-use Rattle.lra_multipliers.specs.Symbols.{Walked, walk_of, tests_in}
+use Rattle.lra_multipliers.specs.Symbols.{SymbolicState, executed_path, tests_in}
 use Rattle.lra_multipliers.specs.Multipliers.{Multipliers}
-use Rattle.lra_certificate.specs.Certificates.{Along, nothing_left, state_from, state_to}
-use Rattle.lra_certificate.specs.CertificateText.{edge_text}
-use Rattle.lra_certificate.specs.Judged.{Left, Judged, State, takes, judged_from, judged_dead, judged_walk, judged_multipliers, multipliers_in, line_on, line_or_empty}
-use Rattle.lra_certificate.specs.Lines.{HasNoFeed, in_turn}
-use Rattle.lra_lines.specs.LineViews.{IsFault}
-use Rattle.lra_lines.specs.TrackViews.{IsTrack, rows_of, line_by, lines_by}
-use Rattle.lra_verify.specs.EdgeViews.{edge_by, dims_of, path_of, dead_by, sites_in, states_in, led_from, led_by, live_by, step_by, way_by, denial_by}
+use Rattle.lra_certificate_spec.specs.Certificates.{PathPremises, contradiction, state_from, state_to}
+use Rattle.lra_certificate_spec.specs.CertificateText.{edge_text}
+use Rattle.lra_certificate_spec.specs.Judged.{Left, Judged, RowsAtPoint, takes, judged_from, judged_dead, judged_walk, judged_multipliers, multipliers_in, line_on, line_or_empty}
+use Rattle.lra_certificate_spec.specs.Lines.{HasNoFeed, judged_in_turn}
+use Rattle.lra_certificate_lines.specs.LineViews.{IsFault}
+use Rattle.lra_certificate_lines.specs.PathCheckViews.{IsPathCheck, target_rows, line_by, lines_by}
+use Rattle.lra_verify.specs.EdgeViews.{edge_by, dims_of, path_of, dead_by, sites_in, states_in, actions_out_of, actions_by, live_by, step_by, paths_to_by}
+use Rattle.lra_verify.specs.EdgeViews.{violation_by}
 use Rattle.lra_verify.specs.declared.edges.Edge.{Edge}
-use Rattle.lra_lines.specs.declared.refusals.VerifyError.{VerifyError}
-use Rattle.lra_lines.specs.declared.tracks.Track.{Track}
-use Rattle.lra_verify.specs.declared.ways.Ways.{Ways}
-use Rattle.lra_lines.proofs.Told.{then_ok, then_err, fault_through}
-use Rattle.lra_certificate.proofs.WriteText.{clean}
-use Rattle.lra_certificate.proofs.WritePaths.{edge_from}
-use Rattle.lra_lines.proofs.ShowSteps.{turn_same, lines_are, dead_is}
+use Rattle.lra_certificate_lines.specs.declared.refusals.VerifyError.{VerifyError}
+use Rattle.lra_certificate_lines.specs.declared.path_checks.PathCheck.{PathCheck}
+use Rattle.lra_verify.specs.declared.annotated.AnnotatedProgram.{AnnotatedProgram}
+use Rattle.lra_certificate_lines.proofs.Told.{then_ok, then_err, fault_through}
+use Rattle.lra_certificate_spec.proofs.WriteText.{clean}
+use Rattle.lra_certificate_spec.proofs.WritePaths.{edge_from}
+use Rattle.lra_certificate_lines.proofs.ShowSteps.{turn_same, lines_are, dead_is}
 
 -- ---- paths that are written
 pub lists_next : (paths : List (Vec (Bor Change) Global)) (i : ℕ) (p : Vec (Bor Change) Global) → i < length paths → p ≡ slice_index_or paths i p →
@@ -53,20 +54,20 @@ numbers_end i n h = ap (range_with_len i) (let e : n - i ≡ 0 = omega (arith, h
 
 -- ---- which path it is doesn't tell
 module _ (live : ℕ) (rows : List LinearRow) (steps : List Action) where
-  abbrev along : ℕ → Goal → Along
+  abbrev along : ℕ → Goal → PathPremises
   along p goal = record { live = live; rows = rows; path = path_by p goal steps }
 
-  same_walk : (p : ℕ) (goal : Goal) (r : Result Walked Excess) (m : Multipliers) (l : Left) →
-      judged_walk (along 0 (violates 0)) r (λ w. Ok (nothing_left (along 0 (violates 0)))) m l ≡
-      judged_walk (along p goal) r (λ w. Ok (nothing_left (along p goal))) m l
+  same_walk : (p : ℕ) (goal : Goal) (r : Result SymbolicState Excess) (m : Multipliers) (l : Left) →
+      judged_walk (along 0 (violates 0)) r (λ w. Ok (contradiction (along 0 (violates 0)))) m l ≡
+      judged_walk (along p goal) r (λ w. Ok (contradiction (along p goal))) m l
   same_walk p goal (Ok w) m l = refl
   same_walk p goal (Err e) m l = refl
 
   same_given : (p : ℕ) (goal : Goal) (o : Option Multipliers) (l : Left) →
-      judged_multipliers (along 0 (violates 0)) (λ w. Ok (nothing_left (along 0 (violates 0)))) o l ≡
-      judged_multipliers (along p goal) (λ w. Ok (nothing_left (along p goal))) o l
+      judged_multipliers (along 0 (violates 0)) (λ w. Ok (contradiction (along 0 (violates 0)))) o l ≡
+      judged_multipliers (along p goal) (λ w. Ok (contradiction (along p goal))) o l
   same_given p goal None l = refl
-  same_given p goal (Some m) l = same_walk p goal (walk_of live steps) m l
+  same_given p goal (Some m) l = same_walk p goal (executed_path live steps) m l
 
   pub dead_same : (p : ℕ) (goal : Goal) (l : Left) → judged_dead (along 0 (violates 0)) l ≡ judged_dead (along p goal) l
   dead_same p goal l = same_given p goal (multipliers_in (codes "dead") (length rows + tests_in steps) (line_or_empty (line_on l.pieces))) l
@@ -77,50 +78,50 @@ module _ (from to : Option (Bor (LinearSystem ConKind))) (p q : ℕ) where
   edge = record { source = p; point = q; from = from; to = to }
 
   edge_same : (live : ℕ) (steps : List Action) (l : Left) → IfSome from (λ r. r.now.dims ≡ live) →
-      path_of edge steps l ≡ edge_by live (rows_of from) (rows_of to) (path_by p (comes_to q) steps) l
+      path_of edge steps l ≡ edge_by live (target_rows from) (target_rows to) (path_by p (comes_to q) steps) l
   edge_same live steps l h = by from h
     where
       by : (o : Option (Bor (LinearSystem ConKind))) → IfSome o (λ r. r.now.dims ≡ live) →
-          edge_by (dims_of o) (rows_of o) (rows_of to) (path_by p (comes_to q) steps) l ≡
-          edge_by live (rows_of o) (rows_of to) (path_by p (comes_to q) steps) l
+          edge_by (dims_of o) (target_rows o) (target_rows to) (path_by p (comes_to q) steps) l ≡
+          edge_by live (target_rows o) (target_rows to) (path_by p (comes_to q) steps) l
       by None h = refl
-      by (Some r) h = ap (λ (n : ℕ). edge_by n (Some (constraints r.now)) (rows_of to) (path_by p (comes_to q) steps) l) h
+      by (Some r) h = ap (λ (n : ℕ). edge_by n (Some (constraints r.now)) (target_rows to) (path_by p (comes_to q) steps) l) h
 
-  module _ (w : Ways) (s : Source) (lists : List (List Action)) (got : slice_get w.sources.now p ≡ Some s)
-      (led : lists ≡ to_goal s.entries.items s.segments.items (comes_to q)) (rows : rows_of from ≡ state_from (states_in w) p)
-      (target : rows_of to ≡ state_to (states_in w) (comes_to q)) (dims : IfSome from (λ r. r.now.dims ≡ live_by (sites_in w) p)) where
+  module _ (w : AnnotatedProgram) (s : Source) (lists : List (List Action)) (got : slice_get w.sources.now p ≡ Some s)
+      (led : lists ≡ to_goal s.entries.items s.segments.items (comes_to q)) (rows : target_rows from ≡ state_from (states_in w) p)
+      (target : target_rows to ≡ state_to (states_in w) (comes_to q)) (dims : IfSome from (λ r. r.now.dims ≡ live_by (sites_in w) p)) where
     step_same : (steps : List Action) (l : Left) → path_of edge steps l ≡ step_by w p q steps l
     step_same steps l =
         edge_same (live_by (sites_in w) p) steps l dims ∙
-        ap (λ (x : State). edge_by (live_by (sites_in w) p) x (rows_of to) (path_by p (comes_to q) steps) l) rows ∙
-        ap (λ (x : State). edge_by (live_by (sites_in w) p) (state_from (states_in w) p) x (path_by p (comes_to q) steps) l) target
+        ap (λ (x : RowsAtPoint). edge_by (live_by (sites_in w) p) x (target_rows to) (path_by p (comes_to q) steps) l) rows ∙
+        ap (λ (x : RowsAtPoint). edge_by (live_by (sites_in w) p) (state_from (states_in w) p) x (path_by p (comes_to q) steps) l) target
 
-    pub way_same : (l : Left) → in_turn (path_of edge) lists l ≡ way_by w p q l
+    pub way_same : (l : Left) → judged_in_turn (path_of edge) lists l ≡ paths_to_by w p q l
     way_same l =
         turn_same (path_of edge) (step_by w p q) step_same lists l ∙
-        ap (λ (xs : List (List Action)). in_turn (step_by w p q) xs l) (led ∙ ap (λ (o : Option Source). led_from o (comes_to q)) (sym got))
+        ap (λ (xs : List (List Action)). judged_in_turn (step_by w p q) xs l) (led ∙ ap (λ (o : Option Source). actions_out_of o (comes_to q)) (sym got))
 
 -- ---- to where an assertion is false
-none_dead : (live : ℕ) (lists : List (List Action)) (l : Left) → in_turn (dead_by live None) lists l ≡ Ok l
+none_dead : (live : ℕ) (lists : List (List Action)) (l : Left) → judged_in_turn (dead_by live None) lists l ≡ Ok l
 none_dead live [] l = refl
 none_dead live (steps ∷ lists) l = none_dead live lists l
 
-module _ (w : Ways) (p q : ℕ) (from : Option (Bor (LinearSystem ConKind))) (rows : rows_of from ≡ state_from (states_in w) p) where
-  pub denial_none : (l : Left) → from ≡ None → denial_by w q p l ≡ Ok l
+module _ (w : AnnotatedProgram) (p q : ℕ) (from : Option (Bor (LinearSystem ConKind))) (rows : target_rows from ≡ state_from (states_in w) p) where
+  pub denial_none : (l : Left) → from ≡ None → violation_by w q p l ≡ Ok l
   denial_none l none =
-      ap (λ (x : State). in_turn (dead_by (live_by (sites_in w) p) x) (led_by w p (violates q)) l)
-      (sym rows ∙ ap (λ (o : Option (Bor (LinearSystem ConKind))). rows_of o) none) ∙
-      none_dead (live_by (sites_in w) p) (led_by w p (violates q)) l
+      ap (λ (x : RowsAtPoint). judged_in_turn (dead_by (live_by (sites_in w) p) x) (actions_by w p (violates q)) l)
+      (sym rows ∙ ap (λ (o : Option (Bor (LinearSystem ConKind))). target_rows o) none) ∙
+      none_dead (live_by (sites_in w) p) (actions_by w p (violates q)) l
 
   pub denial_same : (s : Source) (r : Bor (LinearSystem ConKind)) (lists : List (List Action)) (l : Left) → from ≡ Some r → slice_get w.sources.now p ≡ Some s →
       lists ≡ to_goal s.entries.items s.segments.items (violates q) → r.now.dims ≡ live_by (sites_in w) p →
-      in_turn (dead_by r.now.dims (Some (constraints r.now))) lists l ≡ denial_by w q p l
+      judged_in_turn (dead_by r.now.dims (Some (constraints r.now))) lists l ≡ violation_by w q p l
   denial_same s r lists l some got led dims =
-      ap (λ (n : ℕ). in_turn (dead_by n (Some (constraints r.now))) lists l) dims ∙
-      ap (λ (x : State). in_turn (dead_by (live_by (sites_in w) p) x) lists l)
-      (sym (ap (λ (o : Option (Bor (LinearSystem ConKind))). rows_of o) some) ∙ rows) ∙
-      ap (λ (xs : List (List Action)). in_turn (dead_by (live_by (sites_in w) p) (state_from (states_in w) p)) xs l)
-      (led ∙ ap (λ (o : Option Source). led_from o (violates q)) (sym got))
+      ap (λ (n : ℕ). judged_in_turn (dead_by n (Some (constraints r.now))) lists l) dims ∙
+      ap (λ (x : RowsAtPoint). judged_in_turn (dead_by (live_by (sites_in w) p) x) lists l)
+      (sym (ap (λ (o : Option (Bor (LinearSystem ConKind))). target_rows o) some) ∙ rows) ∙
+      ap (λ (xs : List (List Action)). judged_in_turn (dead_by (live_by (sites_in w) p) (state_from (states_in w) p)) xs l)
+      (led ∙ ap (λ (o : Option Source). actions_out_of o (violates q)) (sym got))
 
 -- ---- a path, behind its own line
 abbrev pub edge_words : ℕ → ℕ → List ℕ
@@ -141,7 +142,7 @@ module _ (e : Edge) (steps : List Action) (text : List ℕ) (l : Left)
   path = path_by e.source (comes_to e.point) steps
 
   abbrev behind : Left → Judged Left
-  behind m = judged_from (dims_of e.from) path (rows_of e.from) (rows_of e.to) m
+  behind m = judged_from (dims_of e.from) path (target_rows e.from) (target_rows e.to) m
 
   line_first : takes text l ≡ takes (edge_text path) l
   line_first = ap (λ (x : List ℕ). takes x l) (edge_line e.source e.point steps text is)
@@ -152,19 +153,19 @@ module _ (e : Edge) (steps : List Action) (text : List ℕ) (l : Left)
   pub path_none : (next : Left) → takes text l ≡ Ok next → e.from ≡ None → path_of e steps l ≡ Ok next
   path_none next took none =
       sym (path_taken next took) ∙
-      ap (λ (o : Option (Bor (LinearSystem ConKind))). judged_from (dims_of o) path (rows_of o) (rows_of e.to) next) none
+      ap (λ (o : Option (Bor (LinearSystem ConKind))). judged_from (dims_of o) path (target_rows o) (target_rows e.to) next) none
 
-  pub path_some : (next : Left) (r : Bor (LinearSystem ConKind)) (t : Track) → takes text l ≡ Ok next → e.from ≡ Some r →
-      IsTrack r.now.dims (constraints r.now) steps t → lines_by t (rows_of e.to) next ≡ path_of e steps l
+  pub path_some : (next : Left) (r : Bor (LinearSystem ConKind)) (t : PathCheck) → takes text l ≡ Ok next → e.from ≡ Some r →
+      IsPathCheck r.now.dims (constraints r.now) steps t → lines_by t (target_rows e.to) next ≡ path_of e steps l
   path_some next r t took some track =
-      lines_are (record { live = r.now.dims; rows = constraints r.now; path = path }) t track (rows_of e.to) next ∙
-      sym (ap (λ (o : Option (Bor (LinearSystem ConKind))). judged_from (dims_of o) path (rows_of o) (rows_of e.to) next) some) ∙
+      lines_are (record { live = r.now.dims; rows = constraints r.now; path = path }) t track (target_rows e.to) next ∙
+      sym (ap (λ (o : Option (Bor (LinearSystem ConKind))). judged_from (dims_of o) path (target_rows o) (target_rows e.to) next) some) ∙
       path_taken next took
 
   pub path_fault : (error : VerifyError) → IsFault (takes text l) error → IsFault (path_of e steps l) error
   path_fault error = fault_through (takes text l) (path_of e steps l) error
       (λ r took. then_err (takes (edge_text path) l) behind r (sym line_first ∙ took))
 
-pub dead_told : (rows : LinearSystem ConKind) (steps : List Action) (t : Track) (l : Left) → IsTrack rows.dims (constraints rows) steps t →
+pub dead_told : (rows : LinearSystem ConKind) (steps : List Action) (t : PathCheck) (l : Left) → IsPathCheck rows.dims (constraints rows) steps t →
     line_by t (codes "dead") None l ≡ dead_by rows.dims (Some (constraints rows)) steps l
 dead_told rows steps t l track = dead_is (record { live = rows.dims; rows = constraints rows; path = path_by 0 (violates 0) steps }) t track l

@@ -5,13 +5,13 @@ use Rattle.std.specs.Prelude.{if◌then◌else◌, codes}
 use Rattle.std.specs.List.{slice_split, onto_first}
 use Rattle.std.proofs.lemmas.List.{drop_all}
 use Rattle.std.proofs.lemmas.List.Splits.{length-slice_split}
-use Rattle.lra_lines.specs.declared.refusals.VerifyError.{VerifyError}
-use Rattle.lra_verify.specs.declared.ways.Ways.{Ways}
-use Rattle.lra_certificate.specs.Judged.{Left, Judged, then_judged, takes, refuses, bad_line, is_nothing, judged_end, counted}
-use Rattle.lra_certificate.specs.Lines.{is_feed, pieces_at, number_at, left_at}
-use Rattle.lra_lines.specs.LineViews.{IsFault}
-use Rattle.lra_verify.specs.EdgeViews.{sources_by, listed_by, denials_by, rest_by, sites_in}
-use Rattle.lra_lines.proofs.Told.{then_ok, then_err, fault_through}
+use Rattle.lra_certificate_lines.specs.declared.refusals.VerifyError.{VerifyError}
+use Rattle.lra_verify.specs.declared.annotated.AnnotatedProgram.{AnnotatedProgram}
+use Rattle.lra_certificate_spec.specs.Judged.{Left, Judged, then_judged, takes, refuses, bad_line, is_nothing, judged_end, counted}
+use Rattle.lra_certificate_spec.specs.Lines.{is_feed, pieces_at, line_number_at, left_at}
+use Rattle.lra_certificate_lines.specs.LineViews.{IsFault}
+use Rattle.lra_verify.specs.EdgeViews.{sources_by, listed_by, violations_by, rest_by, sites_in}
+use Rattle.lra_certificate_lines.proofs.Told.{then_ok, then_err, fault_through}
 
 -- ---- nothing stands behind the last line
 not_nothing : (first : Bool) (x : ℕ) (parts : List (List ℕ)) → 0 < length parts →
@@ -26,20 +26,20 @@ something [] h = absurd (omega (arith, h))
 something (x ∷ xs) h = not_nothing (is_feed x) x (slice_split is_feed xs) (let n = length-slice_split is_feed xs in omega (arith, n))
 
 module _ (bytes : List ℕ) (at next : ℕ) (took : takes (codes "end") (left_at bytes at) ≡ Ok (left_at bytes next)) where
-  behind : judged_end (left_at bytes at) ≡ (if is_nothing (pieces_at bytes next) then Ok (left_at bytes next) else refuses (number_at bytes next) bad_line)
+  behind : judged_end (left_at bytes at) ≡ (if is_nothing (pieces_at bytes next) then Ok (left_at bytes next) else refuses (line_number_at bytes next) bad_line)
   behind = then_ok (takes (codes "end") (left_at bytes at)) (λ m. if is_nothing m.pieces then Ok m else refuses m.number bad_line) (left_at bytes next) took
 
   pub end_taken : next ≡ length bytes → judged_end (left_at bytes at) ≡ Ok (left_at bytes (length bytes))
   end_taken e =
       behind ∙
-      ap (λ (rest : List ℕ). if is_nothing (slice_split is_feed rest) then Ok (left_at bytes next) else refuses (number_at bytes next) bad_line)
+      ap (λ (rest : List ℕ). if is_nothing (slice_split is_feed rest) then Ok (left_at bytes next) else refuses (line_number_at bytes next) bad_line)
       (drop_all next bytes (omega (arith, e))) ∙
       ap (λ (n : ℕ). Ok (left_at bytes n)) e
 
-  pub end_past : next ≤ length bytes → (next ≡ length bytes → ⊥) → judged_end (left_at bytes at) ≡ refuses (number_at bytes next) bad_line
+  pub end_past : next ≤ length bytes → (next ≡ length bytes → ⊥) → judged_end (left_at bytes at) ≡ refuses (line_number_at bytes next) bad_line
   end_past h isnt =
       behind ∙
-      ap (λ (b : Bool). if b then Ok (left_at bytes next) else refuses (number_at bytes next) bad_line)
+      ap (λ (b : Bool). if b then Ok (left_at bytes next) else refuses (line_number_at bytes next) bad_line)
       (something (drop next bytes) (let l = length-drop next bytes in omega (arith, l, h, isnt)))
 
 pub end_fault : (l : Left) (e : VerifyError) → IsFault (takes (codes "end") l) e → IsFault (judged_end l) e
@@ -47,9 +47,9 @@ end_fault l e = fault_through (takes (codes "end") l) (judged_end l) e
     (then_err (takes (codes "end") l) (λ m. if is_nothing m.pieces then Ok m else refuses m.number bad_line))
 
 -- ---- all that stands behind the points
-module _ (w : Ways) (l : Left) where
+module _ (w : AnnotatedProgram) (l : Left) where
   abbrev listed : Left → Judged (ℕ × Left)
-  listed m = listed_by (denials_by w) 0 (sites_in w) m
+  listed m = listed_by (violations_by w) 0 (sites_in w) m
 
   abbrev ended : ℕ × Left → Judged (ℕ × ℕ)
   ended x = counted (length w.sites.now) x

@@ -4,8 +4,8 @@ use Rattle.std.specs.Prelude.{if◌then◌else◌, slice_get, codes, nat_eq}
 use Rattle.std.specs.Global.{Global}
 use Rattle.std.specs.List.{position_or_len}
 use Rattle.std.proofs.lemmas.Option.{slice_get_past, same_Some}
-use Rattle.lra_certificate.specs.Judged.{Head, has_feed, headed, head_of, numbers_behind}
-use Rattle.lra_certificate.specs.NumberViews.{items_of}
+use Rattle.lra_certificate_spec.specs.Judged.{Head, has_feed, headed, head_of, numbers_after}
+use Rattle.lra_certificate_spec.specs.NumberViews.{option_items}
 
 abbrev pub head : List ℕ → List ℕ → Head
 head source rest = record { source = source; rest = rest }
@@ -37,11 +37,11 @@ only_number (x ∷ y ∷ more) z n e = absurd (omega (arith, n))
 -- the head, as it is read
 pub head_told : (bytes line behind rest : List ℕ) (n : ℕ) (o : Option (Vec ℤ Global)) (v : Vec ℤ Global) (z : ℤ) (h : Option Head) →
     n ≡ position_or_len (λ b. nat_eq b 10) bytes → line ≡ take n bytes → behind ≡ drop n bytes → rest ≡ drop 1 behind →
-    items_of o ≡ numbers_behind (codes "certificate bytes") 1 line → o ≡ Some v → length v.items ≡ 1 → slice_get v.items 0 ≡ Some z →
+    option_items o ≡ numbers_after (codes "certificate bytes") 1 line → o ≡ Some v → length v.items ≡ 1 → slice_get v.items 0 ≡ Some z →
     h ≡ headed (Some (z ∷ [])) rest → h ≡ head_of bytes
 head_told bytes line behind rest n o v z h place front back cut numbers some one first is =
-    let read : numbers_behind (codes "certificate bytes") 1 (take (position_or_len (λ b. nat_eq b 10) bytes) bytes) ≡ Some (z ∷ []) =
-    ap (numbers_behind (codes "certificate bytes") 1) (ap (λ (k : ℕ). take k bytes) (sym place) ∙ sym front) ∙ sym numbers ∙ ap items_of some ∙
+    let read : numbers_after (codes "certificate bytes") 1 (take (position_or_len (λ b. nat_eq b 10) bytes) bytes) ≡ Some (z ∷ []) =
+    ap (numbers_after (codes "certificate bytes") 1) (ap (λ (k : ℕ). take k bytes) (sym place) ∙ sym front) ∙ sym numbers ∙ ap option_items some ∙
     ap Some (only_number v.items z one first) in
     let left : rest ≡ drop (position_or_len (λ b. nat_eq b 10) bytes + 1) bytes =
     cut ∙ ap (drop 1) back ∙ drop-drop 1 n bytes ∙ ap (λ (k : ℕ). drop (k + 1) bytes) place in

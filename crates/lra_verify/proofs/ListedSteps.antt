@@ -3,14 +3,14 @@ use Rattle.std.proofs.Common.{◌≡◌, ◌+◌, ◌∷◌, [], ℕ, suc, Bool,
 use Rattle.std.specs.Prelude.{if◌then◌else◌, ◌&&◌, codes}
 use Rattle.std.specs.Fmt.{decimal}
 use Rattle.lra_program.specs.Sites.{Site}
-use Rattle.lra_lines.specs.declared.refusals.VerifyError.{VerifyError}
-use Rattle.lra_certificate.specs.CertificateText.{numbered_text, assert_text}
-use Rattle.lra_certificate.specs.Judged.{Left, Judged, then_judged, behind_line, is_line, line_on, one_more}
-use Rattle.lra_certificate.specs.Lines.{HasNoFeed}
-use Rattle.lra_lines.specs.LineViews.{IsFault}
+use Rattle.lra_certificate_lines.specs.declared.refusals.VerifyError.{VerifyError}
+use Rattle.lra_certificate_spec.specs.CertificateText.{numbered_text, assert_text}
+use Rattle.lra_certificate_spec.specs.Judged.{Left, Judged, then_judged, after_line, is_next_line, line_on, one_more}
+use Rattle.lra_certificate_spec.specs.Lines.{HasNoFeed}
+use Rattle.lra_certificate_lines.specs.LineViews.{IsFault}
 use Rattle.lra_verify.specs.EdgeViews.{assertion_by, listed_by}
-use Rattle.lra_lines.proofs.Told.{then_ok, then_err, fault_through}
-use Rattle.lra_certificate.proofs.WriteText.{AreFrom, from_lower, from_joined, text_from, decimal_from, clean}
+use Rattle.lra_certificate_lines.proofs.Told.{then_ok, then_err, fault_through}
+use Rattle.lra_certificate_spec.proofs.WriteText.{AreFrom, from_lower, from_joined, text_from, decimal_from, clean}
 
 -- ---- the line of an assertion
 assert_line : (q : ℕ) (text : List ℕ) → text ≡ numbered_text (codes "assert") (q + 1) → text ≡ assert_text q
@@ -48,12 +48,12 @@ module _ (denials : ℕ → Left → Judged Left) (q : ℕ) (site : Site) (sites
 
   listed_first : (n : ℕ) (l : Left) → listed_after n (listed_by denials q (site ∷ sites) l) ≡
       then_judged (assertion_by denials q site.asserts (n, l)) then_listed
-  listed_first n l = by (site.asserts && is_line (assert_text q) (line_on l.pieces))
+  listed_first n l = by (site.asserts && is_next_line (assert_text q) (line_on l.pieces))
     where
-      by : (b : Bool) → listed_after n (if b then then_judged (denials q (behind_line l)) (λ next. one_more (listed_by denials (suc q) sites next))
+      by : (b : Bool) → listed_after n (if b then then_judged (denials q (after_line l)) (λ next. one_more (listed_by denials (suc q) sites next))
           else listed_by denials (suc q) sites l) ≡
-          then_judged (if b then then_judged (denials q (behind_line l)) (λ next. Ok (n + 1, next)) else Ok (n, l)) then_listed
-      by true = more n (denials q (behind_line l))
+          then_judged (if b then then_judged (denials q (after_line l)) (λ next. Ok (n + 1, next)) else Ok (n, l)) then_listed
+      by true = more n (denials q (after_line l))
       by false = refl
 
   module _ (n : ℕ) (all : List Site) (first : all ≡ site ∷ sites) (l : Left) (whole : Judged (ℕ × Left))
@@ -80,7 +80,7 @@ listed_done denials q n sites l whole none so_far =
 -- ---- one assertion
 module _ (denials : ℕ → Left → Judged Left) (q : ℕ) (n : ℕ) (l : Left) where
   abbrev by : Bool → Judged (ℕ × Left)
-  by b = if b then then_judged (denials q (behind_line l)) (λ next. Ok (n + 1, next)) else Ok (n, l)
+  by b = if b then then_judged (denials q (after_line l)) (λ next. Ok (n + 1, next)) else Ok (n, l)
 
   none_by : (asserts is : Bool) → is ≡ false → asserts && is ≡ false
   none_by true is e = e
@@ -90,20 +90,20 @@ module _ (denials : ℕ → Left → Judged Left) (q : ℕ) (n : ℕ) (l : Left)
   both_by asserts is a e = ap (λ (x : Bool). x && is) a ∙ e
 
   pub assertion_never : (asserts : Bool) → asserts ≡ false → assertion_by denials q asserts (n, l) ≡ Ok (n, l)
-  assertion_never asserts e = ap (λ (a : Bool). by (a && is_line (assert_text q) (line_on l.pieces))) e
+  assertion_never asserts e = ap (λ (a : Bool). by (a && is_next_line (assert_text q) (line_on l.pieces))) e
 
-  pub assertion_none : (asserts : Bool) (text : List ℕ) → text ≡ numbered_text (codes "assert") (q + 1) → is_line text (line_on l.pieces) ≡ false →
+  pub assertion_none : (asserts : Bool) (text : List ℕ) → text ≡ numbered_text (codes "assert") (q + 1) → is_next_line text (line_on l.pieces) ≡ false →
       assertion_by denials q asserts (n, l) ≡ Ok (n, l)
   assertion_none asserts text is e =
-      ap by (none_by asserts (is_line (assert_text q) (line_on l.pieces))
-      (ap (λ (x : List ℕ). is_line x (line_on l.pieces)) (sym (assert_line q text is)) ∙ e))
+      ap by (none_by asserts (is_next_line (assert_text q) (line_on l.pieces))
+      (ap (λ (x : List ℕ). is_next_line x (line_on l.pieces)) (sym (assert_line q text is)) ∙ e))
 
   module _ (asserts : Bool) (text : List ℕ) (is : text ≡ numbered_text (codes "assert") (q + 1)) (a : asserts ≡ true)
-      (e : is_line text (line_on l.pieces) ≡ true) (m : Left) (behind : behind_line l ≡ m) where
+      (e : is_next_line text (line_on l.pieces) ≡ true) (m : Left) (behind : after_line l ≡ m) where
     taken : assertion_by denials q asserts (n, l) ≡ then_judged (denials q m) (λ next. Ok (n + 1, next))
     taken =
-        ap by (both_by asserts (is_line (assert_text q) (line_on l.pieces)) a
-        (ap (λ (x : List ℕ). is_line x (line_on l.pieces)) (sym (assert_line q text is)) ∙ e)) ∙
+        ap by (both_by asserts (is_next_line (assert_text q) (line_on l.pieces)) a
+        (ap (λ (x : List ℕ). is_next_line x (line_on l.pieces)) (sym (assert_line q text is)) ∙ e)) ∙
         ap (λ (x : Left). then_judged (denials q x) (λ next. Ok (n + 1, next))) behind
 
     pub assertion_some : (next : Left) → denials q m ≡ Ok next → assertion_by denials q asserts (n, l) ≡ Ok (n + 1, next)

@@ -12,10 +12,10 @@ use Rattle.lra_operations.specs.declared.tree.Site.{Site}
 use Rattle.lra_operations.specs.TreeViews.{site_view}
 use Rattle.lra_resolution_spec.proofs.NameLists.{last_or_before}
 use Rattle.lra_paths.specs.Paths.{live_of}
-use Rattle.lra_certificate.specs.Certificates.{state_or_empty}
-use Rattle.lra_certificate.specs.Judged.{Left, Judged, State, judged_state, judged_states}
+use Rattle.lra_certificate_spec.specs.Certificates.{state_or_empty}
+use Rattle.lra_certificate_spec.specs.Judged.{Left, Judged, RowsAtPoint, judged_state, judged_states}
 use Rattle.lra_verify.specs.PointViews.{HaveDims, state_view}
-use Rattle.lra_lines.proofs.Told.{states_after, states_more}
+use Rattle.lra_certificate_lines.proofs.Told.{states_after, states_more}
 
 pub dims_pushed : (all : List sites.Site) (states : List (Option (LinearSystem ConKind))) (state : Option (LinearSystem ConKind)) (i : ℕ) → length states ≡ i →
     HaveDims all states → IfSome state (λ rows. rows.dims ≡ live_of (slice_get all i)) → HaveDims all (states ++ state ∷ [])
@@ -41,12 +41,13 @@ pub sites_end : (all : List Site) (i : ℕ) → length all ≤ i → map site_vi
 sites_end all i h = ap (map site_view) (drop_all i all h)
 
 pub points_more : (all : List Site) (i : ℕ) (site : Site) (states : List (Option (LinearSystem ConKind))) (state : Option (LinearSystem ConKind)) (l m : Left)
-    (whole : Judged (List State × Left)) → i < length all → site ≡ slice_index_or all i site →
+    (whole : Judged (List RowsAtPoint × Left)) → i < length all → site ≡ slice_index_or all i site →
     states_after (map state_view states) (judged_states (i + 1) (map site_view (drop i all)) l) ≡ whole →
     judged_state (i + 1) site.live l ≡ Ok (state_view state, m) →
     states_after (map state_view (states ++ state ∷ [])) (judged_states (i + 1 + 1) (map site_view (drop (i + 1) all)) m) ≡ whole
 points_more all i site states state l m whole h is so_far e =
-    ap (λ (ss : List State). states_after ss (judged_states (i + 1 + 1) (map site_view (drop (i + 1) all)) m)) (map-append state_view states (state ∷ [])) ∙
+    ap (λ (ss : List RowsAtPoint). states_after ss (judged_states (i + 1 + 1) (map site_view (drop (i + 1) all)) m))
+    (map-append state_view states (state ∷ [])) ∙
     ap (λ (n : ℕ). states_after (map state_view states ++ state_view state ∷ []) (judged_states n (map site_view (drop (i + 1) all)) m)) (add-one (i + 1)) ∙
     states_more (i + 1) (site_view site) (map site_view (drop (i + 1) all)) l (map state_view states) whole
     (ap (λ (ss : List sites.Site). states_after (map state_view states) (judged_states (i + 1) ss l)) (sym (sites_next all i site h is)) ∙ so_far)

@@ -5,8 +5,8 @@ use Rattle.lra_systems.specs.LinearSystems.{LinearSystem, constraints}
 use Rattle.lra_linear_spec.specs.declared.ConKind.{ConKind}
 use Rattle.lra_program.specs.Sites.{Site}
 use Rattle.lra_paths.specs.Paths.{live_of}
-use Rattle.lra_certificate.specs.Judged.{Left, State}
-use Rattle.lra_certificate.specs.Lines.{left_at}
+use Rattle.lra_certificate_spec.specs.Judged.{Left, RowsAtPoint}
+use Rattle.lra_certificate_spec.specs.Lines.{left_at}
 use Rattle.lra_verify.specs.declared.points.PointRows.{PointRows}
 use Rattle.lra_verify.specs.declared.points.Point.{Point}
 use Rattle.lra_verify.specs.declared.points.Points.{Points}
@@ -15,14 +15,14 @@ use Rattle.lra_verify.specs.declared.points.Points.{Points}
 abbrev pub rows_view : List ℕ → PointRows → List LinearRow × Left
 rows_view bytes r = (constraints r.rows, left_at bytes r.behind)
 
-abbrev pub state_view : Option (LinearSystem ConKind) → State
+abbrev pub state_view : Option (LinearSystem ConKind) → RowsAtPoint
 state_view None = None
 state_view (Some rows) = Some (constraints rows)
 
-abbrev pub point_view : List ℕ → Point → State × Left
+abbrev pub point_view : List ℕ → Point → RowsAtPoint × Left
 point_view bytes p = (state_view p.state, left_at bytes p.behind)
 
-abbrev pub points_view : List ℕ → Points → List State × Left
+abbrev pub points_view : List ℕ → Points → List RowsAtPoint × Left
 points_view bytes p = (map state_view p.states.items, left_at bytes p.behind)
 
 -- rows of a point have its variables

@@ -8,13 +8,13 @@ use Rattle.lra_paths.specs.Paths.{actions_between, AreFewPaths, HasTooManyPaths}
 use Rattle.lra_paths.specs.Sources.{AreFewTo}
 use Rattle.lra_path_disjuncts.specs.Tables.{IsTable}
 use Rattle.lra_paths.specs.declared.sources.Source.{Source}
-use Rattle.lra_lines.specs.declared.refusals.VerifyError.{VerifyError}
-use Rattle.lra_lines.specs.declared.refusals.VerifyError.TheVariants as of_error
-use Rattle.lra_lines.specs.declared.refusals.VerifyRefusal.{VerifyRefusal}
-use Rattle.lra_lines.specs.declared.refusals.VerifyRefusal.TheVariants as of_refusal
-use Rattle.lra_certificate.specs.Judged.{judged}
-use Rattle.lra_lines.specs.Views.{fault_view}
-use Rattle.lra_verify.specs.EdgeViews.{led_from}
+use Rattle.lra_certificate_lines.specs.declared.refusals.VerifyError.{VerifyError}
+use Rattle.lra_certificate_lines.specs.declared.refusals.VerifyError.TheVariants as of_error
+use Rattle.lra_certificate_lines.specs.declared.refusals.VerifyRefusal.{VerifyRefusal}
+use Rattle.lra_certificate_lines.specs.declared.refusals.VerifyRefusal.TheVariants as of_refusal
+use Rattle.lra_certificate_spec.specs.Judged.{judged}
+use Rattle.lra_certificate_lines.specs.Views.{fault_view}
+use Rattle.lra_verify.specs.EdgeViews.{actions_out_of}
 
 -- a source more than there are points, from each no more paths to one goal than may be
 pub record AreSources (points : ℕ) (sources : List Source) : Type 0 where
@@ -25,7 +25,7 @@ pub record AreSources (points : ℕ) (sources : List Source) : Type 0 where
 -- the paths out of the tables are those of the program
 abbrev pub LeadAs : Program → Node → List Source → Type 0
 LeadAs P g sources = (p : ℕ) (goal : Goal) → p < length sources →
-    led_from (slice_get sources p) goal ≡ actions_between P g p goal
+    actions_out_of (slice_get sources p) goal ≡ actions_between P g p goal
 
 -- what is answered of a program, and of the lines behind its source
 abbrev pub IsRefusalOf : Program → Node → List ℕ → VerifyRefusal → Type 0

@@ -5,11 +5,11 @@ ghost use Rattle.std.specs.Fmt.{decimal};
 ghost use Rattle.lra_systems.specs.LinearSystems.{constraints};
 ghost use Rattle.lra_path_disjuncts.specs.TableDisjuncts.{all_done, lists_done};
 ghost use Rattle.lra_verify.specs.EdgeViews.{dead_by, path_of};
-ghost use Rattle.lra_certificate.specs.Lines.{in_turn, left_at};
-ghost use Rattle.lra_lines.specs.LineViews.{IsToldAs};
+ghost use Rattle.lra_certificate_spec.specs.Lines.{judged_in_turn, left_at};
+ghost use Rattle.lra_certificate_lines.specs.LineViews.{IsJudgedAs};
 
+use lra_certificate_lines::{PathCheck, VerifyError, take_line};
 use lra_domain::Change;
-use lra_lines::{Track, VerifyError, take_line};
 use lra_systems::ConSys;
 use std::alloc::{AllocError, Global};
 
@@ -42,7 +42,7 @@ fn take_path(
     requires place { at ≤ length bytes.now }
     requires point { edge.now.point < 2 ^ 31 }
     requires live { IfSome edge.now.from (λ r. r.now.dims < 2 ^ 31) }
-    ensures told { IsToldAs (left_at bytes.now)
+    ensures told { IsJudgedAs (left_at bytes.now)
         (path_of edge.now (all_done path.now) (left_at bytes.now at)) result }
     ensures within { IfOk result (λ next. next ≤ length bytes.now) }
 {
@@ -51,7 +51,7 @@ fn take_path(
     match edge.from {
         None => Ok(next),
         Some(rows) => {
-            let track = Track::of(alloc, rows, path)?;
+            let track = PathCheck::of(alloc, rows, path)?;
             track.show_target(alloc, bytes, next, edge.to)
         }
     }
@@ -69,8 +69,8 @@ pub fn take_paths(
     requires place { at ≤ length bytes.now }
     requires point { edge.now.point < 2 ^ 31 }
     requires live { IfSome edge.now.from (λ r. r.now.dims < 2 ^ 31) }
-    ensures told { IsToldAs (left_at bytes.now)
-        (in_turn (path_of edge.now) (lists_done paths.now) (left_at bytes.now at)) result }
+    ensures told { IsJudgedAs (left_at bytes.now)
+        (judged_in_turn (path_of edge.now) (lists_done paths.now) (left_at bytes.now at)) result }
     ensures within { IfOk result (λ next. next ≤ length bytes.now) }
 {
     let mut next = at;
@@ -94,11 +94,12 @@ fn take_dead(
     requires short { length bytes.now < 2 ^ 31 }
     requires place { at ≤ length bytes.now }
     requires live { rows.now.dims < 2 ^ 31 }
-    ensures told { IsToldAs (left_at bytes.now) (dead_by rows.now.dims (Some (constraints rows.now))
+    ensures told { IsJudgedAs (left_at bytes.now)
+        (dead_by rows.now.dims (Some (constraints rows.now))
         (all_done path.now) (left_at bytes.now at)) result }
     ensures within { IfOk result (λ next. next ≤ length bytes.now) }
 {
-    let track = Track::of(alloc, rows, path)?;
+    let track = PathCheck::of(alloc, rows, path)?;
     track.show_dead(alloc, bytes, at)
 }
 
@@ -113,7 +114,7 @@ pub fn take_all_dead(
     requires short { length bytes.now < 2 ^ 31 }
     requires place { at ≤ length bytes.now }
     requires live { rows.now.dims < 2 ^ 31 }
-    ensures told { IsToldAs (left_at bytes.now) (in_turn
+    ensures told { IsJudgedAs (left_at bytes.now) (judged_in_turn
         (dead_by rows.now.dims (Some (constraints rows.now))) (lists_done paths.now)
         (left_at bytes.now at)) result }
     ensures within { IfOk result (λ next. next ≤ length bytes.now) }

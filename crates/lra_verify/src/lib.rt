@@ -4,14 +4,14 @@
 //! Nothing here stands on a domain's values, on conversions or on an iteration.
 #![tactic(auto)]
 
+mod annotated;
 mod body;
 mod edges;
 mod head;
 mod listed;
 mod points;
 mod verifying;
-mod ways;
 
-pub use lra_lines::{LineFault, VerifyError, VerifyRefusal};
+pub use annotated::AnnotatedProgram;
+pub use lra_certificate_lines::{LineFault, VerifyError, VerifyRefusal};
 pub use verifying::{GREATEST_CERTIFICATE, all_sources, verify};
-pub use ways::Ways;

@@ -1,15 +1,15 @@
 //! The assertions that are listed: nothing goes along the paths to where they are false.
 
 ghost use Rattle.std.specs.Prelude.{◌≡◌, ◌≤◌, ◌<◌, ◌^◌, ◌+◌, length, codes, string_bytes, IfOk};
-ghost use Rattle.lra_certificate.specs.CertificateText.{numbered_text};
-ghost use Rattle.lra_verify.specs.EdgeViews.{AreWays, assertion_by, denial_by, denials_by};
+ghost use Rattle.lra_certificate_spec.specs.CertificateText.{numbered_text};
+ghost use Rattle.lra_verify.specs.EdgeViews.{IsAnnotatedProgram, assertion_by, violation_by, violations_by};
 ghost use Rattle.lra_verify.specs.EdgeViews.{listed_by, listed_view, sites_in};
-ghost use Rattle.lra_certificate.specs.Lines.{left_at};
-ghost use Rattle.lra_lines.specs.LineViews.{IsToldAs};
+ghost use Rattle.lra_certificate_spec.specs.Lines.{left_at};
+ghost use Rattle.lra_certificate_lines.specs.LineViews.{IsJudgedAs};
 
+use crate::annotated::AnnotatedProgram;
 use crate::edges::take_all_dead;
-use crate::ways::Ways;
-use lra_lines::{VerifyError, behind_text};
+use lra_certificate_lines::{VerifyError, after_text};
 use lra_path_segments::Goal;
 use std::alloc::{AllocError, Global};
 
@@ -27,7 +27,7 @@ fn assert_text(alloc: Global, number: usize) -> Result<String, AllocError>
     format!(in alloc; "assert {number}")
 }
 
-impl Ways<'_> {
+impl AnnotatedProgram<'_> {
     /// Where the next line begins behind the paths from a source to where the assertion at the point is false.
     fn take_denial(
         &self,
@@ -37,12 +37,12 @@ impl Ways<'_> {
         source: usize,
         point: usize,
     ) -> Result<usize, VerifyError>
-        requires ways { AreWays self.now }
+        requires ways { IsAnnotatedProgram self.now }
         requires short { length bytes.now < 2 ^ 31 }
         requires place { at ≤ length bytes.now }
         requires source { source ≤ length self.now.sites.now }
-        ensures told { IsToldAs (left_at bytes.now)
-            (denial_by self.now point source (left_at bytes.now at)) result }
+        ensures told { IsJudgedAs (left_at bytes.now)
+            (violation_by self.now point source (left_at bytes.now at)) result }
         ensures within { IfOk result (λ next. next ≤ length bytes.now) }
     {
         match self.from(source) {
@@ -62,11 +62,11 @@ impl Ways<'_> {
         at: usize,
         point: usize,
     ) -> Result<usize, VerifyError>
-        requires ways { AreWays self.now }
+        requires ways { IsAnnotatedProgram self.now }
         requires short { length bytes.now < 2 ^ 31 }
         requires place { at ≤ length bytes.now }
-        ensures told { IsToldAs (left_at bytes.now)
-            (denials_by self.now point (left_at bytes.now at)) result }
+        ensures told { IsJudgedAs (left_at bytes.now)
+            (violations_by self.now point (left_at bytes.now at)) result }
         ensures within { IfOk result (λ next. next ≤ length bytes.now) }
     {
         let mut next = at;
@@ -89,13 +89,13 @@ impl Ways<'_> {
         point: usize,
         asserts: bool,
     ) -> Result<Listed, VerifyError>
-        requires ways { AreWays self.now }
+        requires ways { IsAnnotatedProgram self.now }
         requires short { length bytes.now < 2 ^ 31 }
         requires place { so_far.behind ≤ length bytes.now }
         requires point { point < 2 ^ 31 }
         requires few { so_far.proved ≤ point }
-        ensures told { IsToldAs (listed_view bytes.now)
-            (assertion_by (denials_by self.now) point asserts
+        ensures told { IsJudgedAs (listed_view bytes.now)
+            (assertion_by (violations_by self.now) point asserts
             (listed_view bytes.now so_far)) result }
         ensures within { IfOk result (λ r. r.behind ≤ length bytes.now) }
         ensures few { IfOk result (λ r. r.proved ≤ point + 1) }
@@ -104,7 +104,7 @@ impl Ways<'_> {
             return Ok(so_far);
         }
         let text = assert_text(alloc, point + 1)?;
-        match behind_text(bytes, so_far.behind, text.as_bytes()) {
+        match after_text(bytes, so_far.behind, text.as_bytes()) {
             None => Ok(so_far),
             Some(next) => {
                 let behind = self.take_denials(alloc, bytes, next, point)?;
@@ -118,11 +118,12 @@ impl Ways<'_> {
 
     /// How many assertions are listed, and where the next line begins.
     pub fn take_listed(&self, alloc: Global, bytes: &[u8], at: usize) -> Result<Listed, VerifyError>
-        requires ways { AreWays self.now }
+        requires ways { IsAnnotatedProgram self.now }
         requires short { length bytes.now < 2 ^ 31 }
         requires place { at ≤ length bytes.now }
-        ensures told { IsToldAs (listed_view bytes.now)
-            (listed_by (denials_by self.now) 0 (sites_in self.now) (left_at bytes.now at)) result }
+        ensures told { IsJudgedAs (listed_view bytes.now)
+            (listed_by (violations_by self.now) 0 (sites_in self.now) (left_at bytes.now at))
+            result }
         ensures within { IfOk result (λ r. r.behind ≤ length bytes.now) }
         ensures few { IfOk result (λ r. r.proved ≤ length self.now.sites.now) }
     {

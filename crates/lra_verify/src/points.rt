@@ -7,17 +7,19 @@ ghost use Rattle.std.specs.List.{All, starts_with};
 ghost use Rattle.lra_program.specs.Sites.{Site};
 ghost use Rattle.lra_operations.specs.TreeViews.{site_view};
 ghost use Rattle.lra_script.specs.Views.{constraint_of};
-ghost use Rattle.lra_certificate.specs.CertificateText.{point_text};
-ghost use Rattle.lra_certificate.specs.Judged.{as_given, numbers_behind, row_in, line_on};
-ghost use Rattle.lra_certificate.specs.Judged.{judged_rows, judged_state, judged_states};
-ghost use Rattle.lra_certificate.specs.Lines.{pieces_at, number_at, left_at, IsLineAt};
-ghost use Rattle.lra_lines.specs.LineViews.{IsToldAs};
-ghost use Rattle.lra_certificate.specs.Lines.{is_row_line};
+ghost use Rattle.lra_certificate_spec.specs.CertificateText.{point_text};
+ghost use Rattle.lra_certificate_spec.specs.Judged.{constraint_row, numbers_after, row_in, line_on};
+ghost use Rattle.lra_certificate_spec.specs.Judged.{judged_rows, judged_state, judged_states};
+ghost use Rattle.lra_certificate_spec.specs.Lines.{pieces_at, line_number_at, left_at, IsLineAt};
+ghost use Rattle.lra_certificate_lines.specs.LineViews.{IsJudgedAs};
+ghost use Rattle.lra_certificate_spec.specs.Lines.{is_row_line};
 ghost use Rattle.lra_verify.specs.PointViews.{rows_view, point_view, points_view, HaveDims};
 ghost use Rattle.lra_linear_spec.specs.Kinds.{is_equality};
 
+use lra_certificate_lines::{
+    LineFault, VerifyError, after_text, line_at, numbers_behind, refuse, take_line,
+};
 use lra_linear_spec::ConKind;
-use lra_lines::{LineFault, VerifyError, behind_text, line_at, numbers_behind, refuse, take_line};
 use lra_operations::Site;
 use lra_row::Row;
 use lra_script::Constraint;
@@ -54,7 +56,7 @@ fn row_behind(
     width: usize,
 ) -> Result<Option<Constraint>, AllocError>
     ensures row { IfOk result (λ r. option_map constraint_of r ≡
-        as_given (is_equality kind) (numbers_behind text.now width line.now)) }
+        constraint_row (is_equality kind) (numbers_after text.now width line.now)) }
     ensures width { IfOk result (λ r. IfSome r (λ c. length c.row ≡ width)) }
 {
     match numbers_behind(alloc, line, text, width)? {
@@ -95,8 +97,8 @@ fn take_rows(alloc: Global, bytes: &[u8], at: usize, live: usize) -> Result<Poin
     requires short { length bytes.now < 2 ^ 31 }
     requires place { at ≤ length bytes.now }
     requires live { live < 2 ^ 31 }
-    ensures told { IsToldAs (rows_view bytes.now)
-        (judged_rows live (number_at bytes.now at) (pieces_at bytes.now at)) result }
+    ensures told { IsJudgedAs (rows_view bytes.now)
+        (judged_rows live (line_number_at bytes.now at) (pieces_at bytes.now at)) result }
     ensures within { IfOk result (λ r. r.behind ≤ length bytes.now) }
     ensures live { IfOk result (λ r. r.rows.dims ≡ live) }
 {
@@ -139,14 +141,14 @@ fn take_point(
     requires short { length bytes.now < 2 ^ 31 }
     requires place { at ≤ length bytes.now }
     requires live { live < 2 ^ 31 }
-    ensures told { IsToldAs (point_view bytes.now)
+    ensures told { IsJudgedAs (point_view bytes.now)
         (judged_state number live (left_at bytes.now at)) result }
     ensures within { IfOk result (λ r. r.behind ≤ length bytes.now) }
     ensures live { IfOk result (λ r. IfSome r.state (λ rows. rows.dims ≡ live)) }
 {
     let text = point_text(alloc, number)?;
     let empty = empty_text(alloc, number)?;
-    if let Some(behind) = behind_text(bytes, at, empty.as_bytes()) {
+    if let Some(behind) = after_text(bytes, at, empty.as_bytes()) {
         return Ok(Point {
             state: None,
             behind,
@@ -165,7 +167,7 @@ pub fn take_points(alloc: Global, bytes: &[u8], sites: &[Site]) -> Result<Points
     requires short { length bytes.now < 2 ^ 31 }
     requires sites { length sites.now < 2 ^ 31 }
     requires live { All (λ s. s.live < 2 ^ 31) sites.now }
-    ensures told { IsToldAs (points_view bytes.now)
+    ensures told { IsJudgedAs (points_view bytes.now)
         (judged_states 1 (map site_view sites.now) (left_at bytes.now 0)) result }
     ensures within { IfOk result (λ r. r.behind ≤ length bytes.now) }
     ensures count { IfOk result (λ r. length r.states.items ≡ length sites.now) }

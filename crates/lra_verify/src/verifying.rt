@@ -13,19 +13,19 @@ ghost use Rattle.lra_path_segments.specs.TreeSegments.{AreSegmentsOf};
 ghost use Rattle.lra_path_segments.specs.TreeSegmentViews.{seen};
 ghost use Rattle.lra_path_disjuncts.specs.Tables.{IsTable};
 ghost use Rattle.lra_path_segments.specs.Segments.{Goal};
-ghost use Rattle.lra_certificate.specs.Claims.{Deserves, verified};
-ghost use Rattle.lra_verify.specs.EdgeViews.{led_from};
-ghost use Rattle.lra_certificate.specs.Judged.{judged};
-ghost use Rattle.lra_lines.specs.LineViews.{IsToldAs};
+ghost use Rattle.lra_certificate_spec.specs.Claims.{VerifiesTo, verified};
+ghost use Rattle.lra_verify.specs.EdgeViews.{actions_out_of};
+ghost use Rattle.lra_certificate_spec.specs.Judged.{judged};
+ghost use Rattle.lra_certificate_lines.specs.LineViews.{IsJudgedAs};
 ghost use Rattle.lra_verify.specs.RefusalViews.{IfRefused};
 ghost use Rattle.lra_verify.specs.SourceViews.{AreSources, IsAnswerTo, LeadAs};
 
+use crate::annotated::AnnotatedProgram;
 use crate::head::head_of;
 use crate::points::take_points;
-use crate::ways::Ways;
 use lra_base::SourceError;
+use lra_certificate_lines::{LineFault, VerifyError, VerifyRefusal};
 use lra_front_end::read_source;
-use lra_lines::{LineFault, VerifyError, VerifyRefusal};
 use lra_operations::{InlinedProgram, Site};
 use lra_paths::{Paths, PathsFailure, Source, find_paths};
 use lra_program::Program;
@@ -42,7 +42,7 @@ pub fn all_sources(alloc: Global, paths: &Paths<'_>) -> Result<Vec<Source>, Allo
     ensures tables { IfOk result (λ v. All (λ s. IsTable s.entries.items) v.items) }
     ensures leads { IfOk result (λ v. (g : Node) → AreSegmentsOf (seen paths.now.segments.items) g →
         (p : ℕ) (goal : Goal) → p ≤ length paths.now.sites.now →
-        led_from (slice_get v.items p) goal ≡
+        actions_out_of (slice_get v.items p) goal ≡
         actions_between_in paths.now.globals.now (map site_view paths.now.sites.now) g p goal) }
 {
     let mut sources = Vec::new(alloc);
@@ -69,10 +69,10 @@ fn take_lines(
     requires start { start.now.rows ≡ [] }
     requires dims { start.now.dims ≡ 0 }
     ensures told { (P : programs.Program) (g : Node) → map site_view sites.now ≡ sites_of P →
-        LeadAs P g sources.now → IsToldAs (λ r. r) (judged P g bytes.now) result }
+        LeadAs P g sources.now → IsJudgedAs (λ r. r) (judged P g bytes.now) result }
 {
     let points = take_points(alloc, bytes, sites)?;
-    let ways = Ways {
+    let ways = AnnotatedProgram {
         sites,
         states: points.states.as_slice(),
         start,
@@ -117,8 +117,8 @@ fn judge(
 /// How many points the program has whose certificate the input is, and how many assertions that lists; or why the input
 /// is no certificate that meets its program. Memory may be wanting.
 pub fn verify(alloc: Global, bytes: &[u8]) -> Result<(u32, u32), VerifyError>
-    ensures verified { IfOk result (λ r. Deserves bytes.now (verified r.0 r.1)) }
-    ensures refused { IfRefused result (Deserves bytes.now) }
+    ensures verified { IfOk result (λ r. VerifiesTo bytes.now (verified r.0 r.1)) }
+    ensures refused { IfRefused result (VerifiesTo bytes.now) }
 {
     if bytes.len() > GREATEST_CERTIFICATE {
         return Err(VerifyError::Refused(VerifyRefusal::Line(0, LineFault::TooLong)));

@@ -11,7 +11,7 @@ use Rattle.lra_verify.specs.PointViews.{state_view}
 use Rattle.lra_certified.specs.Taken.{state_by, dims_by, proved_in}
 use Rattle.lra_program.specs.Sites.{sites_of}
 use Rattle.lra_certify.specs.Certified.{AreListable}
-use Rattle.lra_certify.specs.Staying.{PathsStay}
+use Rattle.lra_certify.specs.InductiveRows.{AreInductiveRows}
 use Rattle.lra_certified.proofs.Answered.{live_small, many_small, sites_are, states_many, listed, stay, have_dims, asked_so, written_so, failed_so, few_so}
 use Rattle.lra_certified.proofs.certified.certify_solution.Goals as goal
 
@@ -65,7 +65,7 @@ certify-requires-clause-stay c =
     (proved_in c.args.solution.now.verdicts.items) c.requires.program
     (ap (map state_view) c.deref-3.ensures.value ∙ c.in_ok-states.ensures.states ∙ ap (map state_by) c.deref.ensures.value)
     (c.deref-4.ensures.value ∙ c.in_ok-proved.ensures ∙ ap proved_in c.deref-2.ensures.value)
-    (λ P states proved. PathsStay P (node_view c.args.front.now.graph.tree) states proved)
+    (λ P states proved. AreInductiveRows P (node_view c.args.front.now.graph.tree) states proved)
     (stay (tree_view c.args.front.now.tree) (node_view c.args.front.now.graph.tree) (map site_view c.args.front.now.graph.sites.items) c.requires.graph
     c.args.front.now.constants.items c.args.solution.now.values.items c.args.solution.now.verdicts.items c.args.solution.now.flagged c.requires.solved
     (subst (λ (vs : List Polyhedron). AllByRecursion IsPolyhedron vs) c.deref.ensures.value c.in_ok-states.ensures.canonical))

@@ -3,7 +3,7 @@ use Rattle.std.proofs.Common.{◌∙◌, ◌++◌, List, ℕ, map, ap, string_by
 use Rattle.lra_syntax.specs.Views.{tree_view}
 use Rattle.lra_operations.specs.TreeViews.{node_view, site_view}
 use Rattle.lra_report.specs.View.{report_of}
-use Rattle.lra_certificate.specs.CertificateText.{head_text}
+use Rattle.lra_certificate_spec.specs.CertificateText.{head_text}
 use Rattle.lra_certify.proofs.PathSteps.{exit_with}
 use Rattle.lra_certified.specs.Certified.{IsCounted, IsRefusedSo}
 use Rattle.lra_certified.specs.Refusals.{IfRefusal}

@@ -2,7 +2,7 @@
 use Rattle.std.proofs.Common.{Some, subst, string_bytes}
 use Rattle.lra_multipliers.specs.MultiplierViews.{multipliers_view}
 use Rattle.lra_farkas.specs.declared.first.MultipliersFailure.{MultipliersFailure}
-use Rattle.lra_certify.specs.GroundViews.{IsLineFailure}
+use Rattle.lra_certify.specs.PathFactViews.{IsLineFailure}
 use Rattle.lra_certify.proofs.ClaimSteps.{claim_added, claim_stops}
 use Rattle.lra_certify.proofs.FarkasLaws.{laws}
 use Rattle.lra_certify.proofs.FoundPaths.{claim_shown}

@@ -5,9 +5,9 @@ use Rattle.lra_linear_spec.specs.Cones.{with_row}
 use Rattle.lra_linear_spec.specs.Descriptions.{system_of}
 use Rattle.lra_linear_spec.specs.Kinds.{is_equality}
 use Rattle.lra_systems.specs.LinearSystems.{constraints}
-use Rattle.lra_lines.proofs.ShowSteps.{constraint_from}
-use Rattle.lra_lines.proofs.TrackSteps.{constraints_few}
-use Rattle.lra_certify.specs.GroundViews.{IsClaimLine, ClaimStrained, by_line, SomeStrains, IfStrained}
+use Rattle.lra_certificate_lines.proofs.ShowSteps.{constraint_from}
+use Rattle.lra_certificate_lines.proofs.TrackSteps.{constraints_few}
+use Rattle.lra_certify.specs.PathFactViews.{IsClaimLine, ClaimStrained, by_line, SomeStrains, IfStrained}
 use Rattle.lra_certify.proofs.ClaimSteps.{system_next, hold_row}
 use Rattle.lra_certify.proofs.EachSteps.{left_all, left_next, left_stops, left_end}
 use Rattle.lra_certify.proofs.PathSteps.{exit_with, strained_weaker}

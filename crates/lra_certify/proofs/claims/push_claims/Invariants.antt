@@ -1,7 +1,7 @@
 use Rattle.std.proofs.Common.{drop, string_bytes}
 use Rattle.lra_linear_spec.specs.Descriptions.{system_of}
 use Rattle.lra_systems.specs.LinearSystems.{constraints}
-use Rattle.lra_certify.specs.GroundViews.{LinesLeft}
+use Rattle.lra_certify.specs.PathFactViews.{LinesLeft}
 use Rattle.lra_certify.proofs.claims.push_claims.Given as goal
 
 abbrev pub invariant-loop-place : goal.invariant-loop-place

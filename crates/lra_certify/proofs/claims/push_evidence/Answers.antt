@@ -2,10 +2,10 @@
 use Rattle.std.proofs.Common.{None, ap, subst, string_bytes}
 use Rattle.lra_systems.specs.LinearSystems.{constraints}
 use Rattle.lra_multipliers.specs.MultiplierViews.{multipliers_view}
-use Rattle.lra_certificate.specs.Judged.{State}
-use Rattle.lra_lines.specs.TrackViews.{rows_of}
+use Rattle.lra_certificate_spec.specs.Judged.{RowsAtPoint}
+use Rattle.lra_certificate_lines.specs.PathCheckViews.{target_rows}
 use Rattle.lra_farkas.specs.declared.first.MultipliersFailure.{MultipliersFailure}
-use Rattle.lra_certify.specs.GroundViews.{AllLead, IsLineFailure}
+use Rattle.lra_certify.specs.PathFactViews.{AllLead, IsLineFailure}
 use Rattle.lra_certify.proofs.ClaimSteps.{dead_added, dead_stops, claims_told, claims_failed}
 use Rattle.lra_certify.proofs.FarkasLaws.{laws}
 use Rattle.lra_certify.proofs.FoundPaths.{dead_shown, target_holds}
@@ -14,38 +14,38 @@ use Rattle.lra_certify.proofs.claims.push_evidence.Goals as goal
 pub unreachable-requires : goal.unreachable-requires
 unreachable-requires c =
     dead_shown laws c.args.grounds.now
-    (subst (λ (s : State). AllLead c.args.grounds.now s) (ap rows_of c.in-None.is) c.requires.lead)
+    (subst (λ (s : RowsAtPoint). AllLead c.args.grounds.now s) (ap target_rows c.in-None.is) c.requires.lead)
     (subst (λ (e : MultipliersFailure). IsLineFailure c.args.grounds.now None e)
     c.in-Err-NotImplied.field-0-is c.in-Err-NotImplied.ensures.failure)
 
 pub push_claims-requires-clause-holds : goal.push_claims-requires-clause-holds
 push_claims-requires-clause-holds c =
     target_holds c.args.grounds.now (constraints c.in-Some.rows.now)
-    (subst (λ (s : State). AllLead c.args.grounds.now s) (ap rows_of c.in-Some.is) c.requires.lead)
+    (subst (λ (s : RowsAtPoint). AllLead c.args.grounds.now s) (ap target_rows c.in-Some.is) c.requires.lead)
 
 pub returns-in_ok-push_multipliers-in-Ok-clause-evidence : goal.returns-in_ok-push_multipliers-in-Ok-clause-evidence
 returns-in_ok-push_multipliers-in-Ok-clause-evidence c =
-    dead_added c.args.grounds.now (rows_of c.args.target) (multipliers_view c.in-Ok.shown) (string_bytes c.args.text.now)
+    dead_added c.args.grounds.now (target_rows c.args.target) (multipliers_view c.in-Ok.shown) (string_bytes c.args.text.now)
     (string_bytes c.push_multipliers.new.text) c.in-Ok.ensures.line c.in_ok-push_multipliers-in-Ok.ensures
 
 pub returns-in-Some-clause-evidence : goal.returns-in-Some-clause-evidence
 returns-in-Some-clause-evidence c =
-    claims_told c.args.grounds.now (rows_of c.args.target) (constraints c.in-Some.rows.now)
-    (ap rows_of c.in-Some.is) (string_bytes c.args.text.now) (string_bytes c.push_claims.new.text)
+    claims_told c.args.grounds.now (target_rows c.args.target) (constraints c.in-Some.rows.now)
+    (ap target_rows c.in-Some.is) (string_bytes c.args.text.now) (string_bytes c.push_claims.new.text)
     (subst (λ (e : MultipliersFailure). IsLineFailure c.args.grounds.now None e)
     c.in-Err-NotImplied.field-0-is c.in-Err-NotImplied.ensures.failure)
     c.push_claims.result c.push_claims.ensures.lines
 
 pub returns-in-Some-clause-failure : goal.returns-in-Some-clause-failure
 returns-in-Some-clause-failure c =
-    claims_failed c.args.grounds.now (rows_of c.args.target) (constraints c.in-Some.rows.now)
-    (ap rows_of c.in-Some.is)
+    claims_failed c.args.grounds.now (target_rows c.args.target) (constraints c.in-Some.rows.now)
+    (ap target_rows c.in-Some.is)
     (subst (λ (e : MultipliersFailure). IsLineFailure c.args.grounds.now None e)
     c.in-Err-NotImplied.field-0-is c.in-Err-NotImplied.ensures.failure)
     c.push_claims.result c.push_claims.ensures.failure
 
 pub returns-in-Err-Strained-clause-failure : goal.returns-in-Err-Strained-clause-failure
 returns-in-Err-Strained-clause-failure c =
-    dead_stops c.args.grounds.now (rows_of c.args.target)
+    dead_stops c.args.grounds.now (target_rows c.args.target)
     (subst (λ (e : MultipliersFailure). IsLineFailure c.args.grounds.now None e)
     c.in-Err-Strained.field-0-is c.in-Err-Strained.ensures.failure)

@@ -1,7 +1,7 @@
 -- Goals of `push_row_claims`: the lines of a row's claims.
 use Rattle.std.proofs.Common.{◌∙◌, ◌∷◌, [], sym, string_bytes}
 use Rattle.lra_linear_spec.specs.Kinds.{is_equality}
-use Rattle.lra_certify.specs.GroundViews.{SomeStrains, IfStrained}
+use Rattle.lra_certify.specs.PathFactViews.{SomeStrains, IfStrained}
 use Rattle.lra_linear_spec.specs.Cones.{with_row}
 use Rattle.lra_certify.proofs.ClaimSteps.{row_holds, opposite_holds, row_stops, two_told, opposite_failed}
 use Rattle.lra_certify.proofs.PathSteps.{exit_with, strained_weaker}

@@ -8,8 +8,8 @@ use Rattle.lra_paths.specs.Sources.{to_goal}
 use Rattle.lra_path_disjuncts.specs.TableDisjuncts.{lists_done}
 use Rattle.lra_paths.specs.declared.sources.Source.{Source}
 use Rattle.lra_certify.specs.declared.failures.CertifyFailure.{CertifyFailure}
-use Rattle.lra_certify.specs.GroundViews.{IfStrained}
-use Rattle.lra_certify.specs.WrittenPaths.{AllStay, AddsPaths, SomePathStops, SomeStops, IfStopped, edge_lines, paths_to}
+use Rattle.lra_certify.specs.PathFactViews.{IfStrained}
+use Rattle.lra_certify.specs.WrittenPaths.{AllAreInductive, AddsPaths, SomePathStops, SomeStops, IfStopped, edge_lines, paths_to}
 use Rattle.lra_certify.proofs.PathSteps.{led_lists, failed_edge}
 use Rattle.lra_certify.proofs.edges.push_edges.Goals as goal
 
@@ -23,7 +23,7 @@ push_edge_paths-requires-clause-stay c =
     (slice_get_read w.sources.now (length w.sources.now) p c.index-ways-source.result refl (omega (arith, h, n)) c.index-ways-source.is)
     (ap lists_done c.as_slice.ensures.value ∙ c.in_ok-paths.ensures ∙
     ap (λ (s : Source). to_goal s.entries.items s.segments.items (comes_to c.args.point)) (sym c.index-ways-source.is)) in
-    subst (λ (l : List (List Action)). AllStay w (map (path_by p (comes_to c.args.point)) l)) (sym led) c.requires.stay
+    subst (λ (l : List (List Action)). AllAreInductive w (map (path_by p (comes_to c.args.point)) l)) (sym led) c.requires.stay
 
 pub returns-in-Ok-clause-adds : goal.returns-in-Ok-clause-adds
 returns-in-Ok-clause-adds c =

@@ -6,13 +6,13 @@ use Rattle.lra_path_segments.specs.Segments.{violates}
 use Rattle.lra_paths.specs.Sources.{to_goal}
 use Rattle.lra_path_disjuncts.specs.TableDisjuncts.{lists_done}
 use Rattle.lra_paths.specs.declared.sources.Source.{Source}
-use Rattle.lra_lines.specs.TrackViews.{rows_of}
+use Rattle.lra_certificate_lines.specs.PathCheckViews.{target_rows}
 use Rattle.lra_certify.proofs.PathSteps.{led_lists, none_denied, denied_told, denied_failed, denied_stay}
 use Rattle.lra_certify.proofs.listed.push_denials_from.Goals as goal
 
 pub returns-in-None-clause-adds : goal.returns-in-None-clause-adds
 returns-in-None-clause-adds c =
-    none_denied c.args.ways.now c.args.source c.args.point (string_bytes c.args.text.now) (sym (ap rows_of c.in-None.is) ∙ c.from.ensures.rows)
+    none_denied c.args.ways.now c.args.source c.args.point (string_bytes c.args.text.now) (sym (ap target_rows c.in-None.is) ∙ c.from.ensures.rows)
 
 pub push_dead_paths-requires-clause-stay : goal.push_dead_paths-requires-clause-stay
 push_dead_paths-requires-clause-stay c =
@@ -21,7 +21,7 @@ push_dead_paths-requires-clause-stay c =
     let h = c.requires.source in
     let n = c.requires.ways.sources in
     denied_stay w p c.args.point c.in-Some.rows.now.dims (constraints c.in-Some.rows.now) c.in-Some.ensures.dims
-    (sym (ap rows_of c.in-Some.is) ∙ c.from.ensures.rows) (lists_done c.as_slice.result.now)
+    (sym (ap target_rows c.in-Some.is) ∙ c.from.ensures.rows) (lists_done c.as_slice.result.now)
     (led_lists w p (violates c.args.point) c.index-ways-source.result (lists_done c.as_slice.result.now)
     (slice_get_read w.sources.now (length w.sources.now) p c.index-ways-source.result refl (omega (arith, h, n)) c.index-ways-source.is)
     (ap lists_done c.as_slice.ensures.value ∙ c.in_ok-paths-in-Some.ensures ∙
@@ -34,7 +34,7 @@ returns-in_ok-paths-in-Some-clause-adds c =
     let h = c.requires.source in
     let n = c.requires.ways.sources in
     denied_told w p c.args.point c.in-Some.rows.now.dims (constraints c.in-Some.rows.now) c.in-Some.ensures.dims
-    (sym (ap rows_of c.in-Some.is) ∙ c.from.ensures.rows) (lists_done c.as_slice.result.now)
+    (sym (ap target_rows c.in-Some.is) ∙ c.from.ensures.rows) (lists_done c.as_slice.result.now)
     (led_lists w p (violates c.args.point) c.index-ways-source.result (lists_done c.as_slice.result.now)
     (slice_get_read w.sources.now (length w.sources.now) p c.index-ways-source.result refl (omega (arith, h, n)) c.index-ways-source.is)
     (ap lists_done c.as_slice.ensures.value ∙ c.in_ok-paths-in-Some.ensures ∙
@@ -48,7 +48,7 @@ returns-in_ok-paths-in-Some-clause-failure c =
     let h = c.requires.source in
     let n = c.requires.ways.sources in
     denied_failed w p c.args.point c.in-Some.rows.now.dims (constraints c.in-Some.rows.now) c.in-Some.ensures.dims
-    (sym (ap rows_of c.in-Some.is) ∙ c.from.ensures.rows) (lists_done c.as_slice.result.now)
+    (sym (ap target_rows c.in-Some.is) ∙ c.from.ensures.rows) (lists_done c.as_slice.result.now)
     (led_lists w p (violates c.args.point) c.index-ways-source.result (lists_done c.as_slice.result.now)
     (slice_get_read w.sources.now (length w.sources.now) p c.index-ways-source.result refl (omega (arith, h, n)) c.index-ways-source.is)
     (ap lists_done c.as_slice.ensures.value ∙ c.in_ok-paths-in-Some.ensures ∙

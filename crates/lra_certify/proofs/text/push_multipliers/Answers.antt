@@ -3,7 +3,7 @@ use Rattle.std.proofs.Common.{◌++◌, ◌∙◌, rules, ap, FitsSigned, List, 
 use Rattle.std.specs.Int.{w128}
 use Rattle.std.proofs.lemmas.Int.{to_z-of_z}
 use Rattle.lra_multipliers.specs.MultiplierViews.{multipliers_view}
-use Rattle.lra_certificate.specs.CertificateText.{numbers_text}
+use Rattle.lra_certificate_spec.specs.CertificateText.{numbers_text}
 use Rattle.lra_certify.proofs.TextSteps.{multipliers_line}
 use Rattle.lra_certify.proofs.text.push_multipliers.Goals as goal
 

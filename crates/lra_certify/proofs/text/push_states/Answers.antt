@@ -2,7 +2,7 @@
 use Rattle.std.proofs.Common.{◌++◌, suc, refl, drop, map, ap, arith, string_bytes}
 use Rattle.std.proofs.lemmas.List.{drop_all}
 use Rattle.std.proofs.lemmas.List.Elements.{All-nil}
-use Rattle.lra_certificate.specs.CertificateText.{states_text}
+use Rattle.lra_certificate_spec.specs.CertificateText.{states_text}
 use Rattle.lra_verify.specs.PointViews.{state_view}
 use Rattle.lra_certify.specs.Lines.{HasPointRows}
 use Rattle.lra_certify.proofs.TextSteps.{states_so_far, fit_so_far, states_end, fit_all}

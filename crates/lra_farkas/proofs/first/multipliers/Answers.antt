@@ -3,7 +3,7 @@ use Rattle.std.proofs.Common.{◌∙◌, ap, sym, length, List}
 use Rattle.lra_linear_spec.specs.declared.ConKind.{ConKind}
 use Rattle.lra_systems.specs.LinearSystems.{constraints}
 use Rattle.lra_multipliers.specs.MultiplierViews.{multipliers_view}
-use Rattle.lra_farkas.specs.FirstMultipliers.{IsFailure}
+use Rattle.lra_farkas.specs.FirstMultipliers.{IsMultipliersFailure}
 use Rattle.lra_farkas.proofs.FirstPoints.{as_wide, as_many, exit_fails, first_many, first_answer, first_strained}
 use Rattle.lra_farkas.proofs.first.multipliers.Goals as goal
 
@@ -16,7 +16,8 @@ check-requires-clause-count c =
 
 pub returns-in_err-first-clause-failure : goal.returns-in_err-first-clause-failure
 returns-in_err-first-clause-failure c =
-    exit_fails (IsFailure (constraints c.args.premises.now) c.args.claim.now) c.from_residual.result _ c.from_residual.ensures.1 c.in_err-first.ensures.failure
+    exit_fails (IsMultipliersFailure (constraints c.args.premises.now) c.args.claim.now) c.from_residual.result _ c.from_residual.ensures.1
+    c.in_err-first.ensures.failure
 
 pub returns-in-Wide-clause-failure : goal.returns-in-Wide-clause-failure
 returns-in-Wide-clause-failure c =

@@ -4,14 +4,14 @@ use Rattle.std.specs.List.{All}
 use Rattle.std.proofs.lemmas.List.Elements.{All-push, All-nil}
 use Rattle.lra_linear_spec.specs.Kinds.{is_equality}
 use Rattle.lra_systems.proofs.LinearRows.{all_given}
-use Rattle.lra_farkas.specs.KeyedRows.{given_of}
+use Rattle.lra_farkas.specs.KeyedRows.{row_of_keyed}
 use Rattle.lra_farkas.specs.declared.orders.Keyed.{Keyed}
 use Rattle.lra_farkas.proofs.KeyedRows.{keyed_pushed}
 use Rattle.lra_farkas.proofs.orders.key_rows.Goals as goal
 
 pub loop-place-init : goal.loop-place-init
 loop-place-init c = record {
-  so_far = ap (map given_of) c.new-keyed.ensures.items;
+  so_far = ap (map row_of_keyed) c.new-keyed.ensures.items;
   widths = subst (All (λ (k : Keyed). length k.row ≡ suc c.args.rows.now.dims)) (sym c.new-keyed.ensures.items)
       (All-nil (λ (k : Keyed). length k.row ≡ suc c.args.rows.now.dims));
 }

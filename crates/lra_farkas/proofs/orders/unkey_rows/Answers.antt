@@ -3,7 +3,7 @@ use Rattle.std.proofs.Common.{◌≡◌, ℤ, List, suc, map, length, ap, sym, �
 use Rattle.std.proofs.lemmas.List.{take_all}
 use Rattle.lra_linear_spec.specs.declared.ConKind.{ConKind}
 use Rattle.lra_multipliers.proofs.ListedKinds.{kinds_pushed}
-use Rattle.lra_farkas.specs.KeyedRows.{given_of}
+use Rattle.lra_farkas.specs.KeyedRows.{row_of_keyed}
 use Rattle.lra_farkas.specs.declared.orders.Keyed.{Keyed}
 use Rattle.lra_farkas.proofs.KeyedRows.{unkeyed_more}
 use Rattle.lra_farkas.proofs.ListedRows.{none_listed}
@@ -35,4 +35,4 @@ returns-clause-dims c = c.loop-item.invariant.dims
 
 pub returns-clause-rows : goal.returns-clause-rows
 returns-clause-rows c =
-    c.loop-item.invariant.so_far ∙ ap (map given_of) (take_all c.loop-item.item-index c.args.keyed.now (omega (arith, c.loop-item-test.false)))
+    c.loop-item.invariant.so_far ∙ ap (map row_of_keyed) (take_all c.loop-item.item-index c.args.keyed.now (omega (arith, c.loop-item-test.false)))

@@ -5,8 +5,8 @@ use Rattle.lra_domain.specs.declared.changes.Change.{Change}
 use Rattle.lra_systems.specs.LinearSystems.{constraints}
 use Rattle.lra_verify.specs.EdgeViews.{dead_by}
 use Rattle.lra_path_disjuncts.specs.TableDisjuncts.{all_done, lists_done}
-use Rattle.lra_certificate.specs.Lines.{in_turn, left_at}
-use Rattle.lra_lines.proofs.ShowSteps.{turn_more, turn_fault, turn_done}
+use Rattle.lra_certificate_spec.specs.Lines.{judged_in_turn, left_at}
+use Rattle.lra_certificate_lines.proofs.ShowSteps.{turn_more, turn_fault, turn_done}
 use Rattle.lra_verify.proofs.EdgeSteps.{lists_next, lists_end}
 use Rattle.lra_verify.proofs.edges.take_all_dead.Goals as goal
 
@@ -21,7 +21,7 @@ loop-path-preserved c =
     ap (λ (xs : List (Bor Change)). all_done xs ∷ lists_done (drop (i + 1) paths)) (sym c.as_slice.ensures.value) in
     record {
       so_far = turn_more (dead_by c.args.rows.now.dims (Some (constraints c.args.rows.now))) (all_done item) (lists_done (drop (i + 1) paths)) (lists_done (drop i paths)) (left_at c.args.bytes.now c.loop-path.next)
-          (in_turn (dead_by c.args.rows.now.dims (Some (constraints c.args.rows.now))) (lists_done paths) (left_at c.args.bytes.now c.args.at)) first
+          (judged_in_turn (dead_by c.args.rows.now.dims (Some (constraints c.args.rows.now))) (lists_done paths) (left_at c.args.bytes.now c.args.at)) first
           c.loop-path.invariant.so_far (left_at c.args.bytes.now c.in-Ok.behind) c.in-Ok.ensures.told;
       within = c.in-Ok.ensures.within;
     }
@@ -36,7 +36,7 @@ returns-in-Err-clause-told c =
     lists_next paths i path c.loop-path-test.true c.path-item.is ∙
     ap (λ (xs : List (Bor Change)). all_done xs ∷ lists_done (drop (i + 1) paths)) (sym c.as_slice.ensures.value) in
     turn_fault (dead_by c.args.rows.now.dims (Some (constraints c.args.rows.now))) (all_done item) (lists_done (drop (i + 1) paths)) (lists_done (drop i paths)) (left_at c.args.bytes.now c.loop-path.next)
-    (in_turn (dead_by c.args.rows.now.dims (Some (constraints c.args.rows.now))) (lists_done paths) (left_at c.args.bytes.now c.args.at)) first
+    (judged_in_turn (dead_by c.args.rows.now.dims (Some (constraints c.args.rows.now))) (lists_done paths) (left_at c.args.bytes.now c.args.at)) first
     c.loop-path.invariant.so_far c.in-Err.error c.in-Err.ensures.told
 
 pub returns-clause-told : goal.returns-clause-told
@@ -45,4 +45,4 @@ returns-clause-told c =
     let paths = c.args.paths.now in
     let h = c.loop-path-test.false in
     turn_done (dead_by c.args.rows.now.dims (Some (constraints c.args.rows.now))) (lists_done (drop i paths)) (left_at c.args.bytes.now c.loop-path.next)
-    (in_turn (dead_by c.args.rows.now.dims (Some (constraints c.args.rows.now))) (lists_done paths) (left_at c.args.bytes.now c.args.at)) (lists_end paths i (omega (arith, h))) c.loop-path.invariant.so_far
+    (judged_in_turn (dead_by c.args.rows.now.dims (Some (constraints c.args.rows.now))) (lists_done paths) (left_at c.args.bytes.now c.args.at)) (lists_end paths i (omega (arith, h))) c.loop-path.invariant.so_far

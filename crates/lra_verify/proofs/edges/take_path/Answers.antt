@@ -1,10 +1,10 @@
 -- Goals of `take_path`: a path, behind its own line.
 use Rattle.std.proofs.Common.{◌∙◌}
 use Rattle.lra_path_disjuncts.specs.TableDisjuncts.{all_done}
-use Rattle.lra_certificate.specs.Lines.{left_at}
-use Rattle.lra_lines.specs.TrackViews.{rows_of, lines_by}
+use Rattle.lra_certificate_spec.specs.Lines.{left_at}
+use Rattle.lra_certificate_lines.specs.PathCheckViews.{target_rows, lines_by}
 use Rattle.lra_verify.specs.EdgeViews.{path_of}
-use Rattle.lra_lines.proofs.ShowSteps.{told_as}
+use Rattle.lra_certificate_lines.proofs.ShowSteps.{told_as}
 use Rattle.lra_verify.proofs.EdgeSteps.{edge_clean, path_some}
 use Rattle.lra_verify.proofs.edges.take_path.Goals as goal
 
@@ -19,6 +19,6 @@ returns-clause-told c =
     let steps = all_done c.args.path.now in
     let track = c.in_ok-track-in-Some in
     let next = left_at bytes c.in_ok-next.next in
-    told_as (left_at bytes) (lines_by track.track (rows_of e.to) next) (path_of e steps (left_at bytes c.args.at)) c.show_target.result
+    told_as (left_at bytes) (lines_by track.track (target_rows e.to) next) (path_of e steps (left_at bytes c.args.at)) c.show_target.result
     (path_some e steps c.as_bytes.result.now (left_at bytes c.args.at) (c.as_bytes.ensures.value ∙ c.in_ok-text.ensures) next c.in-Some.rows track.track
     c.in_ok-next.ensures.told c.in-Some.is track.ensures.track) c.show_target.ensures.told

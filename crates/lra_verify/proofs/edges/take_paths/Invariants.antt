@@ -1,12 +1,12 @@
 use Rattle.std.proofs.Common.{◌≡◌, ◌≤◌, length, drop}
 use Rattle.lra_path_disjuncts.specs.TableDisjuncts.{lists_done}
 use Rattle.lra_verify.specs.EdgeViews.{path_of}
-use Rattle.lra_certificate.specs.Lines.{in_turn, left_at}
+use Rattle.lra_certificate_spec.specs.Lines.{judged_in_turn, left_at}
 use Rattle.lra_verify.proofs.edges.take_paths.Given as goal
 
 abbrev pub invariant-loop-path : goal.invariant-loop-path
 invariant-loop-path l = record {
-  so_far : in_turn (path_of l.edge) (lists_done (drop l.path-index l.paths)) (left_at l.bytes l.next) ≡
-      in_turn (path_of l.edge) (lists_done l.paths) (left_at l.bytes l.at);
+  so_far : judged_in_turn (path_of l.edge) (lists_done (drop l.path-index l.paths)) (left_at l.bytes l.next) ≡
+      judged_in_turn (path_of l.edge) (lists_done l.paths) (left_at l.bytes l.at);
   within : l.next ≤ length l.bytes;
 }

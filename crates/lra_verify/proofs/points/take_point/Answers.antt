@@ -1,10 +1,10 @@
 -- Goals of `take_point`: what is said of a point.
 use Rattle.std.proofs.Common.{◌∙◌}
-use Rattle.lra_certificate.proofs.WritePoints.{point_clean, empty_clean}
+use Rattle.lra_certificate_spec.proofs.WritePoints.{point_clean, empty_clean}
 use Rattle.lra_verify.proofs.points.take_point.Goals as goal
 
-pub behind_text-requires-clause-text : goal.behind_text-requires-clause-text
-behind_text-requires-clause-text c =
+pub after_text-requires-clause-text : goal.after_text-requires-clause-text
+after_text-requires-clause-text c =
     empty_clean c.args.number c.as_bytes.result.now (c.as_bytes.ensures.value ∙ c.in_ok-empty.ensures)
 
 pub take_line-requires-clause-text : goal.take_line-requires-clause-text

@@ -2,10 +2,10 @@
 use Rattle.std.proofs.Common.{◌≡◌, arith, Some, ap, sym, ◌∙◌}
 use Rattle.std.specs.Prelude.{option_map}
 use Rattle.lra_script.specs.Views.{constraint_of}
-use Rattle.lra_certificate.specs.Judged.{row_in, judged_rows}
-use Rattle.lra_certificate.specs.Lines.{number_at, pieces_at}
+use Rattle.lra_certificate_spec.specs.Judged.{row_in, judged_rows}
+use Rattle.lra_certificate_spec.specs.Lines.{line_number_at, pieces_at}
 use Rattle.lra_multipliers.proofs.ListedKinds.{kinds_pushed}
-use Rattle.lra_lines.proofs.Told.{rows_more_by}
+use Rattle.lra_certificate_lines.proofs.Told.{rows_more_by}
 use Rattle.lra_verify.proofs.points.take_rows.Goals as goal
 
 pub rows-preserved : goal.rows-preserved
@@ -15,7 +15,7 @@ rows-preserved c =
     let w = c.in-Some.ensures.0.within in
     record {
       so_far = rows_more_by c.args.live c.args.bytes.now c.rows.behind c.rows.rows c.push_copy.new.self c.in-Some-2.constraint.row c.in-Some-2.constraint.kind
-          (judged_rows c.args.live (number_at c.args.bytes.now c.args.at) (pieces_at c.args.bytes.now c.args.at)) c.rows.invariant.so_far
+          (judged_rows c.args.live (line_number_at c.args.bytes.now c.args.at) (pieces_at c.args.bytes.now c.args.at)) c.rows.invariant.so_far
           c.rows.invariant.same
           c.in_ok-push_copy-in-Some-2.ensures.rows c.in_ok-push_copy-in-Some-2.ensures.kinds c.in-Some.line.now c.in-Some.ensures.0 c.in-Some.ensures.1 read;
       within = omega (arith, w);

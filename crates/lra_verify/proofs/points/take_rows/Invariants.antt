@@ -1,14 +1,14 @@
 use Rattle.std.proofs.Common.{◌≡◌, ◌≤◌, ◌-◌, length}
 use Rattle.lra_systems.specs.LinearSystems.{constraints}
-use Rattle.lra_certificate.specs.Judged.{judged_rows}
-use Rattle.lra_certificate.specs.Lines.{number_at, pieces_at}
-use Rattle.lra_lines.proofs.Told.{rows_after}
+use Rattle.lra_certificate_spec.specs.Judged.{judged_rows}
+use Rattle.lra_certificate_spec.specs.Lines.{line_number_at, pieces_at}
+use Rattle.lra_certificate_lines.proofs.Told.{rows_after}
 use Rattle.lra_verify.proofs.points.take_rows.Given as goal
 
 abbrev pub invariant-rows : goal.invariant-rows
 invariant-rows l = record {
-  so_far : rows_after (constraints l.rows) (judged_rows l.live (number_at l.bytes l.behind) (pieces_at l.bytes l.behind)) ≡
-      judged_rows l.live (number_at l.bytes l.fn.at) (pieces_at l.bytes l.fn.at);
+  so_far : rows_after (constraints l.rows) (judged_rows l.live (line_number_at l.bytes l.behind) (pieces_at l.bytes l.behind)) ≡
+      judged_rows l.live (line_number_at l.bytes l.fn.at) (pieces_at l.bytes l.fn.at);
   within : l.behind ≤ length l.bytes;
   same : length l.rows.kinds ≡ length l.rows.rows;
   dims : l.rows.dims ≡ l.live;

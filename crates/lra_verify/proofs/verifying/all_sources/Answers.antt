@@ -6,7 +6,7 @@ use Rattle.lra_operations.specs.TreeViews.{site_view}
 use Rattle.lra_paths.specs.Paths.{actions_between_in}
 use Rattle.lra_path_disjuncts.specs.Tables.{IsTable}
 use Rattle.lra_paths.specs.declared.sources.Source.{Source}
-use Rattle.lra_verify.specs.EdgeViews.{led_from}
+use Rattle.lra_verify.specs.EdgeViews.{actions_out_of}
 use Rattle.lra_verify.proofs.VerifySteps.{leads_pushed}
 use Rattle.lra_verify.proofs.verifying.all_sources.Goals as goal
 
@@ -28,7 +28,7 @@ loop-source-preserved c =
           (All-append (λ s. IsTable s.entries.items) old (led ∷ []) so_far.tables
           (All-cons (λ s. IsTable s.entries.items) led [] c.in_ok-led.ensures.table (All-nil (λ s. IsTable s.entries.items))));
       leads = λ g ways p goal below.
-          subst (λ (xs : List Source). led_from (slice_get xs p) goal ≡ actions_between_in paths.globals.now (map site_view paths.sites.now) g p goal)
+          subst (λ (xs : List Source). actions_out_of (slice_get xs p) goal ≡ actions_between_in paths.globals.now (map site_view paths.sites.now) g p goal)
           (sym pushed)
           (leads_pushed (actions_between_in paths.globals.now (map site_view paths.sites.now) g) old led n count (so_far.leads g ways)
           (c.in_ok-led.ensures.leads g ways) p goal below);

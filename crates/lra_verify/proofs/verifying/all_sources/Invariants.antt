@@ -7,7 +7,7 @@ use Rattle.lra_path_segments.specs.TreeSegments.{AreSegmentsOf}
 use Rattle.lra_path_segments.specs.TreeSegmentViews.{seen}
 use Rattle.lra_path_disjuncts.specs.Tables.{IsTable}
 use Rattle.lra_path_segments.specs.Segments.{Goal}
-use Rattle.lra_verify.specs.EdgeViews.{led_from}
+use Rattle.lra_verify.specs.EdgeViews.{actions_out_of}
 use Rattle.lra_verify.proofs.verifying.all_sources.Given as goal
 
 abbrev pub invariant-loop-source : goal.invariant-loop-source
@@ -16,5 +16,5 @@ invariant-loop-source l = record {
   within : l.source ≤ length l.paths.sites.now + 1;
   tables : All (λ s. IsTable s.entries.items) l.sources.items;
   leads : (g : Node) → AreSegmentsOf (seen l.paths.segments.items) g → (p : ℕ) (goal : Goal) → p < l.source →
-      led_from (slice_get l.sources.items p) goal ≡ actions_between_in l.paths.globals.now (map site_view l.paths.sites.now) g p goal;
+      actions_out_of (slice_get l.sources.items p) goal ≡ actions_between_in l.paths.globals.now (map site_view l.paths.sites.now) g p goal;
 }

@@ -3,19 +3,19 @@ use Rattle.std.proofs.Common.{◌≡◌, List, Option, Ok, map, sym, subst}
 use Rattle.lra_linear_spec.specs.declared.ConKind.{ConKind}
 use Rattle.lra_systems.specs.LinearSystems.{LinearSystem}
 use Rattle.lra_operations.specs.TreeViews.{site_view}
-use Rattle.lra_certificate.specs.Judged.{judged, judged_states}
-use Rattle.lra_certificate.specs.Lines.{left_at}
+use Rattle.lra_certificate_spec.specs.Judged.{judged, judged_states}
+use Rattle.lra_certificate_spec.specs.Lines.{left_at}
 use Rattle.lra_verify.specs.PointViews.{state_view}
 use Rattle.lra_verify.specs.EdgeViews.{rest_by}
-use Rattle.lra_verify.specs.declared.ways.Ways.{Ways}
-use Rattle.lra_lines.proofs.ShowSteps.{told_as}
+use Rattle.lra_verify.specs.declared.annotated.AnnotatedProgram.{AnnotatedProgram}
+use Rattle.lra_certificate_lines.proofs.ShowSteps.{told_as}
 use Rattle.lra_verify.proofs.VerifySteps.{ways_ready, lines_are_judged}
 use Rattle.lra_verify.proofs.verifying.take_lines.Goals as goal
 
 pub returns : goal.returns
 returns c =
     let bytes = c.args.bytes.now in
-    let w : Ways = record { sites = c.args.sites; states = c.as_slice.result; start = c.args.start; sources = c.args.sources } in
+    let w : AnnotatedProgram = record { sites = c.args.sites; states = c.as_slice.result; start = c.args.start; sources = c.args.sources } in
     let said = c.as_slice.ensures.value in
     let read = c.in_ok-points in
     let l = left_at bytes read.points.behind in

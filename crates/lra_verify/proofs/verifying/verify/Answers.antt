@@ -1,7 +1,7 @@
 -- Goals of `verify`: what an input deserves, by its program and the lines behind its source.
 use Rattle.std.proofs.Common.{arith, sym, subst}
 use Rattle.lra_base.specs.declared.refusals.Refusal.{Refusal}
-use Rattle.lra_certificate.specs.Claims.{Deserves, source_refused}
+use Rattle.lra_certificate_spec.specs.Claims.{VerifiesTo, source_refused}
 use Rattle.lra_verify.proofs.Deserved.{program_sites, program_few, program_live, judged_numbers, judged_refusal, source_deserved}
 use Rattle.lra_verify.proofs.verifying.verify.Goals as goal
 
@@ -44,6 +44,6 @@ pub returns-in-Err-Refused-clause-refused : goal.returns-in-Err-Refused-clause-r
 returns-in-Err-Refused-clause-refused c =
     let e = c.in-Err-Refused in
     let low = c.if-bytes-gt-GREATEST_CERTIFICATE.false in
-    subst (λ (r : Refusal). Deserves c.args.bytes.now (source_refused r.cause r.place)) (sym e.refusal-is)
+    subst (λ (r : Refusal). VerifiesTo c.args.bytes.now (source_refused r.cause r.place)) (sym e.refusal-is)
     (source_deserved c.args.bytes.now c.in_ok-head.field-0 c.in-Some.head (omega (arith, low)) c.in_ok-head.ensures.head c.in-Some.is
     e.refusal.cause e.refusal.place (rw e.field-0-is at e.ensures.refused))

@@ -1,0 +1,6 @@
+-- In the order in which they are to be read.
+pub mod Views
+pub mod LineViews
+pub mod MultiplierLineViews
+pub mod SymbolicViews
+pub mod PathCheckViews

@@ -1,0 +1,27 @@
+//! Laws: each of these does nothing, and its contract is the theorem.
+
+ghost use Rattle.lra_certificate_spec.specs.Claims.{CertificatesHold, CertificatesAreInductive, JudgedExactly};
+ghost use Rattle.lra_certificate_spec.specs.Claims.{OneCertificate};
+
+/// What a certificate that meets its program says of stores is kept along all paths, and where that holds in all runs
+/// its rows do, nothing comes to its empty points, and none of its listed assertions is false.
+pub fn certificates_are_inductive()
+    ensures { CertificatesAreInductive }
+{}
+
+/// Of a text that is a certificate the rows hold at their points in all runs of its program, no run comes to an empty
+/// point, and no listed assertion is ever false.
+pub fn certificates_hold()
+    ensures { CertificatesHold }
+{}
+
+/// The lines behind the head are taken exactly where the input is a certificate that meets its program, with its
+/// numbers.
+pub fn judged_exactly()
+    ensures { JudgedExactly }
+{}
+
+/// A text is that of at most one certificate that meets its program.
+pub fn one_certificate()
+    ensures { OneCertificate }
+{}

@@ -1,7 +1,0 @@
--- Goals of `take_assertion`: behind the assertion at a point.
-use Rattle.std.proofs.Common.{◌∙◌}
-use Rattle.lra_verify.proofs.ListedSteps.{assert_clean}
-use Rattle.lra_verify.proofs.ways.Ways.take_assertion.Goals as goal
-
-pub behind_text-requires-clause-text : goal.behind_text-requires-clause-text
-behind_text-requires-clause-text c = assert_clean c.args.point c.as_bytes.result.now (c.as_bytes.ensures.value ∙ c.in_ok-text.ensures)
