@@ -3,9 +3,9 @@ use Rattle.std.proofs.Common.{◌≡◌, ℕ, suc, List, subst, inl, inr}
 use Rattle.std.specs.Prelude.{Option}
 use Rattle.std.specs.Io.KnownBytes.{Appends}
 use Rattle.lra_certificate_spec.proofs.OneProgram.{accepted_of}
-use Rattle.lra_retraced.proofs.Showing.{backs_same_points}
-use Rattle.lra_retraced.proofs.Sound.{backs_sound, proved_at_first}
-use Rattle.lra_retraced.proofs.Strained.{unflagged_defined, flagged_strain}
+use Rattle.lra_back_source.proofs.Showing.{backs_same_points}
+use Rattle.lra_back_source.proofs.Sound.{backs_sound, proved_at_first}
+use Rattle.lra_back_source.proofs.Strained.{unflagged_defined, flagged_strain}
 use Rattle.lra_words.specs.Chosen.{Asks}
 use Rattle.lra_words.specs.declared.chosen.Command.TheVariants.{Back}
 use Rattle.lra_answers.specs.Statuses.{Ends, reported}

@@ -3,10 +3,10 @@ use Rattle.std.proofs.Common.{◌≡◌, ◌≤◌, ◌<◌, ℕ, suc, ◌-◌, 
 use Rattle.std.specs.Prelude.{Some, Result, Ok, Err, IfOk}
 use Rattle.lra_base.specs.Places.{greatest_length}
 use Rattle.lra_report.specs.BackText.{BackReport, back_text}
-use Rattle.lra_retraced.specs.declared.refusals.BackRefusal.{BackRefusal}
-use Rattle.lra_retraced.specs.declared.refusals.BackRefusal.TheVariants.{Source, NoAssertion, Paths}
-use Rattle.lra_retraced.specs.Retraced.{CanGoBack, IsBackOf, IsRefusedSo}
-use Rattle.lra_retraced.proofs.OneAnswer.{back_or_refused}
+use Rattle.lra_back_source.specs.declared.refusals.BackRefusal.{BackRefusal}
+use Rattle.lra_back_source.specs.declared.refusals.BackRefusal.TheVariants.{Source, NoAssertion, Paths}
+use Rattle.lra_back_source.specs.BackReports.{CanGoBack, IsBackReportOf, IsBackRefusalOf}
+use Rattle.lra_back_source.proofs.OneAnswer.{back_or_refused}
 use Rattle.lra_words.specs.CommandLine.{point_option}
 use Rattle.lra_options.specs.OptionRows.{IsInRange}
 use Rattle.lra_answers.specs.Statuses.{Ends, reported, refused, source_statuses}
@@ -22,7 +22,7 @@ use Rattle.lra_answers.specs.declared.status.Status.TheVariants.{Refused}
 numbered : (number index : ℕ) → 1 ≤ number → index ≡ number - 1 → number ≡ suc index
 numbered number index some is = omega (arith, some, is)
 
-deserves_back : (number index : ℕ) (bytes text : List ℕ) (r : BackReport) (status : Status) → 1 ≤ number → index ≡ number - 1 → IsBackOf bytes index r
+deserves_back : (number index : ℕ) (bytes text : List ℕ) (r : BackReport) (status : Status) → 1 ≤ number → index ≡ number - 1 → IsBackReportOf bytes index r
     → text ≡ back_text r → status ≡ back_status r.proved → DeservesBack number bytes text status
 deserves_back number index bytes text r status some is deserved written counted = record {
   point = index;
@@ -31,7 +31,7 @@ deserves_back number index bytes text r status some is deserved written counted 
 }
 
 pub deserves_refusal : (number index : ℕ) (bytes text : List ℕ) (r : BackRefusal) (status : Status) → 1 ≤ number → index ≡ number - 1
-    → IsRefusedSo bytes index r → text ≡ back_refused_text number r → status ≡ Refused → DeservesBack number bytes text status
+    → IsBackRefusalOf bytes index r → text ≡ back_refused_text number r → status ≡ Refused → DeservesBack number bytes text status
 deserves_refusal number index bytes text r status some is why written ends = record {
   point = index;
   numbered = numbered number index some is;
@@ -40,7 +40,7 @@ deserves_refusal number index bytes text r status some is why written ends = rec
 
 -- of a call's result
 pub report_answer : {E : Type 0} (number index : ℕ) (bytes : List ℕ) (r : BackReport) (result : Result Answer E) → 1 ≤ number → index ≡ number - 1
-    → IsBackOf bytes index r → IfOk result (λ a. a.text.items ≡ back_text r) → IfOk result (λ a. a.status ≡ back_status r.proved)
+    → IsBackReportOf bytes index r → IfOk result (λ a. a.text.items ≡ back_text r) → IfOk result (λ a. a.status ≡ back_status r.proved)
     → IfOk result (λ a. DeservesBack number bytes a.text.items a.status)
 report_answer number index bytes r (Ok a) some is deserved written counted =
     deserves_back number index bytes a.text.items r a.status some is deserved written counted
@@ -50,7 +50,7 @@ pub ruleset deserving = (deserves_refusal)
 
 -- one byte past the limit ---------------------------------------------------------
 
-longer_so : (p : ℕ) (bytes rest : List ℕ) (r : BackRefusal) → greatest_length < length bytes → IsRefusedSo bytes p r → IsRefusedSo (bytes ++ rest) p r
+longer_so : (p : ℕ) (bytes rest : List ℕ) (r : BackRefusal) → greatest_length < length bytes → IsBackRefusalOf bytes p r → IsBackRefusalOf (bytes ++ rest) p r
 longer_so p bytes rest (Source r) long why = longer_refused bytes rest r.cause r.place long why
 longer_so p bytes rest NoAssertion long (x, none) = absurd (not_past bytes long x.read.not_long)
 longer_so p bytes rest (Paths q) long (x, asserts, many) = absurd (not_past bytes long x.read.not_long)
@@ -79,7 +79,7 @@ back_ends : (number : ℕ) (bytes text : List ℕ) (status : Status) → Deserve
 back_ends number bytes text status d = elim d.answer [ inl (r, is) ↦ inl is | inr b ↦ inr (back_reported d.point bytes text status b) ]
 
 -- a report is of a source that can be gone back over
-can_go : (bytes : List ℕ) (p : ℕ) (r : BackReport) → IsBackOf bytes p r → CanGoBack bytes p
+can_go : (bytes : List ℕ) (p : ℕ) (r : BackReport) → IsBackReportOf bytes p r → CanGoBack bytes p
 can_go bytes p r x = record { program = x.program; asserts = x.found.asserts; few = x.found.few }
 
 -- one number stands for one point
@@ -92,7 +92,7 @@ never_answered number bytes text status d never =
     elim d.answer [ inl (r, is) ↦ inl is | inr b ↦ absurd (never (can_go bytes d.point b.report b.deserved)) ]
 
 never_refused : (number : ℕ) (bytes text : List ℕ) (status : Status) (d : DeservesBack number bytes text status)
-    → ((r : BackRefusal) → IsRefusedSo bytes d.point r → ⊥) → Ends reported status
+    → ((r : BackRefusal) → IsBackRefusalOf bytes d.point r → ⊥) → Ends reported status
 never_refused number bytes text status d never =
     elim d.answer [ inl (r, is) ↦ absurd (never r.refusal r.refused) | inr b ↦ back_reported d.point bytes text status b ]
 
@@ -101,7 +101,7 @@ back_called : (number : ℕ) (bytes text : List ℕ) (status : Status) (among : 
 back_called number bytes text status among d (p, numbered_so, inl (refusal, why, is)) =
     let same = same_point number p d.point numbered_so d.numbered in
     subst (λ a. Ends a status) (sym is) (never_answered number bytes text status d
-    (λ can. back_or_refused bytes d.point refusal can (subst (λ (q : ℕ). IsRefusedSo bytes q refusal) same why)))
+    (λ can. back_or_refused bytes d.point refusal can (subst (λ (q : ℕ). IsBackRefusalOf bytes q refusal) same why)))
 back_called number bytes text status among d (p, numbered_so, inr (can, is)) =
     let same = same_point number p d.point numbered_so d.numbered in
     subst (λ a. Ends a status) (sym is) (never_refused number bytes text status d

@@ -7,9 +7,9 @@ use Rattle.lra_program.specs.Sites.{Site, sites_of}
 use Rattle.lra_certificate_spec.specs.Certificates.{ListedAssertion, AreStates}
 use Rattle.lra_certificate_spec.specs.Claims.{program_of, verified, greatest_certificate}
 use Rattle.lra_certificate_spec.specs.Judged.{RowsAtPoint}
-use Rattle.lra_certified.specs.Settings.{certify_options}
-use Rattle.lra_certified.specs.Certified.{IsCertificateWith}
-use Rattle.lra_certified.proofs.Written.{certificates}
+use Rattle.lra_certify_source.specs.Settings.{certify_options}
+use Rattle.lra_certify_source.specs.Certified.{IsCertificateWith}
+use Rattle.lra_certify_source.proofs.Written.{certificates}
 use Rattle.lra_words.specs.Chosen.{Asks}
 use Rattle.lra_words.specs.declared.chosen.Command.TheVariants.{Plain}
 use Rattle.lra_words.specs.declared.chosen.PlainCommand.TheVariants.{Certify}

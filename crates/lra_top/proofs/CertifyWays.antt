@@ -4,13 +4,13 @@ use Rattle.std.specs.Prelude.{Some}
 use Rattle.lra_base.specs.Places.{greatest_length}
 use Rattle.lra_report.specs.Report.{Report}
 use Rattle.lra_front_end.proofs.EachAnswer.{each_answer}
-use Rattle.lra_source.specs.Answers.{IsAnswered}
-use Rattle.lra_certified.specs.declared.refusals.CertifyRefusal.{CertifyRefusal}
-use Rattle.lra_certified.specs.declared.refusals.CertifyRefusal.TheVariants.{Source, Paths, Strained}
-use Rattle.lra_certified.specs.Settings.{certify_options}
-use Rattle.lra_certified.specs.Assertions.{unknown_assertions}
-use Rattle.lra_certified.specs.Certified.{IsCertificateOf, IsRefusedSo}
-use Rattle.lra_certified.proofs.OneRefusal.{many_refused}
+use Rattle.lra_analyse_source.specs.SourceReports.{IsAnalysisReport}
+use Rattle.lra_certify_source.specs.declared.refusals.CertifyRefusal.{CertifyRefusal}
+use Rattle.lra_certify_source.specs.declared.refusals.CertifyRefusal.TheVariants.{Source, Paths, Strained}
+use Rattle.lra_certify_source.specs.Settings.{certify_options}
+use Rattle.lra_certify_source.specs.Assertions.{unknown_assertions}
+use Rattle.lra_certify_source.specs.Certified.{IsCertificateOf, IsCertifyRefusalOf}
+use Rattle.lra_certify_source.proofs.OneRefusal.{many_refused}
 use Rattle.lra_answers.specs.Statuses.{Ends, reported, refused, source_statuses}
 use Rattle.lra_answers.proofs.Answering.{IsAnswering, small, past}
 use Rattle.lra_answers.proofs.ToldWays.{not_past, longer_refused}
@@ -22,12 +22,12 @@ use Rattle.lra_answers.specs.declared.status.Status.TheVariants.{Refused}
 
 -- answers ------------------------------------------------------------------------
 
-pub deserves_certificate : (bytes text : List ℕ) (r : Report) (status : Status) → IsAnswered certify_options bytes r → IsCertificateOf bytes r text
+pub deserves_certificate : (bytes text : List ℕ) (r : Report) (status : Status) → IsAnalysisReport certify_options bytes r → IsCertificateOf bytes r text
     → status ≡ report_status (unknown_assertions r.verdicts) → DeservesCertified bytes text status
 deserves_certificate bytes text r status answered certificate counted =
     inr (record { report = r; answered = answered; certificate = certificate; counted = counted })
 
-pub deserves_refusal : (bytes text : List ℕ) (r : CertifyRefusal) (status : Status) → IsRefusedSo bytes r → text ≡ refused_text r → status ≡ Refused
+pub deserves_refusal : (bytes text : List ℕ) (r : CertifyRefusal) (status : Status) → IsCertifyRefusalOf bytes r → text ≡ refused_text r → status ≡ Refused
     → DeservesCertified bytes text status
 deserves_refusal bytes text r status why written is = inl (record { refusal = r; refused = why; written = written }, is)
 
@@ -35,7 +35,7 @@ pub ruleset deserving = (deserves_certificate, deserves_refusal)
 
 -- one byte past the limit ---------------------------------------------------------
 
-longer_so : (bytes rest : List ℕ) (r : CertifyRefusal) → greatest_length < length bytes → IsRefusedSo bytes r → IsRefusedSo (bytes ++ rest) r
+longer_so : (bytes rest : List ℕ) (r : CertifyRefusal) → greatest_length < length bytes → IsCertifyRefusalOf bytes r → IsCertifyRefusalOf (bytes ++ rest) r
 longer_so bytes rest (Source r) long why = longer_refused bytes rest r.cause r.place long why
 longer_so bytes rest (Paths p) long (x, many) = absurd (not_past bytes long x.read.not_long)
 longer_so bytes rest (Strained at) long (r, s) = absurd (not_past bytes long s.answered.report.accepted.not_long)

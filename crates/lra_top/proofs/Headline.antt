@@ -14,16 +14,16 @@ use Rattle.lra_analysis_spec.specs.Operations.{lossy_operations}
 use Rattle.lra_analysis_spec.specs.Fits.{Judges, JudgesIf}
 use Rattle.lra_operations.specs.Tree.{Node}
 use Rattle.lra_report_build.specs.AnalysisResults.{reported_all, reported_of}
-use Rattle.lra_source.proofs.OneReport.{unflagged_behind, unflagged_first}
+use Rattle.lra_analyse_source.proofs.OneReport.{unflagged_behind, unflagged_first}
 use Rattle.lra_resolution_spec.specs.Resolve.{resolve}
 use Rattle.lra_report.specs.Report.{Invariant, InvariantHolds, PointReport, Report, IsInvariant}
 use Rattle.lra_report.specs.Parts.{ShowsPart}
 use Rattle.lra_report.specs.Listing.{AreParts}
-use Rattle.lra_retraced.proofs.Showing.{same_parts}
-use Rattle.lra_retraced.proofs.Strained.{unflagged}
-use Rattle.lra_source.specs.Analysed.{IsAnalysed}
-use Rattle.lra_source.specs.Answers.{IsAnswered}
-use Rattle.lra_source.proofs.Sayings.{over_each, over_same}
+use Rattle.lra_back_source.proofs.Showing.{same_parts}
+use Rattle.lra_back_source.proofs.Strained.{unflagged}
+use Rattle.lra_analyse_source.specs.AnalysisReport.{ReportsIteration}
+use Rattle.lra_analyse_source.specs.SourceReports.{IsAnalysisReport}
+use Rattle.lra_analyse_source.proofs.Sayings.{over_each, over_same}
 use Rattle.lra_sample.specs.Sample.{sample_source}
 use Rattle.lra_sample.specs.Summary.{summary_text}
 use Rattle.lra_words.specs.Chosen.{Asks, default_options}
@@ -47,7 +47,7 @@ all_unreached : (P : Program) (ps : List PointReport) → AllByRecursion (IsInva
 all_unreached P [] h = tt
 all_unreached P (p ∷ ps) h = (never_reached P p h.0, all_unreached P ps h.1)
 
-pub holds : (o : Options) (bytes : List ℕ) (r : Report) → IsAnswered o bytes r → HoldsInAllRuns bytes r
+pub holds : (o : Options) (bytes : List ℕ) (r : Report) → IsAnalysisReport o bytes r → HoldsInAllRuns bytes r
 holds o bytes r a = record {
   tree = a.report.tree;
   accepted = a.report.accepted;
@@ -59,7 +59,7 @@ holds o bytes r a = record {
 -- the written iteration -----------------------------------------------------------
 
 tells_written : {V H : Type 0} (m : Abstraction V H) (shown : V → Invariant) (o : Options) (constants : List ℤ) (P : Program) (r : Report) → r.flagged ≡ None
-    → IsAnalysed m shown o constants P r → TellsWritten m shown o constants P r
+    → ReportsIteration m shown o constants P r → TellsWritten m shown o constants P r
 tells_written m shown o constants P r free x =
     let none_last = unflagged x.last (sym x.flag ∙ free) in
     let none_behind = unflagged_behind m x none_last in
@@ -81,7 +81,7 @@ tells_written m shown o constants P r free x =
       proved = x.proved;
     }
 
-pub is_written : (o : Options) (bytes : List ℕ) (r : Report) → IsAnswered o bytes r → IsWrittenUnlessFlagged o bytes r
+pub is_written : (o : Options) (bytes : List ℕ) (r : Report) → IsAnalysisReport o bytes r → IsWrittenUnlessFlagged o bytes r
 is_written o bytes r a = record {
   tree = a.report.tree;
   accepted = a.report.accepted;
@@ -90,13 +90,13 @@ is_written o bytes r a = record {
   tells = λ free.
       let P = resolve a.report.tree in
       let ks = a.constants in
-      over_each (λ V H m shown. IsAnalysed m shown o ks P r) (λ V H m shown. TellsWritten m shown o ks P r) (λ V H m shown x. tells_written m shown o ks P r free x) o a.analysed;
+      over_each (λ V H m shown. ReportsIteration m shown o ks P r) (λ V H m shown. TellsWritten m shown o ks P r) (λ V H m shown x. tells_written m shown o ks P r free x) o a.analysed;
 }
 
 -- accesses ------------------------------------------------------------------------
 
 abbrev tells_accessing : {V H : Type 0} (m : Abstraction V H) (shown : V → Invariant) (o : Options) (constants : List ℤ) (P : Program) (r : Report)
-    → IsAnalysed m shown o constants P r → TellsAccessing m shown o P r
+    → ReportsIteration m shown o constants P r → TellsAccessing m shown o P r
 tells_accessing m shown o constants P r x = record {
   tree = x.tree;
   is_graph = x.is_graph;
@@ -105,7 +105,7 @@ tells_accessing m shown o constants P r x = record {
   are_shown = x.are_shown;
   verdicts = x.verdicts;
   fitting = x.fitting;
-  behind = x.behind;
+  behind = x.overflow_flag;
   inside = x.inside;
   last = x.last;
   accessed = x.accessed;
@@ -113,14 +113,14 @@ tells_accessing m shown o constants P r x = record {
   flag = x.flag;
 }
 
-pub tells_accesses : (o : Options) (bytes : List ℕ) (r : Report) → IsAnswered o bytes r → TellsAccesses o bytes r
+pub tells_accesses : (o : Options) (bytes : List ℕ) (r : Report) → IsAnalysisReport o bytes r → TellsAccesses o bytes r
 tells_accesses o bytes r a = record {
   tree = a.report.tree;
   accepted = a.report.accepted;
   right = a.report.sound.verdicts;
   tells =
       let P = resolve a.report.tree in
-      over_each (λ V H m shown. IsAnalysed m shown o a.constants P r) (λ V H m shown. TellsAccessing m shown o P r)
+      over_each (λ V H m shown. ReportsIteration m shown o a.constants P r) (λ V H m shown. TellsAccessing m shown o P r)
       (λ V H m shown x. tells_accessing m shown o a.constants P r x) o a.analysed;
 }
 
@@ -141,33 +141,33 @@ judges_none m true g values flagged fitting behind is j = absurd (let wrong : �
 judges_none m false g values flagged fitting behind is j = j.0
 
 tells_fitting : {V H : Type 0} (m : Abstraction V H) (shown : V → Invariant) (o : Options) (constants : List ℤ) (P : Program) (r : Report) → IsTrue o.fits
-    → IsAnalysed m shown o constants P r → TellsFitting m shown o P r
+    → ReportsIteration m shown o constants P r → TellsFitting m shown o P r
 tells_fitting m shown o constants P r asked x = record {
   beside = tells_accessing m shown o constants P r x;
   flagged = x.flagged;
-  judged = judges_so m o.fits x.tree x.values x.flagged x.fitting x.behind asked x.judged;
+  judged = judges_so m o.fits x.tree x.values x.flagged x.fitting x.overflow_flag asked x.judged;
 }
 
 abbrev Silent : Report → Type 0
 Silent r = (verdicts : List (ℕ × Bool)) × (inside : List (ℕ × List (Place × Bool))) × (map reported_of r.verdicts ≡ reported_all verdicts [] inside)
 
 silent_so : {V H : Type 0} (m : Abstraction V H) (shown : V → Invariant) (o : Options) (constants : List ℤ) (P : Program) (r : Report) → o.fits ≡ false
-    → IsAnalysed m shown o constants P r → Silent r
+    → ReportsIteration m shown o constants P r → Silent r
 silent_so m shown o constants P r never x =
-    let none = judges_none m o.fits x.tree x.values x.flagged x.fitting x.behind never x.judged in
+    let none = judges_none m o.fits x.tree x.values x.flagged x.fitting x.overflow_flag never x.judged in
     (x.verdicts, x.inside, x.proved ∙ ap (λ (f : List (ℕ × Bool)). reported_all x.verdicts f x.inside) none)
 
-pub tells_fits : (o : Options) (bytes : List ℕ) (r : Report) → IsAnswered o bytes r → TellsFits o bytes r
+pub tells_fits : (o : Options) (bytes : List ℕ) (r : Report) → IsAnalysisReport o bytes r → TellsFits o bytes r
 tells_fits o bytes r a = record {
   tree = a.report.tree;
   accepted = a.report.accepted;
   right = a.report.sound.verdicts;
   tells = λ asked.
       let P = resolve a.report.tree in
-      over_each (λ V H m shown. IsAnalysed m shown o a.constants P r) (λ V H m shown. TellsFitting m shown o P r)
+      over_each (λ V H m shown. ReportsIteration m shown o a.constants P r) (λ V H m shown. TellsFitting m shown o P r)
       (λ V H m shown x. tells_fitting m shown o a.constants P r asked x) o a.analysed;
   silent = λ never.
-      over_same (Silent r) o (over_each (λ V H m shown. IsAnalysed m shown o a.constants (resolve a.report.tree) r) (λ V H m shown. Silent r)
+      over_same (Silent r) o (over_each (λ V H m shown. ReportsIteration m shown o a.constants (resolve a.report.tree) r) (λ V H m shown. Silent r)
       (λ V H m shown x. silent_so m shown o a.constants (resolve a.report.tree) r never x) o a.analysed);
 }
 
@@ -180,13 +180,13 @@ same_at o (p ∷ ps) is h = (
   same_at o ps is h.1,
 )
 
-pub same_points : (o : Options) (bytes : List ℕ) (r : Report) → IsAnswered o bytes r → TellsSamePoints o bytes r
+pub same_points : (o : Options) (bytes : List ℕ) (r : Report) → IsAnalysisReport o bytes r → TellsSamePoints o bytes r
 same_points o bytes r a is = same_at o r.points is a.report.parts
 
 -- what is written -----------------------------------------------------------------
 
 module _ (so : List ℕ → Report → Type 0) (left held_old held_new : Option (List ℕ)) (options : Options) (write : Report → List ℕ)
-    (claimed : (bytes : List ℕ) (r : Report) → IsAnswered options bytes r → so bytes r) where
+    (claimed : (bytes : List ℕ) (r : Report) → IsAnalysisReport options bytes r → so bytes r) where
   not_refused : (status : Status) → status ≡ Refused → Ends reported status → ⊥
   not_refused status is (inl proved) = cc
   not_refused status is (inr (inl unknown)) = cc
@@ -205,14 +205,14 @@ module _ (so : List ℕ → Report → Type 0) (left held_old held_new : Option 
   }
 
 pub writes_report : (so : List ℕ → Report → Type 0) (words : List (List ℕ)) (left held_old held_new : Option (List ℕ)) (options : Options) (format : Format)
-    → ((bytes : List ℕ) (r : Report) → IsAnswered options bytes r → so bytes r) → (status : Status)
+    → ((bytes : List ℕ) (r : Report) → IsAnalysisReport options bytes r → so bytes r) → (status : Status)
     → Asks words (Analyse options format) → Ends reported status → Writes words left held_old held_new status
     → WritesReport options (written_report format) so left held_old held_new
 writes_report so words left held_old held_new options format claimed status asks ends w =
     of_answer so left held_old held_new options (written_report format) claimed w.deserved.bytes w.text status ends w.deserved.input
     (asked_input words left w.text status (Analyse options format) asks w.deserved) w.written
 
-all_held : (bytes : List ℕ) (r : Report) → IsAnswered default_options bytes r → HoldsInAllRuns bytes r × IsWrittenUnlessFlagged default_options bytes r × TellsSamePoints default_options bytes r
+all_held : (bytes : List ℕ) (r : Report) → IsAnalysisReport default_options bytes r → HoldsInAllRuns bytes r × IsWrittenUnlessFlagged default_options bytes r × TellsSamePoints default_options bytes r
 all_held bytes r a = (holds default_options bytes r a, is_written default_options bytes r a, same_points default_options bytes r a)
 
 pub writes_summary : (words : List (List ℕ)) (left held_old held_new : Option (List ℕ)) (seed size : ℕ) (status : Status)

@@ -4,9 +4,9 @@ use Rattle.lra_front_end.proofs.EachAnswer.{each_answer}
 use Rattle.lra_paths.specs.Paths.{HasTooManyPaths}
 use Rattle.lra_certificate_spec.specs.Claims.{program_of}
 use Rattle.lra_certificate_spec.proofs.OneProgram.{as_said}
-use Rattle.lra_certified.proofs.OneRefusal.{one_source}
-use Rattle.lra_retraced.specs.declared.refusals.BackRefusal.TheVariants.{Source, NoAssertion, Paths}
-use Rattle.lra_retraced.proofs.OneAnswer.{accepted, same_assertion}
+use Rattle.lra_certify_source.proofs.OneRefusal.{one_source}
+use Rattle.lra_back_source.specs.declared.refusals.BackRefusal.TheVariants.{Source, NoAssertion, Paths}
+use Rattle.lra_back_source.proofs.OneAnswer.{accepted, same_assertion}
 use Rattle.lra_top.specs.BackAnswer.{OneBackRefusal}
 
 pub one_refusal : OneBackRefusal

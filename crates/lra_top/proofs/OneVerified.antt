@@ -14,7 +14,7 @@ use Rattle.lra_certificate_spec.specs.Claims.{IsProgram, program_of, VerifyAnswe
 use Rattle.lra_certificate_spec.specs.Claims.{greatest_certificate}
 use Rattle.lra_certificate_spec.proofs.JudgedBothWays.{judged_exactly}
 use Rattle.lra_certificate_spec.proofs.OneProgram.{accepted_of, as_said}
-use Rattle.lra_certified.proofs.OneRefusal.{one_source}
+use Rattle.lra_certify_source.proofs.OneRefusal.{one_source}
 
 -- answers ------------------------------------------------------------------------
 

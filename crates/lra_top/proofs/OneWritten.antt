@@ -3,7 +3,7 @@ use Rattle.lra_words.specs.declared.chosen.Format.TheVariants.{Lines, Json}
 use Rattle.lra_syntax.specs.Grammar.{Spells}
 use Rattle.lra_resolution_spec.specs.Refuse.{OneAnswer}
 use Rattle.lra_report_json.proofs.OneJson.{one_source_json}
-use Rattle.lra_source.proofs.OneText.{one_text}
+use Rattle.lra_analyse_source.proofs.OneText.{one_text}
 use Rattle.lra_top.specs.SourceAnswer.{OneWrittenReport}
 
 pub one_written : OneAnswer Spells → OneWrittenReport

@@ -13,7 +13,7 @@ use Rattle.lra_resolution_spec.specs.Refuse.{Refuse}
 use Rattle.lra_sample.specs.Sample.{sample_source}
 use Rattle.lra_sample.specs.Summary.{summary_text}
 use Rattle.lra_sample.proofs.Samples.{accepted}
-use Rattle.lra_source.specs.Answers.{IsAnswered}
+use Rattle.lra_analyse_source.specs.SourceReports.{IsAnalysisReport}
 use Rattle.lra_options.specs.OptionRows.{IsInRange}
 use Rattle.lra_words.specs.CommandLine.{seed_option, size_option}
 use Rattle.lra_words.specs.Chosen.{default_options}
@@ -28,10 +28,10 @@ use Rattle.lra_answers.specs.declared.status.Status.{Status}
 use Rattle.lra_answers.specs.declared.status.Status.TheVariants.{Refused}
 
 deserves_summary : (seed size : ℕ) (o : Options) (source : List ℕ) (r : Report) (text : List ℕ) (status : Status) → o ≡ default_options → source ≡ sample_source seed size
-    → IsAnswered o source r → text ≡ summary_text seed size r → status ≡ report_status (unknown_count r.verdicts) → DeservesSample seed size text status
+    → IsAnalysisReport o source r → text ≡ summary_text seed size r → status ≡ report_status (unknown_count r.verdicts) → DeservesSample seed size text status
 deserves_summary seed size o source r text status default made answered written counted =
-    let answered_default : IsAnswered default_options source r = subst (λ (x : Options). IsAnswered x source r) default answered in
-    let answered_sample : IsAnswered default_options (sample_source seed size) r = subst (λ (x : List ℕ). IsAnswered default_options x r) made answered_default in
+    let answered_default : IsAnalysisReport default_options source r = subst (λ (x : Options). IsAnalysisReport x source r) default answered in
+    let answered_sample : IsAnalysisReport default_options (sample_source seed size) r = subst (λ (x : List ℕ). IsAnalysisReport default_options x r) made answered_default in
     deserves_report default_options (summary_text seed size) (sample_source seed size) r text status answered_sample written counted
 
 sample_refused : (seed size : ℕ) (source text : List ℕ) (c : Cause) (at : Place) (status : Status) → source ≡ sample_source seed size
@@ -41,7 +41,7 @@ sample_refused seed size source text c at status made refused written s =
 
 -- of a call's result
 pub summary_answer : {E : Type 0} (seed size : ℕ) (o : Options) (source : List ℕ) (r : Report) (result : Result Answer E) → o ≡ default_options → source ≡ sample_source seed size
-    → IsAnswered o source r → IfOk result (λ a. a.text.items ≡ summary_text seed size r) → IfOk result (λ a. a.status ≡ report_status (unknown_count r.verdicts))
+    → IsAnalysisReport o source r → IfOk result (λ a. a.text.items ≡ summary_text seed size r) → IfOk result (λ a. a.status ≡ report_status (unknown_count r.verdicts))
     → IfOk result (λ a. DeservesSample seed size a.text.items a.status)
 summary_answer seed size o source r (Ok a) default made answered written counted = deserves_summary seed size o source r a.text.items a.status default made answered written counted
 summary_answer seed size o source r (Err e) default made answered written counted = tt

@@ -8,7 +8,7 @@ use Rattle.lra_report.specs.ReportText.{unknown_count}
 use Rattle.lra_syntax.specs.Grammar.{Spells}
 use Rattle.lra_resolution_spec.specs.Refuse.{Refuse}
 use Rattle.lra_report.specs.RefusalText.{refusal_text}
-use Rattle.lra_source.specs.Answers.{IsAnswered}
+use Rattle.lra_analyse_source.specs.SourceReports.{IsAnalysisReport}
 use Rattle.lra_answers.specs.Statuses.{Ends, reported}
 use Rattle.lra_answers.proofs.ToldWays.{IsTelling}
 use Rattle.lra_answers.proofs.ToldWays as told
@@ -28,7 +28,7 @@ some_unknown (suc n) some = refl
 pub ruleset counting = (none_unknown, some_unknown)
 
 -- a source with a report deserves what is written of it
-pub deserves_report : (o : Options) (write : Report → List ℕ) (bytes : List ℕ) (r : Report) (text : List ℕ) (status : Status) → IsAnswered o bytes r → text ≡ write r
+pub deserves_report : (o : Options) (write : Report → List ℕ) (bytes : List ℕ) (r : Report) (text : List ℕ) (status : Status) → IsAnalysisReport o bytes r → text ≡ write r
     → status ≡ report_status (unknown_count r.verdicts) → DeservesSource o write bytes text status
 deserves_report o write bytes r text status answered written counted = inr (record { report = r; answered = answered; written = written; counted = counted })
 

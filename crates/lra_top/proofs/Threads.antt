@@ -4,9 +4,9 @@ use Rattle.std.specs.Prelude.{Option}
 use Rattle.std.specs.Io.KnownBytes.{Appends}
 use Rattle.lra_threads_fixpoint.proofs.FlagLemmas.{settles}
 use Rattle.lra_threads_analysis.specs.Found.{IsThreadResultOf, thread_finding}
-use Rattle.lra_threaded.specs.Threaded.{shared_program, threads_plan}
-use Rattle.lra_threaded.proofs.Sound.{threads_sound}
-use Rattle.lra_threaded.proofs.Strained.{unflagged_defined, flagged_strain}
+use Rattle.lra_threads_source.specs.ThreadsReports.{shared_program, threads_plan}
+use Rattle.lra_threads_source.proofs.Sound.{threads_sound}
+use Rattle.lra_threads_source.proofs.Strained.{unflagged_defined, flagged_strain}
 use Rattle.lra_words.specs.Chosen.{Asks}
 use Rattle.lra_words.specs.declared.chosen.Command.TheVariants.{Threads}
 use Rattle.lra_answers.specs.Statuses.{Ends, reported}

@@ -14,8 +14,8 @@ use Rattle.lra_report.specs.RefusalText.{refusal_text}
 use Rattle.lra_report.specs.ReportText.{unknown_count}
 use Rattle.lra_threads_front_end.specs.Claims.{HasThreadsRefusal}
 use Rattle.lra_threads_front_end.proofs.EachAnswer.{each_answer}
-use Rattle.lra_threaded.specs.ThreadsText.{ThreadsReport, threads_text}
-use Rattle.lra_threaded.specs.Threaded.{IsThreadsOf}
+use Rattle.lra_threads_source.specs.ThreadsText.{ThreadsReport, threads_text}
+use Rattle.lra_threads_source.specs.ThreadsReports.{IsThreadsReportOf}
 use Rattle.lra_answers.specs.Statuses.{Ends, reported, refused, source_statuses}
 use Rattle.lra_answers.proofs.Answering.{IsAnswering, small, past}
 use Rattle.lra_answers.proofs.ToldWays.{not_past}
@@ -27,7 +27,7 @@ use Rattle.lra_top.proofs.SourceWays.{report_ends}
 
 -- answers ------------------------------------------------------------------------
 
-pub deserves_report : (delay narrow : ℕ) (bytes : List ℕ) (r : ThreadsReport) (text : List ℕ) (status : Status) → IsThreadsOf delay narrow bytes r
+pub deserves_report : (delay narrow : ℕ) (bytes : List ℕ) (r : ThreadsReport) (text : List ℕ) (status : Status) → IsThreadsReportOf delay narrow bytes r
     → text ≡ threads_text r → status ≡ report_status (unknown_count r.verdicts) → DeservesThreads delay narrow bytes text status
 deserves_report delay narrow bytes r text status deserved written counted =
     inr (record { report = r; deserved = deserved; written = written; counted = counted })

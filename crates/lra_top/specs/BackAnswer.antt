@@ -5,9 +5,9 @@ use Rattle.std.specs.Fmt.{decimal}
 use Rattle.lra_row_text.specs.Texts.{text_line}
 use Rattle.lra_report.specs.BackText.{BackReport, back_text}
 use Rattle.lra_report.specs.RefusalText.{refusal_text}
-use Rattle.lra_retraced.specs.declared.refusals.BackRefusal.{BackRefusal}
-use Rattle.lra_retraced.specs.declared.refusals.BackRefusal.TheVariants.{Source, NoAssertion, Paths}
-use Rattle.lra_retraced.specs.Retraced.{CanGoBack, IsBackOf, IsRefusedSo}
+use Rattle.lra_back_source.specs.declared.refusals.BackRefusal.{BackRefusal}
+use Rattle.lra_back_source.specs.declared.refusals.BackRefusal.TheVariants.{Source, NoAssertion, Paths}
+use Rattle.lra_back_source.specs.BackReports.{CanGoBack, IsBackReportOf, IsBackRefusalOf}
 use Rattle.lra_answers.specs.Statuses.{refused, reported}
 use Rattle.lra_answers.specs.declared.status.Status.{Status}
 use Rattle.lra_answers.specs.declared.status.Status.TheVariants.{Proved, Unknown, Refused}
@@ -25,13 +25,13 @@ back_status false = Unknown
 -- the text is that of a refusal of the source, asked for the assertion at the point that stands for this number
 pub record IsBackRefusal (number p : ℕ) (bytes text : List ℕ) : Type 0 where
   pub refusal : BackRefusal
-  pub refused : IsRefusedSo bytes p refusal
+  pub refused : IsBackRefusalOf bytes p refusal
   pub written : text ≡ back_refused_text number refusal
 
 -- the text is that of a report which the source deserves, and the status tells whether the assertion is proved
 pub record IsBack (p : ℕ) (bytes text : List ℕ) (status : Status) : Type 0 where
   pub report : BackReport
-  pub deserved : IsBackOf bytes p report
+  pub deserved : IsBackReportOf bytes p report
   pub written : text ≡ back_text report
   pub counted : status ≡ back_status report.proved
 
@@ -43,12 +43,12 @@ pub record DeservesBack (number : ℕ) (bytes text : List ℕ) (status : Status)
 
 -- a source is refused in one way
 abbrev pub OneBackRefusal : Type 0
-OneBackRefusal = (bytes : List ℕ) (p : ℕ) (one other : BackRefusal) → IsRefusedSo bytes p one →
-    IsRefusedSo bytes p other → one ≡ other
+OneBackRefusal = (bytes : List ℕ) (p : ℕ) (one other : BackRefusal) → IsBackRefusalOf bytes p one →
+    IsBackRefusalOf bytes p other → one ≡ other
 
 -- it is refused where it is as a source, where no assertion has the number, and where its program has too many paths;
 -- elsewhere it is answered
 abbrev pub CallsBack : ℕ → List ℕ → List Status → Type 0
 CallsBack number bytes among = (point : ℕ) × (number ≡ suc point) ×
-    (((refusal : BackRefusal) × IsRefusedSo bytes point refusal × (among ≡ refused))
+    (((refusal : BackRefusal) × IsBackRefusalOf bytes point refusal × (among ≡ refused))
     ⊎ (CanGoBack bytes point × (among ≡ reported)))

@@ -8,12 +8,12 @@ use Rattle.lra_front_end.specs.Claims.{HasRefusal}
 use Rattle.lra_paths.specs.Paths.{HasTooManyPaths}
 use Rattle.lra_certificate_spec.specs.Claims.{IsProgram, program_of}
 use Rattle.lra_certify.specs.declared.failures.StrainedAt.TheVariants.{Edge, Assertion}
-use Rattle.lra_source.specs.Answers.{IsAnswered}
-use Rattle.lra_certified.specs.declared.refusals.CertifyRefusal.{CertifyRefusal}
-use Rattle.lra_certified.specs.declared.refusals.CertifyRefusal.TheVariants.{Source, Paths, Strained}
-use Rattle.lra_certified.specs.Settings.{certify_options}
-use Rattle.lra_certified.specs.Assertions.{unknown_assertions}
-use Rattle.lra_certified.specs.Certified.{IsCertificateOf, IsRefusedSo}
+use Rattle.lra_analyse_source.specs.SourceReports.{IsAnalysisReport}
+use Rattle.lra_certify_source.specs.declared.refusals.CertifyRefusal.{CertifyRefusal}
+use Rattle.lra_certify_source.specs.declared.refusals.CertifyRefusal.TheVariants.{Source, Paths, Strained}
+use Rattle.lra_certify_source.specs.Settings.{certify_options}
+use Rattle.lra_certify_source.specs.Assertions.{unknown_assertions}
+use Rattle.lra_certify_source.specs.Certified.{IsCertificateOf, IsCertifyRefusalOf}
 use Rattle.lra_answers.specs.Statuses.{refused}
 use Rattle.lra_answers.specs.declared.status.Status.{Status}
 use Rattle.lra_answers.specs.declared.status.Status.TheVariants.{Refused}
@@ -30,13 +30,13 @@ refused_text (Strained (Assertion q)) = text_line (codes "refused strained at as
 -- the text is that of a refusal of the source
 pub record IsCertifyRefusal (bytes text : List ℕ) : Type 0 where
   pub refusal : CertifyRefusal
-  pub refused : IsRefusedSo bytes refusal
+  pub refused : IsCertifyRefusalOf bytes refusal
   pub written : text ≡ refused_text refusal
 
 -- the text is a certificate by a report which the source deserves, and the status is that of the report's assertions
 pub record IsCertified (bytes text : List ℕ) (status : Status) : Type 0 where
   pub report : Report
-  pub answered : IsAnswered certify_options bytes report
+  pub answered : IsAnalysisReport certify_options bytes report
   pub certificate : IsCertificateOf bytes report text
   pub counted : status ≡ report_status (unknown_assertions report.verdicts)
 

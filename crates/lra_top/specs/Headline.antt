@@ -33,17 +33,19 @@ use Rattle.lra_report.specs.Listing.{Lists}
 use Rattle.lra_report_build.specs.AnalysisResults.{reported_all, reported_of}
 use Rattle.lra_sample.specs.Sample.{sample_source}
 use Rattle.lra_sample.specs.Summary.{summary_text}
-use Rattle.lra_source.specs.Answers.{Over, IsAnswered}
+use Rattle.lra_analyse_source.specs.SourceReports.{ForOptions, IsAnalysisReport}
 use Rattle.lra_certificate_spec.specs.Certificates.{ListedAssertion, Certificate}
 use Rattle.lra_certificate_spec.specs.Claims.{IsCertificate, greatest_certificate, program_of}
-use Rattle.lra_certified.specs.Settings.{certify_options}
-use Rattle.lra_certified.specs.Assertions.{unknown_assertions}
-use Rattle.lra_certified.specs.Certified.{IsCertificateOf, IsCertificateWith}
-use Rattle.lra_retraced.specs.Retraced.{HoldsWhereRunsFail, IsBackOf, IsDefinedBack, IsProvedAtFirst, StrainsAt}
+use Rattle.lra_certify_source.specs.Settings.{certify_options}
+use Rattle.lra_certify_source.specs.Assertions.{unknown_assertions}
+use Rattle.lra_certify_source.specs.Certified.{IsCertificateOf, IsCertificateWith}
+use Rattle.lra_back_source.specs.BackReports.{ReportCoversFailingRuns, IsBackReportOf, IsDefinedBack, IsProvedAtFirst}
+use Rattle.lra_back_source.specs.BackReports.{StrainsAt}
 use Rattle.lra_report_states.specs.Shown.{AreShown}
-use Rattle.lra_threaded.specs.ThreadsText.{ThreadsReport, threads_text}
-use Rattle.lra_threaded.specs.Threaded.{AreDefinedThreads, HoldsInInterleavings, IsThreadsOf, StrainsAtNumber}
-use Rattle.lra_threaded.specs.Threaded.{shared_program, threads_plan}
+use Rattle.lra_threads_source.specs.ThreadsText.{ThreadsReport, threads_text}
+use Rattle.lra_threads_source.specs.ThreadsReports.{AreDefinedThreads, HoldsInInterleavings, IsThreadsReportOf}
+use Rattle.lra_threads_source.specs.ThreadsReports.{StrainsAtNumber}
+use Rattle.lra_threads_source.specs.ThreadsReports.{shared_program, threads_plan}
 use Rattle.lra_threads_fixpoint.specs.Rounds.{AreThreadResults}
 use Rattle.lra_threads_analysis.specs.Found.{IsThreadResultOf}
 use Rattle.lra_words.specs.Chosen.{default_options}
@@ -61,7 +63,7 @@ pub record WritesReport (o : Options) (write : Report → List ℕ) (so : List �
   pub bytes : List ℕ
   pub input : IsInput left bytes
   pub report : Report
-  pub deserved : IsAnswered o bytes report
+  pub deserved : IsAnalysisReport o bytes report
   pub written : Appends held_old held_new (write report)
   pub is_so : so bytes report
 
@@ -106,7 +108,7 @@ pub record IsWrittenUnlessFlagged (o : Options) (bytes : List ℕ) (r : Report) 
   pub accepted : Accepts Spells bytes tree
   pub constants : List ℤ
   pub own : HasConstants bytes constants
-  pub tells : r.flagged ≡ None → Over o (λ V H m shown. TellsWritten m shown o constants (resolve tree) r)
+  pub tells : r.flagged ≡ None → ForOptions o (λ V H m shown. TellsWritten m shown o constants (resolve tree) r)
 
 -- A line for each access of an array, in the order in which they are evaluated at each point, tells whether it is in
 -- bounds by the values whose states are shown: it is unknown exactly where these leave an index outside. Behind what is
@@ -132,7 +134,7 @@ pub record TellsAccesses (o : Options) (bytes : List ℕ) (r : Report) : Type 0 
   pub tree : FileTree
   pub accepted : Accepts Spells bytes tree
   pub right : AllByRecursion (IsRight (resolve tree)) r.verdicts
-  pub tells : Over o (λ V H m shown. TellsAccessing m shown o (resolve tree) r)
+  pub tells : ForOptions o (λ V H m shown. TellsAccessing m shown o (resolve tree) r)
 
 -- Where it is asked for, a line for each point at which something is computed tells whether all of it fits by the
 -- values whose states are shown: it may overflow exactly where something doesn't.
@@ -147,7 +149,7 @@ pub record TellsFits (o : Options) (bytes : List ℕ) (r : Report) : Type 0 wher
   pub tree : FileTree
   pub accepted : Accepts Spells bytes tree
   pub right : AllByRecursion (IsRight (resolve tree)) r.verdicts
-  pub tells : IsTrue o.fits → Over o (λ V H m shown. TellsFitting m shown o (resolve tree) r)
+  pub tells : IsTrue o.fits → ForOptions o (λ V H m shown. TellsFitting m shown o (resolve tree) r)
   pub silent : o.fits ≡ false → (verdicts : List (ℕ × Bool)) × (inside : List (ℕ × List (Place × Bool))) ×
       (map reported_of r.verdicts ≡ reported_all verdicts [] inside)
 
@@ -195,7 +197,7 @@ pub record WritesCertificate (left held_old held_new : Option (List ℕ)) (statu
   pub bytes : List ℕ
   pub input : IsInput left bytes
   pub report : Report
-  pub deserved : IsAnswered certify_options bytes report
+  pub deserved : IsAnalysisReport certify_options bytes report
   pub holds : HoldsInAllRuns bytes report
   pub written_iteration : IsWrittenUnlessFlagged certify_options bytes report
   pub fits : TellsFits certify_options bytes report
@@ -221,9 +223,9 @@ pub record WritesBack (number : ℕ) (left held_old held_new : Option (List ℕ)
   pub point : ℕ
   pub numbered : number ≡ suc point
   pub report : BackReport
-  pub deserved : IsBackOf bytes point report
+  pub deserved : IsBackReportOf bytes point report
   pub accepted : Accepts Spells bytes deserved.program.tree
-  pub holds : HoldsWhereRunsFail (program_of deserved.program) point report
+  pub holds : ReportCoversFailingRuns (program_of deserved.program) point report
   pub first : IsProvedAtFirst (program_of deserved.program) deserved.program.operations report
   pub is_defined : report.flagged ≡ None →
       IsDefinedBack deserved.constants (program_of deserved.program) deserved.program.operations point report
@@ -245,7 +247,7 @@ pub record WritesThreads (delay narrow : ℕ) (left held_old held_new : Option (
   pub bytes : List ℕ
   pub input : IsInput left bytes
   pub report : ThreadsReport
-  pub deserved : IsThreadsOf delay narrow bytes report
+  pub deserved : IsThreadsReportOf delay narrow bytes report
   pub accepted : AcceptsThreads Spells bytes deserved.program.tree
   pub holds : HoldsInInterleavings deserved.program.tree report
   pub found : AreThreadResults (length (shared_program deserved.program.tree).globals)

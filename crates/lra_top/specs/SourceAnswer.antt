@@ -4,7 +4,7 @@ use Rattle.lra_options.specs.declared.options.Options.{Options}
 use Rattle.lra_report.specs.Report.{Report}
 use Rattle.lra_report.specs.ReportText.{report_text, unknown_count}
 use Rattle.lra_report_json.specs.ReportJson.{report_json}
-use Rattle.lra_source.specs.Answers.{IsAnswered}
+use Rattle.lra_analyse_source.specs.SourceReports.{IsAnalysisReport}
 use Rattle.lra_words.specs.declared.chosen.Format.{Format}
 use Rattle.lra_words.specs.declared.chosen.Format.TheVariants.{Lines, Json}
 use Rattle.lra_answers.specs.Told.{DeservesTold}
@@ -24,7 +24,7 @@ report_status (suc n) = Unknown
 -- the text is what is written of a report which the source deserves under these options, and the status is the report's
 pub record IsReport (o : Options) (write : Report → List ℕ) (bytes text : List ℕ) (status : Status) : Type 0 where
   pub report : Report
-  pub answered : IsAnswered o bytes report
+  pub answered : IsAnalysisReport o bytes report
   pub written : text ≡ write report
   pub counted : status ≡ report_status (unknown_count report.verdicts)
 
@@ -35,4 +35,5 @@ DeservesSource o write bytes text status = DeservesTold (IsReport o write) bytes
 -- two reports that a source deserves under one list of options and that are written alike are the same report
 abbrev pub OneWrittenReport : Type 0
 OneWrittenReport = (format : Format) (o : Options) (source : List ℕ) (r s : Report)
-    → IsAnswered o source r → IsAnswered o source s → written_report format r ≡ written_report format s → r ≡ s
+    → IsAnalysisReport o source r → IsAnalysisReport o source s → written_report format r ≡ written_report format s →
+    r ≡ s

@@ -9,8 +9,8 @@ use Rattle.lra_resolution_spec.specs.RefuseThreads.{RefuseThreads, AcceptsThread
 use Rattle.lra_report.specs.RefusalText.{refusal_text}
 use Rattle.lra_report.specs.ReportText.{unknown_count}
 use Rattle.lra_threads_front_end.specs.Claims.{HasThreadsRefusal}
-use Rattle.lra_threaded.specs.ThreadsText.{ThreadsReport, threads_text}
-use Rattle.lra_threaded.specs.Threaded.{IsThreadsOf}
+use Rattle.lra_threads_source.specs.ThreadsText.{ThreadsReport, threads_text}
+use Rattle.lra_threads_source.specs.ThreadsReports.{IsThreadsReportOf}
 use Rattle.lra_answers.specs.Statuses.{refused, reported}
 use Rattle.lra_answers.specs.declared.status.Status.{Status}
 use Rattle.lra_answers.specs.declared.status.Status.TheVariants.{Refused}
@@ -26,7 +26,7 @@ pub record IsThreadsRefusal (bytes text : List ℕ) : Type 0 where
 -- the text is that of a report which the source deserves, and the status tells whether some verdict is unknown
 pub record IsThreads (delay narrow : ℕ) (bytes text : List ℕ) (status : Status) : Type 0 where
   pub report : ThreadsReport
-  pub deserved : IsThreadsOf delay narrow bytes report
+  pub deserved : IsThreadsReportOf delay narrow bytes report
   pub written : text ≡ threads_text report
   pub counted : status ≡ report_status (unknown_count report.verdicts)
 

@@ -8,8 +8,8 @@ ghost use Rattle.lra_top.specs.BackAnswer.{DeservesBack, back_refused_text, back
 
 use crate::certificate_answer::push_paths;
 use lra_answers::{Answer, Status};
+use lra_back_source::{BackError, BackRefusal, back_source};
 use lra_report::{BackReport, back_text, refusal_text};
-use lra_retraced::{BackError, BackRefusal, back_source};
 use std::alloc::{AllocError, Global};
 use std::fmt::Write;
 

@@ -2,13 +2,15 @@
 ghost use Rattle.std.specs.Prelude.{◌≡◌, ◌<◌, ◌+◌, ◌++◌, ◌^◌, suc, codes, length, IfOk, OnOk, string_bytes};
 ghost use Rattle.std.specs.Fmt.{decimal};
 ghost use Rattle.lra_row_text.specs.Texts.{text_line};
-ghost use Rattle.lra_certified.specs.Certified.{IsCounted};
+ghost use Rattle.lra_certify_source.specs.Certified.{HasSmallPoint};
 ghost use Rattle.lra_top.specs.CertifyAnswer.{DeservesCertified, refused_text};
 
 use crate::certificate_answer::push_paths;
 use crate::source_answer::status_by;
 use lra_answers::{Answer, Status};
-use lra_certified::{Certified, CertifyError, CertifyRefusal, StrainedAt, certify_source};
+use lra_certify_source::{
+    CertifiedReport, CertifyError, CertifyRefusal, StrainedAt, certify_source,
+};
 use lra_report::refusal_text;
 use std::alloc::{AllocError, Global};
 use std::fmt::Write;
@@ -35,7 +37,7 @@ fn push_assertion(text: &mut String, point: usize) -> Result<(), AllocError>
 
 /// The text of a refusal.
 fn refused_text(alloc: Global, refusal: CertifyRefusal) -> Result<String, AllocError>
-    requires { IsCounted refusal }
+    requires { HasSmallPoint refusal }
     ensures { IfOk result (λ text. string_bytes text ≡ refused_text refusal) }
 {
     let mut text = String::new(alloc);
@@ -59,7 +61,7 @@ pub fn answer_certified(alloc: Global, bytes: &[u8]) -> Result<Answer, AllocErro
     match certify_source(alloc, bytes) {
         Ok(certified) => {
             let status = status_by(certified.unknown_assertions());
-            let Certified { report: _, text } = certified;
+            let CertifiedReport { report: _, text } = certified;
             Ok(Answer { text, status })
         }
         Err(CertifyError::Refused(refusal)) => Ok(Answer {

@@ -8,11 +8,11 @@ ghost use Rattle.lra_top.specs.SourceAnswer.{report_status};
 ghost use Rattle.lra_top.specs.SampleAnswer.{DeservesSample};
 
 use crate::source_answer::status_of;
+use lra_analyse_source::analyse_source;
 use lra_answers::{Answer, answer_refusal};
 use lra_base::SourceError;
 use lra_report::Report;
 use lra_sample::{program, summary};
-use lra_source::analyse_source;
 use lra_words::default_options;
 use std::alloc::{AllocError, Global};
 

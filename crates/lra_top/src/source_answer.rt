@@ -4,12 +4,12 @@ ghost use Rattle.lra_report.specs.ReportText.{unknown_count};
 ghost use Rattle.lra_report.specs.View as view;
 ghost use Rattle.lra_top.specs.SourceAnswer.{DeservesSource, report_status, written_report};
 
+use lra_analyse_source::analyse_source;
 use lra_answers::{Answer, Status, answer_refusal};
 use lra_base::SourceError;
 use lra_options::Options;
 use lra_report::{Report, text};
 use lra_report_json::json_text;
-use lra_source::analyse_source;
 use lra_words::Format;
 use std::alloc::{AllocError, Global};
 

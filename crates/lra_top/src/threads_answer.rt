@@ -1,8 +1,8 @@
 // What a source of several threads deserves: what is found of them, or its refusal.
 ghost use Rattle.std.specs.Prelude.{◌≡◌, ◌<◌, ◌+◌, ◌^◌, length, IfOk};
 ghost use Rattle.lra_report.specs.ReportText.{unknown_count};
-ghost use Rattle.lra_threaded.specs.ThreadsText as told;
-ghost use Rattle.lra_threaded.specs.ThreadsView.{threads_report_of};
+ghost use Rattle.lra_threads_source.specs.ThreadsText as told;
+ghost use Rattle.lra_threads_source.specs.ThreadsView.{threads_report_of};
 ghost use Rattle.lra_top.specs.SourceAnswer.{report_status};
 ghost use Rattle.lra_top.specs.ThreadsAnswer.{DeservesThreads};
 
@@ -10,7 +10,7 @@ use crate::source_answer::status_by;
 use lra_answers::{Answer, answer_refusal};
 use lra_base::SourceError;
 use lra_report::count_unknown;
-use lra_threaded::{ThreadsReport, threads_source, threads_text};
+use lra_threads_source::{ThreadsReport, threads_source, threads_text};
 use std::alloc::{AllocError, Global};
 
 /// What is written of several threads, and its status.

@@ -1,0 +1,38 @@
+-- What a tree's report is told to be, as the answer of its source.
+use Rattle.std.proofs.Common.{ℕ, ℤ, ◌≤◌, List, refl, arith}
+use Rattle.lra_syntax.specs.Trees.{FileTree}
+use Rattle.lra_syntax.specs.Grammar.{Spells}
+use Rattle.lra_options.specs.declared.options.Options.{Options}
+use Rattle.lra_report.specs.Report.{Invariant, Report}
+use Rattle.lra_resolution_spec.specs.Refuse.{Accepts}
+use Rattle.lra_domain.specs.Abstraction.{Abstraction}
+use Rattle.lra_domain.specs.Laws.{Laws}
+use Rattle.lra_front_end.specs.Stages.{HasConstants, HasTree}
+use Rattle.lra_front_end.proofs.StageSteps.{accepted}
+use Rattle.lra_analyse_source.specs.SourceReports.{IsAnalysisReportOver}
+use Rattle.lra_analyse_source.specs.Stages.{IsReportOfTree}
+use Rattle.lra_analyse_source.proofs.Reports.{sound, is_report}
+
+module _ {V H : Type 0} (m : Abstraction V H) (laws : Laws m) (shown : V → Invariant) (o : Options) (constants : List ℤ) (source : List ℕ) (t : FileTree)
+    (r : Report) (has : HasTree source t) (own : HasConstants source constants) (is : IsReportOfTree m shown o constants t r) (some : 1 ≤ o.parts) where
+  -- a source whose tree's report is told
+  pub is_answered : IsAnalysisReportOver m shown o source r
+  is_answered =
+      let taken : Accepts Spells source t = accepted source t has is.names is.straight is.within in
+      let whole = is_report m laws shown o constants t r is.lists is.analysed is.agrees o source refl some (omega arith) is.options taken in
+      record {
+        report = record {
+          options = is.options;
+          tree = t;
+          accepted = taken;
+          lists = is.lists;
+          parts = whole.parts;
+          sound = sound m laws shown o constants t r is.lists is.analysed is.agrees;
+          flag = whole.flag;
+        };
+        constants = constants;
+        own = own;
+        analysed = is.analysed;
+        canonical = is.canonical;
+        readable = is.readable;
+      }

@@ -1,0 +1,66 @@
+-- What a report tells of the iteration over a program: what is shown of each point's value, the verdicts, the first
+-- flagged point.
+use Rattle.std.specs.Prelude.{◌≡◌, ℕ, suc, ℤ, List, map, Bool, Option, None, Some, option_map}
+use Rattle.lra_base.specs.declared.refusals.Place.{Place}
+use Rattle.lra_domain.specs.Abstraction.{Abstraction}
+use Rattle.lra_program.specs.Program.{Program}
+use Rattle.lra_program.specs.WellFormed.{AreGoodGlobals}
+use Rattle.lra_operations.specs.Tree.{Node}
+use Rattle.lra_operations.specs.Agree.{IsInlinedTree}
+use Rattle.lra_operations.specs.CheckedOperations.{AgreesOnOverflows, AgreesOnAccesses}
+use Rattle.lra_report.specs.Report.{Invariant, PointReport, Report}
+use Rattle.lra_options.specs.declared.options.Options.{Options}
+use Rattle.lra_analysis_spec.specs.Plan.{plan_of}
+use Rattle.lra_analysis_spec.specs.Pass.{PassResult}
+use Rattle.lra_analysis_spec.specs.Analysis.{ExactIteration, LossyIteration, StrainsAtPoint, IsSolution}
+use Rattle.lra_analysis_spec.specs.Operations.{exact_operations, lossy_operations, straining_operations}
+use Rattle.lra_analysis_spec.specs.Fits.{JudgesIf}
+use Rattle.lra_analysis_spec.specs.Accesses.{JudgesAccesses}
+use Rattle.lra_report_build.specs.AnalysisResults.{reported_all, reported_of}
+use Rattle.lra_report_states.specs.Shown.{AreShown}
+
+-- `shown` is what the domain shows of a value; the program has these constants
+pub record ReportsIteration {V H : Type 0} (m : Abstraction V H) (shown : V → Invariant) (settings : Options)
+    (constants : List ℤ) (P : Program) (r : Report) : Type 0 where
+  -- the globals begin with numbers of their types
+  pub globals : AreGoodGlobals P.globals
+  pub tree : Node
+  pub is_graph : IsInlinedTree P tree
+  -- which asks at each point of the operation that can stop a run there by a number
+  pub asks : AgreesOnOverflows P tree
+  -- and where an access can be outside its array
+  pub accesses : AgreesOnAccesses P tree
+  pub result : PassResult V
+  pub values : List V
+  -- a verdict is unknown exactly where something is left of the value at which the assertion's condition is false
+  pub verdicts : List (ℕ × Bool)
+  pub flagged : Option ℕ
+  pub solves : IsSolution m result values verdicts flagged
+  -- a derivation with drops; without a flag the written iteration; the first flag is where the written iteration
+  -- strains
+  pub derived : LossyIteration m (plan_of settings constants) P tree result
+  pub written : flagged ≡ None → ExactIteration m (plan_of settings constants) P tree result
+  pub strained : (q : ℕ) → flagged ≡ Some q → StrainsAtPoint m (plan_of settings constants) P tree q
+  -- each value is shown as it is: the rows of its state mean it
+  pub are_shown : AreShown m settings.domain shown values
+  -- and the report tells it
+  pub states : map (λ (p : PointReport). p.state) r.points ≡ map shown values
+  -- what fits, where it is asked for, and the first flag behind that; without a flag by what the written iteration
+  -- leaves; a first flag there is where what it leaves strains
+  pub fitting : List (ℕ × Bool)
+  pub overflow_flag : Option ℕ
+  pub judged : JudgesIf m (lossy_operations m) settings.fits tree values flagged fitting overflow_flag
+  pub judged_written : overflow_flag ≡ None →
+      JudgesIf m (exact_operations m) settings.fits tree values None fitting None
+  pub judged_strained : (q : ℕ) → flagged ≡ None → overflow_flag ≡ Some q →
+      JudgesIf m (straining_operations m) settings.fits tree values None fitting (Some q)
+  -- which accesses lie inside their arrays, and the first flag behind all that; so, too, by what the written iteration
+  -- leaves
+  pub inside : List (ℕ × List (Place × Bool))
+  pub last : Option ℕ
+  pub accessed : JudgesAccesses m (lossy_operations m) tree values overflow_flag inside last
+  pub accessed_written : last ≡ None → JudgesAccesses m (exact_operations m) tree values None inside None
+  pub accessed_strained : (q : ℕ) → overflow_flag ≡ None → last ≡ Some q →
+      JudgesAccesses m (straining_operations m) tree values None inside (Some q)
+  pub proved : map reported_of r.verdicts ≡ reported_all verdicts fitting inside
+  pub flag : r.flagged ≡ option_map suc last

@@ -1,0 +1,5 @@
+pub mod AnalysisReport
+pub mod Soundness
+pub mod SourceReports
+pub mod Claims
+pub mod Stages

@@ -1,0 +1,34 @@
+-- A source that can be gone back over isn't refused.
+use Rattle.std.proofs.Common.{ℕ, List}
+use Rattle.lra_base.specs.declared.refusals.Refusal.{Refusal}
+use Rattle.lra_syntax.specs.Grammar.{Spells}
+use Rattle.lra_resolution_spec.specs.Refuse.{Refuse}
+use Rattle.lra_program.specs.Sites.{sites_of}
+use Rattle.lra_front_end.proofs.EachAnswer.{each_answer}
+use Rattle.lra_paths.specs.Paths.{AreFewPaths}
+use Rattle.lra_paths.proofs.ManyPaths.{not_both}
+use Rattle.lra_certificate_spec.specs.Claims.{IsProgram, program_of}
+use Rattle.lra_certificate_spec.proofs.OneProgram.{accepted_of, as_said}
+use Rattle.lra_back.specs.BackwardAnalysis.{IsAssertion}
+use Rattle.lra_back_source.specs.declared.refusals.BackRefusal.{BackRefusal}
+use Rattle.lra_back_source.specs.declared.refusals.BackRefusal.TheVariants.{Source, NoAssertion, Paths}
+use Rattle.lra_back_source.specs.BackReports.{BackOrRefused, CanGoBack, IsBackRefusalOf}
+
+module _ (source : List ℕ) (p : ℕ) where
+  -- an accepted source isn't refused as one
+  pub accepted : {A : Type 0} (x : IsProgram source) (r : Refusal) → Refuse Spells source r.cause r.place → A
+  accepted x r why = absurd ((each_answer source).2 x.tree r.cause r.place (accepted_of source x) why)
+
+  -- the point is an assertion of the one program or of neither
+  pub same_assertion : (x y : IsProgram source) → IsAssertion (sites_of (program_of y)) p → IsAssertion (sites_of (program_of x)) p
+  same_assertion x y asserts = as_said (λ P g. IsAssertion (sites_of P) p) source x y asserts
+
+  never_both : (refusal : BackRefusal) → CanGoBack source p → IsBackRefusalOf source p refusal → ⊥
+  never_both (Source r) can why = accepted can.program r why
+  never_both NoAssertion can (x, none) = none (same_assertion x can.program can.asserts)
+  never_both (Paths q) can (x, asserts, many) =
+      not_both (program_of x).globals (sites_of (program_of x)) x.operations q
+      (as_said (λ P g. AreFewPaths P g) source x can.program can.few) many
+
+pub back_or_refused : BackOrRefused
+back_or_refused = never_both

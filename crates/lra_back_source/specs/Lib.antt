@@ -1,0 +1,5 @@
+-- In the order in which they are to be read: what is gone back over, what a source deserves that is gone back over, and
+-- what stands for errors.
+pub mod Forward
+pub mod BackReports
+pub mod Refusals

@@ -1,0 +1,35 @@
+-- What stands for the errors of the parts.
+use Rattle.std.specs.Prelude.{⊤, ℕ}
+use Rattle.lra_base.specs.declared.error.SourceError.{SourceError}
+use Rattle.lra_base.specs.declared.error.SourceError.TheVariants as of_source
+use Rattle.lra_program.specs.Program.{Program}
+use Rattle.lra_program.specs.Sites.{sites_of}
+use Rattle.lra_operations.specs.Tree.{Node}
+use Rattle.lra_paths.specs.Paths.{HasTooManyPaths}
+use Rattle.lra_back.specs.BackwardAnalysis.{IsAssertion}
+use Rattle.lra_back.specs.declared.analysis.BackFailure.{BackFailure}
+use Rattle.lra_back.specs.declared.analysis.BackFailure.TheVariants as of_back
+use Rattle.lra_back_source.specs.declared.refusals.BackRefusal.{BackRefusal}
+use Rattle.lra_back_source.specs.declared.refusals.BackRefusal.TheVariants.{Source, NoAssertion, Paths}
+use Rattle.lra_back_source.specs.declared.refusals.BackError.{BackError}
+use Rattle.lra_back_source.specs.declared.refusals.BackError.TheVariants.{Refused, Memory}
+
+abbrev pub source_error : SourceError → BackError
+source_error (of_source.Refused r) = Refused (Source r)
+source_error of_source.Memory = Memory
+
+abbrev pub error_by : BackFailure → BackError
+error_by of_back.NoAssertion = Refused NoAssertion
+error_by (of_back.TooMany q) = Refused (Paths q)
+error_by of_back.Memory = Memory
+
+-- why a program isn't gone back over from the point
+abbrev pub IsFailure : Program → Node → ℕ → BackFailure → Type 0
+IsFailure P g p of_back.NoAssertion = IsAssertion (sites_of P) p → ⊥
+IsFailure P g p (of_back.TooMany q) = IsAssertion (sites_of P) p × HasTooManyPaths P g q
+IsFailure P g p of_back.Memory = ⊤
+
+-- a fact of the refusal, if there is one
+abbrev pub IfRefusal : (BackRefusal → Type 0) → BackError → Type 0
+IfRefusal P (Refused r) = P r
+IfRefusal P Memory = ⊤

@@ -1,6 +1,0 @@
--- Goals of `many_are_refused`.
-use Rattle.lra_certified.proofs.OneRefusal.{many_refused}
-use Rattle.lra_certified.proofs.laws.many_are_refused.Goals as goal
-
-pub returns : goal.returns
-returns c = many_refused

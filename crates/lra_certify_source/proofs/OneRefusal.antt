@@ -1,0 +1,41 @@
+-- A source from one of whose points too many paths lead gets that refusal, and no certificate.
+use Rattle.std.proofs.Common.{◌≡◌, ◌≤◌, ◌<◌, ◌⊎◌, ℕ, List, ap, arith, inl, inr}
+use Rattle.std.proofs.lemmas.Bool.{cases_order}
+use Rattle.lra_program.specs.Program.{Program}
+use Rattle.lra_program.specs.Sites.{sites_of}
+use Rattle.lra_operations.specs.Tree.{Node}
+use Rattle.lra_front_end.proofs.EachAnswer.{each_answer}
+use Rattle.lra_paths.specs.Paths.{AreFewPaths, HasTooManyPaths}
+use Rattle.lra_paths.proofs.ManyPaths.{not_both}
+use Rattle.lra_certificate_spec.specs.Claims.{IsProgram, program_of}
+use Rattle.lra_certificate_spec.proofs.OneProgram.{accepted_of, as_said}
+use Rattle.lra_certify_source.specs.declared.refusals.CertifyRefusal.{CertifyRefusal}
+use Rattle.lra_certify_source.specs.declared.refusals.CertifyRefusal.TheVariants.{Source, Paths, Strained}
+use Rattle.lra_certify_source.specs.Certified.{IsCertifyRefusalOf, ManyAreRefused}
+
+-- the least source from which too many paths lead
+pub one_source : (P : Program) (g : Node) (p q : ℕ) → HasTooManyPaths P g p → HasTooManyPaths P g q → p ≡ q
+one_source P g p q a b = by (cases_order p q)
+  where
+    beyond : (n m : ℕ) → n < m → m ≤ n → ⊥
+    beyond n m h k = omega (arith, h, k)
+
+    by : (p ≡ q) ⊎ ((p < q) ⊎ (q < p)) → p ≡ q
+    by (inl e) = e
+    by (inr (inl h)) = absurd (beyond _ _ a.many (b.first p h a.goal))
+    by (inr (inr h)) = absurd (beyond _ _ b.many (a.first q h b.goal))
+
+module _ (source : List ℕ) (x : IsProgram source) (p : ℕ) (many : HasTooManyPaths (program_of x) x.operations p) where
+  never_few : (y : IsProgram source) → AreFewPaths (program_of y) y.operations → ⊥
+  never_few y few =
+      not_both (program_of x).globals (sites_of (program_of x)) x.operations p (as_said (λ P g. AreFewPaths P g) source x y few) many
+
+  one_refusal : (refusal : CertifyRefusal) → IsCertifyRefusalOf source refusal → refusal ≡ Paths p
+  one_refusal (Source r) why = absurd ((each_answer source).2 x.tree r.cause r.place (accepted_of source x) why)
+  one_refusal (Paths q) (y, more) =
+      ap Paths (one_source (program_of x) x.operations q p (as_said (λ P g. HasTooManyPaths P g q) source x y more) many)
+  one_refusal (Strained at) (r, s) = absurd (never_few s.handed.program s.handed.few)
+
+pub many_refused : ManyAreRefused
+many_refused source x p many =
+    (λ r bytes c. never_few source x p many c.handed.program c.handed.few, λ refusal why. one_refusal source x p many refusal why)

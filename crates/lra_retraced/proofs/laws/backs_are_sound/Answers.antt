@@ -1,9 +1,0 @@
--- Goals of `backs_are_sound`: the laws.
-use Rattle.lra_retraced.proofs.Sound.{backs_sound, proved_at_first}
-use Rattle.lra_retraced.proofs.laws.backs_are_sound.Goals as goal
-
-pub returns-clause-sound : goal.returns-clause-sound
-returns-clause-sound c = backs_sound
-
-pub returns-clause-first : goal.returns-clause-first
-returns-clause-first c = proved_at_first

@@ -1,5 +1,0 @@
--- In the order in which they are to be read: what is gone back over, what a source deserves that is gone back over, and
--- what stands for errors.
-pub mod Forward
-pub mod Retraced
-pub mod Refusals

@@ -1,9 +1,0 @@
--- Two answers to one source that have the same text are the same report.
-use Rattle.lra_syntax.specs.Grammar.{Spells}
-use Rattle.lra_resolution_spec.specs.Refuse.{OneAnswer}
-use Rattle.lra_report.proofs.SourceTexts.{one_source}
-use Rattle.lra_source.specs.Claims.{OneAnsweredText}
-
-pub one_text : OneAnswer Spells → OneAnsweredText
-one_text one o source r s x y text =
-    one_source Spells (λ t z h. h) r s o source (λ t u a b. (one source).0 t u a b) x.report y.report x.readable y.readable text

@@ -1,9 +1,0 @@
--- What is written so far and what is left are all.
-use Rattle.std.proofs.Common.{◌≡◌, ◌++◌, map, drop}
-use Rattle.lra_threaded.specs.Listed.{one_by_one, writes_told}
-use Rattle.lra_threaded.specs.ThreadsView.{writes_of}
-use Rattle.lra_threaded.proofs.listing.list_writes.Given as goal
-
-abbrev pub invariant-threads : goal.invariant-threads
-invariant-threads l =
-    map writes_of l.listed.items ++ one_by_one (writes_told l.globals) l.k (drop l.k l.table) ≡ one_by_one (writes_told l.globals) 0 l.table

@@ -1,0 +1,71 @@
+-- What rounds end with, as the listing asks it.
+use Rattle.std.proofs.Common.{◌≡◌, ◌∙◌, ◌≤◌, ◌<◌, ◌+◌, ℕ, suc, Bool, true, false, List, [], ◌∷◌, length, map, sym, subst, arith}
+use Rattle.std.specs.Prelude.{Some, slice_get, if◌then◌else◌}
+use Rattle.std.specs.List.{AllByRecursion, Contains}
+use Rattle.std.proofs.lemmas.List.{length-map}
+use Rattle.std.proofs.lemmas.Option.{same_Some}
+use Rattle.lra_base.specs.declared.refusals.Place.{Place}
+use Rattle.lra_program.specs.Assertions.{assertions_from}
+use Rattle.lra_program.specs.Program.{Program}
+use Rattle.lra_program.specs.Sites.{Site}
+use Rattle.lra_program.specs.declared.program.GlobalVariable.{GlobalVariable}
+use Rattle.lra_operations.specs.Tree.{Node}
+use Rattle.lra_operations.specs.TreeViews.{node_view, site_view}
+use Rattle.lra_operations.specs.declared.tree.InlinedProgram.{InlinedProgram}
+use Rattle.lra_linear_spec.proofs.Membership.{contains_head, contains_tail}
+use Rattle.lra_analysis_spec.specs.Instrumented.{instrumented}
+use Rattle.lra_bounds_checks.specs.BoundsChecks.{reported_view}
+use Rattle.lra_threads_fixpoint.specs.Rounds.{ThreadsFixpoint}
+use Rattle.lra_threads_analysis.specs.Found.{sites_in, access_verdicts_of, thread_values, verdicts_of}
+use Rattle.lra_threads_analysis.specs.Holding.{AllHold, HoldsInRound}
+use Rattle.lra_threads_analysis.specs.declared.found.ThreadResult.{ThreadResult}
+use Rattle.lra_threads_source.specs.Stages.{AreOfGraphs, IsOfGraph, points_in}
+use Rattle.lra_threads_source.proofs.FlaggedPoints.{answers_low}
+use Rattle.lra_threads_source.proofs.Following.{all_viewed}
+
+-- assertions stand at points
+asserting_low : (k n : ℕ) (sites : List Site) → k + length sites ≤ n → AllByRecursion (λ (i : ℕ). i < n) (map (λ (a : ℕ × Site). a.0) (assertions_from k sites))
+asserting_low k n [] low = tt
+asserting_low k n (s ∷ ss) low = by s.asserts (asserting_low (suc k) n ss (omega (arith, low)))
+  where
+    by : (b : Bool) → AllByRecursion (λ (i : ℕ). i < n) (map (λ (a : ℕ × Site). a.0) (assertions_from (suc k) ss))
+        → AllByRecursion (λ (i : ℕ). i < n) (map (λ (a : ℕ × Site). a.0) (if b then (k, s) ∷ assertions_from (suc k) ss else assertions_from (suc k) ss))
+    by true rest = (omega (arith, low), rest)
+    by false rest = rest
+
+each_among : {A : Type 0} (P : A → Type 0) (xs : List A) → ((x : A) → Contains xs x → P x) → AllByRecursion P xs
+each_among P [] each = tt
+each_among P (x ∷ xs) each = (each x (contains_head x xs), each_among P xs (λ y among. each y (contains_tail x y xs among)))
+
+pub of_graph : (P : Program) (k : ℕ) (graph : InlinedProgram) (g : Node) (end : ThreadsFixpoint ThreadResult) (h : HoldsInRound P k graph g end) →
+    IsOfGraph graph h.found
+of_graph P k graph g end h =
+    let long : length (sites_in graph) ≡ points_in graph = length-map graph.sites.items site_view in
+    let (before, judged) = h.inside in
+    record {
+      wide = h.wide;
+      points = h.points;
+      assertions =
+          all_viewed (λ (i : ℕ). i < points_in graph) (λ (v : ℕ × Bool). v.0) (verdicts_of h.found)
+          (subst (AllByRecursion (λ (i : ℕ). i < points_in graph)) (sym h.assertions)
+          (asserting_low 0 (points_in graph) (sites_in graph) (omega (arith, long))));
+      inside =
+          all_viewed (λ (v : ℕ × List (Place × Bool)). v.0 < points_in graph) reported_view h.found.inside.verdicts.items
+          (each_among (λ (v : ℕ × List (Place × Bool)). v.0 < points_in graph) (access_verdicts_of h.found)
+          (λ v among.
+          let low = answers_low g (thread_values h.found) before (access_verdicts_of h.found) _ judged v among in
+          let many = h.points in
+          omega (arith, low, many, long)));
+    }
+
+-- of each thread; its own tree is one of these
+pub of_graphs : (P : Program) (globals : List GlobalVariable) (graphs : List InlinedProgram) (end : ThreadsFixpoint ThreadResult) → P.globals ≡ globals
+    → ((k : ℕ) (h : InlinedProgram) → slice_get graphs k ≡ Some h → (g : Node) × (node_view h.tree ≡ instrumented (length P.globals) g))
+    → AllHold globals graphs end → AreOfGraphs graphs end.found
+of_graphs P globals graphs end is own holds = record {
+  count = holds.count;
+  each = λ k graph one there found.
+      let (g, opens) = own k graph there in
+      let h = holds.each P k graph g is there opens in
+      subst (IsOfGraph graph) (same_Some h.found one (sym h.is_found ∙ found)) (of_graph P k graph g end h);
+}

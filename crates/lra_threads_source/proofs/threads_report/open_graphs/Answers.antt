@@ -1,0 +1,13 @@
+-- Goals of `open_graphs`: one graph more is opened.
+use Rattle.std.proofs.Common.{◌++◌, ◌∷◌, [], List, sym, subst}
+use Rattle.std.specs.List.{AllZip}
+use Rattle.std.proofs.lemmas.List.Elements.{AllZip-push}
+use Rattle.lra_operations.specs.declared.tree.InlinedProgram.{InlinedProgram}
+use Rattle.lra_threads_source.specs.Stages.{IsInstrumented}
+use Rattle.lra_threads_source.proofs.threads_report.open_graphs.Goals as goal
+
+pub graphs-preserved : goal.graphs-preserved
+graphs-preserved c =
+    subst (λ (hs : List InlinedProgram). AllZip (IsInstrumented c.args.globals) (c.graphs.yielded ++ c.in-Some.graph ∷ []) hs) (sym c.in_ok-push.ensures.items)
+    (AllZip-push (IsInstrumented c.args.globals) c.graphs.yielded c.graphs.opened.items c.in-Some.graph c.in_ok-instrument_program.field-0 c.graphs.invariant
+    (c.in_ok-instrument_program.ensures.tree, c.in_ok-instrument_program.ensures.sites))
