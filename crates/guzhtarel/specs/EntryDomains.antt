@@ -19,45 +19,45 @@ use Rattle.lra_domain.specs.ExactDomains.{ExactDomain}
 -- and what is known of a form's value. Nothing is proved of the void entry: a join with a value without a store gives
 -- `join void e`, which loses nothing where it is e.
 pub record EachEntry (E : Type 0) : Type 1 where
-  pub has : E → ℤ → Type 0
-  pub covered : E → E → Bool
+  pub gamma : E → ℤ → Type 0
+  pub leq : E → E → Bool
   pub join : E → E → E
-  pub whole : E
-  pub void : E
+  pub top : E
+  pub bottom : E
   pub number : E → ℕ
   pub rows : ℕ → ℕ → E → List (List ℤ)
   pub value : Form → List E → E
 
 -- what its author proves
 pub record EntryFacts {E : Type 0} (p : EachEntry E) : Type 0 where
-  pub whole_has : (x : ℤ) → p.has p.whole x
-  pub reflexive : (e : E) → p.covered e e ≡ true
-  pub covered_has : (e d : E) (x : ℤ) → p.covered e d ≡ true → p.has e x → p.has d x
-  pub left : (e d : E) → p.covered e (p.join e d) ≡ true
-  pub right : (e d : E) → p.covered d (p.join e d) ≡ true
+  pub top_gamma : (x : ℤ) → p.gamma p.top x
+  pub reflexive : (e : E) → p.leq e e ≡ true
+  pub leq_gamma : (e d : E) (x : ℤ) → p.leq e d ≡ true → p.gamma e x → p.gamma d x
+  pub left : (e d : E) → p.leq e (p.join e d) ≡ true
+  pub right : (e d : E) → p.leq d (p.join e d) ≡ true
   pub few : (e : E) → p.number e ≤ 2 ^ 31
   pub less : (e d : E) → p.number (p.join e d) ≤ p.number e
-  pub falls : (e d : E) → p.covered d e ≡ false → p.number (p.join e d) < p.number e
+  pub falls : (e d : E) → p.leq d e ≡ false → p.number (p.join e d) < p.number e
   -- at a point whose divisor is 1, as a store is one
   pub rows_have : (n column : ℕ) (e : E) (x : List ℤ) → column ≤ n → entry x 0 ≡ pos 1
-      → AllHold Ge (p.rows n column e) x ↔ p.has e (entry x column)
-  pub value_has : (f : Form) (es : List E) (s : List ℤ) → length f.coefficients ≡ length es
-      → AllHave p.has es s → p.has (p.value f es) (form_value f s)
+      → AllHold Ge (p.rows n column e) x ↔ p.gamma e (entry x column)
+  pub value_gamma : (f : Form) (es : List E) (s : List ℤ) → length f.coefficients ≡ length es
+      → AllHave p.gamma es s → p.gamma (p.value f es) (form_value f s)
 
-pub record Content (E : Type 0) : Type 0 where
+pub record EntriesContent (E : Type 0) : Type 0 where
   pub nothing : Bool
   pub entries : List E
 
 abbrev pub entries_after : {E : Type 0} → EachEntry E → Action → List E → List E
 entries_after p (assign x f) es = slice_set es x (p.value f es)
-entries_after p (forget x) es = slice_set es x p.whole
+entries_after p (forget x) es = slice_set es x p.top
 entries_after p (test kind f) es = es
-entries_after p (embed k) es = es ++ replicate k p.whole
+entries_after p (embed k) es = es ++ replicate k p.top
 entries_after p (remove_last k) es = take (length es - k) es
 
 -- the first has no store, or the second has some; and entry by entry it is covered
-abbrev pub lies_in : {E : Type 0} → EachEntry E → Content E → Content E → Bool
-lies_in p a b = (a.nothing || not b.nothing) && pointwise p.covered a.entries b.entries
+abbrev pub lies_in : {E : Type 0} → EachEntry E → EntriesContent E → EntriesContent E → Bool
+lies_in p a b = (a.nothing || not b.nothing) && pointwise p.leq a.entries b.entries
 
 abbrev pub system_of_entries : {E : Type 0} → EachEntry E → List E → LinearSystem ConKind
 system_of_entries p es = record {
@@ -74,14 +74,14 @@ abbrev pub one_if : Bool → ℕ
 one_if false = 0
 one_if true = 1
 
-abbrev pub of_entries : {E : Type 0} → EachEntry E → ExactDomain (Content E)
+abbrev pub of_entries : {E : Type 0} → EachEntry E → ExactDomain (EntriesContent E)
 of_entries p = record {
-  gamma = λ v s. (v.nothing ≡ false) × AllHave p.has v.entries s;
+  gamma = λ v s. (v.nothing ≡ false) × AllHave p.gamma v.entries s;
   dims = λ v. length v.entries;
   parts = λ v. parts_of p v.nothing v.entries;
   leq = λ a b. IsTrue (lies_in p a b);
-  top = λ n. record { nothing = false; entries = replicate n p.whole };
-  bottom = λ n. record { nothing = true; entries = replicate n p.void };
+  top = λ n. record { nothing = false; entries = replicate n p.top };
+  bottom = λ n. record { nothing = true; entries = replicate n p.bottom };
   transfer = λ step v. record v { entries = entries_after p step v.entries };
   joined = λ a b. record { nothing = a.nothing && b.nothing; entries = join_each p.join a.entries b.entries };
   number = λ v. one_if v.nothing + total p.number v.entries;

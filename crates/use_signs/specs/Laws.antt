@@ -92,16 +92,16 @@ row_holds n column true x h d =
 
 pub sign_facts : EntryFacts sign
 sign_facts = record {
-  whole_has = λ x. tt;
+  top_gamma = λ x. tt;
   reflexive = or-not_self;
-  covered_has = less_known;
+  leq_gamma = less_known;
   left = left;
   right = right;
   few = few;
   less = less;
   falls = falls;
   rows_have = row_holds;
-  value_has = λ f ks s wide a. form_known f.constant f.coefficients ks s wide a;
+  value_gamma = λ f ks s wide a. form_known f.constant f.coefficients ks s wide a;
 }
 
 pub signs_facts : Facts (of_entries sign)

@@ -21,11 +21,11 @@ sign_row n column true = unit_row n column ∷ []
 
 abbrev pub sign : EachEntry Bool
 sign = record {
-  has = Known;
-  covered = λ k j. k || not j;
+  gamma = Known;
+  leq = λ k j. k || not j;
   join = λ k j. k && j;
-  whole = false;
-  void = true;
+  top = false;
+  bottom = true;
   number = one_if;
   rows = sign_row;
   value = λ f ks. int_le (pos 0) f.constant && is_sum_known f.coefficients ks;

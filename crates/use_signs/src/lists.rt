@@ -12,7 +12,7 @@ use std::alloc::{AllocError, Global};
 
 /// Whether what the second list knows is known of the first.
 pub fn is_implied(known: &[bool], other: &[bool]) -> bool
-    ensures { result ≡ pointwise sign.covered known.now other.now }
+    ensures { result ≡ pointwise sign.leq known.now other.now }
 {
     let Some((first, later)) = known.split_first() else {
         return other.is_empty();

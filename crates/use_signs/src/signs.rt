@@ -22,9 +22,9 @@ pub struct Signs {
 
 impl Model for Signs {
     ghost use Rattle.std.specs.Prelude.{Bool, ◌≤◌, ◌^◌, length};
-    ghost use Rattle.guzhtarel.specs.EntryDomains.{Content};
+    ghost use Rattle.guzhtarel.specs.EntryDomains.{EntriesContent};
 
-    ghost Value = { Content Bool };
+    ghost Value = { EntriesContent Bool };
 
     ghost view = { λ s. record { nothing = s.nothing; entries = s.known.items } };
 
