@@ -10,6 +10,6 @@ mod branches;
 #[cfg(test)]
 mod fitting;
 #[cfg(test)]
-mod opened;
+mod instrument;
 #[cfg(test)]
 mod steps;

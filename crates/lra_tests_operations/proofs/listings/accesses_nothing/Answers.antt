@@ -3,8 +3,8 @@ use Rattle.std.proofs.Common.{◌≡◌, ◌∙◌, length, map, ap, arith}
 use Rattle.std.proofs.lemmas.Grind.{common_steps}
 use Rattle.lra_operations.specs.TreeViews.{node_view}
 use Rattle.lra_operations_list.specs.TreeOperations.{op_at_point_view}
-use Rattle.lra_tests_graphs.proofs.Silent.{silent_more, silent_tree, none_listed}
-use Rattle.lra_tests_graphs.proofs.listings.accesses_nothing.Goals as goal
+use Rattle.lra_tests_operations.proofs.Silent.{silent_more, silent_tree, none_listed}
+use Rattle.lra_tests_operations.proofs.listings.accesses_nothing.Goals as goal
 
 pub doings-init : goal.doings-init
 doings-init c = tt

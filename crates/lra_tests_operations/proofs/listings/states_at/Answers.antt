@@ -1,7 +1,7 @@
 -- Goals of `states_at`: what holds at each point.
 use Rattle.std.proofs.Common.{arith}
-use Rattle.lra_tests_graphs.proofs.Given.{states_more}
-use Rattle.lra_tests_graphs.proofs.listings.states_at.Goals as goal
+use Rattle.lra_tests_operations.proofs.Given.{states_more}
+use Rattle.lra_tests_operations.proofs.listings.states_at.Goals as goal
 
 pub sites-preserved : goal.sites-preserved
 sites-preserved c =

@@ -3,8 +3,8 @@ use Rattle.std.proofs.Common.{sym, subst}
 use Rattle.lra_syntax.specs.Views.{tree_view}
 use Rattle.lra_parser_spec.specs.Files.{EndsOnce}
 use Rattle.lra_parser_spec.proofs.Ended.{lexed_end}
-use Rattle.lra_tests_graphs.proofs.Reading.{read_small}
-use Rattle.lra_tests_graphs.proofs.sources.tree_of.Goals as goal
+use Rattle.lra_tests_operations.proofs.Reading.{read_small}
+use Rattle.lra_tests_operations.proofs.sources.tree_of.Goals as goal
 
 pub parse-requires : goal.parse-requires
 parse-requires c = record {

@@ -1,8 +1,8 @@
 -- Goals of `program_of`: the program of such a tree, and the table of its labels.
 use Rattle.lra_syntax.specs.Views.{tree_view}
 use Rattle.lra_program.specs.ProgramViews.{program_view}
-use Rattle.lra_tests_graphs.proofs.Reading.{resolved_well}
-use Rattle.lra_tests_graphs.proofs.sources.program_of.Goals as goal
+use Rattle.lra_tests_operations.proofs.Reading.{resolved_well}
+use Rattle.lra_tests_operations.proofs.sources.program_of.Goals as goal
 
 pub returns-clause-well : goal.returns-clause-well
 returns-clause-well c =
