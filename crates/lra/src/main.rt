@@ -2,9 +2,9 @@
 //! standard output. What goes wrong with words or files is reported on standard error.
 #![tactic(auto)]
 
+use lra_command_line::{Request, read_request};
+use lra_commands::{Status, run};
 use lra_io::{RealSink, RealSource, write_whole};
-use lra_top::{Status, run};
-use lra_words::{Request, read_request};
 use std::env;
 use std::fs::File;
 use std::io::{Error, ErrorKind, Read};

@@ -212,8 +212,7 @@ module _ {V H : Type 0} (m : Abstraction V H) {shown : V → Invariant} {o : Opt
     (x : ReportsIteration m shown o constants P r) (none : x.last ≡ None) where
   pub unflagged_behind : x.overflow_flag ≡ None
   unflagged_behind = none_before (lossy_operations m) (OpInside m (lossy_operations m)) (accessing_ops None x.tree) x.values x.overflow_flag x.inside x.last
-      x.accessed
-      none
+      x.accessed none
 
   pub unflagged_first : x.flagged ≡ None
   unflagged_first = unflagged_before m (lossy_operations m) o.fits x.tree x.values x.flagged x.fitting x.overflow_flag unflagged_behind x.judged

@@ -112,8 +112,7 @@ module _ {V H : Type 0} (m : Abstraction V H) (b : Operations V H) (Keeps : Exac
       values flagged fitting behind → Judges m b g values flagged fitting behind
   judges_moved g values flagged fitting behind fine j =
       finds_moved m b Keeps Fine matters moves same_dims (OpFits m (lossy_operations m)) (OpFits m b) fits_moved (computing_ops None g) values flagged fitting
-      behind
-      fine j
+      behind fine j
 
 -- without a flag what is judged is so by the written iteration's operations; a first flag is where one of them strains
 pub judged_written : {V H : Type 0} (m : Abstraction V H) → Laws m → (b : Bool) (g : Node) (values : List V) (flagged : Option ℕ) (fitting : List (ℕ × Bool))

@@ -55,8 +55,7 @@ module _ {V H : Type 0} (ops : Operations V H) (single : Single ops) where
 
   module _ {A : Type 0} (Told : OfOp V A) (one_told : (op : Op) (v : V) (x y : A) (e f : Exactness) → Told op v x e → Told op v y f → x ≡ y) where
     pub one_asked_told : (values : List V) (a : OpAtPoint) (x y : A) (e f : Exactness) → AnswerAtPoint ops Told values a x e →
-        AnswerAtPoint ops Told values a y f →
-        x ≡ y
+        AnswerAtPoint ops Told values a y f → x ≡ y
     one_asked_told values a x y e f (v, w, g, h, at, behind, told, flags) (u, z, i, j, there, after, also, too) =
         let first : v ≡ u = same_Some v u (sym at ∙ there) in
         let after_too : Declares ops a.fresh v i z = subst (λ (k : V). Declares ops a.fresh k i z) (sym first) after in

@@ -124,8 +124,7 @@ pub alone_among_nobody : {V H : Type 0} (m : Abstraction V H) (set : Plan) (g : 
     → PassUnder V H (lossy_operations m) (absorbed no_interference m) set g f v r → Pass V H (lossy_operations m) set g f v r
 alone_among_nobody {V} {H} m set g f v r pass =
     (passes_among V H (lossy_operations m) (lossy_operations m) (λ e. Unit {0}) (λ f. Unit {0}) any_matters (same_ones (lossy_operations m))
-    (absorbed no_interference m)
-    nothing_absorbed
+    (absorbed no_interference m) nothing_absorbed
     (λ v e w k h. nothing_done m v e w h) set g f v r tt pass).1
 
 pub derived_among_nobody : {V H : Type 0} (m : Abstraction V H) (set : Plan) (P : Program) (g : Node) (r : PassResult V) → LossyIterationUnder no_interference m set P g r → LossyIteration m set P g r

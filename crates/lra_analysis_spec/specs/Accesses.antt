@@ -85,8 +85,7 @@ module _ {V H : Type 0} (m : Abstraction V H) (ops : Operations V H) where
 
 -- An access that is judged to be inside by a value with a run's store isn't one by which that run strays.
 abbrev pub InsideIsSound : {V H : Type 0} → Abstraction V H → Type 0
-InsideIsSound {V} m =
-    (values : List V) (a : OpAtPoint) (js : List (Place × Bool)) (e : Exactness) (v : V) (s : State)
+InsideIsSound {V} m = (values : List V) (a : OpAtPoint) (js : List (Place × Bool)) (e : Exactness) (v : V) (s : State)
     (n : ℕ) (place : Place) → slice_get values a.point ≡ Some v → m.well_formed v → m.gamma v s.store
     → InsideAtPoint m (lossy_operations m) values a js e → slice_get js n ≡ Some (place, true)
     → HoldsAtPoint (λ op t. OpOutOfBounds op t n) a s → ⊥

@@ -43,8 +43,7 @@ abbrev pub ExactIterationUnder : {V H : Type 0} → Interference V → Abstracti
 ExactIterationUnder o m set P g r = IterationUnder (exact_operations m) (absorbed_exactly o) set P g r
 
 abbrev pub LossyIterationUnder : {V H : Type 0} → Interference V → Abstraction V H → Plan → Program → Node →
-    PassResult V →
-    Type 0
+    PassResult V → Type 0
 LossyIterationUnder o m set P g r = IterationUnder (lossy_operations m) (absorbed o m) set P g r
 
 -- an operation of this point, or others there, strain on what the written iteration has there

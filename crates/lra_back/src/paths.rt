@@ -109,8 +109,7 @@ fn join_path<D: Backward>(
     requires so_far { IfThereHas D.abstraction (D.abstraction.dims forward.now) so_far.value }
     ensures joins { IfOk result (λ r. (u w : D) × (c d : Exactness) ×
         PreOfPath (lossy_back_operations D.abstraction D.backward_abstraction) forward.now
-        target.now
-        (all_done path.now) c u ×
+        target.now (all_done path.now) c u ×
         JoinsRunning (lossy_back_operations D.abstraction D.backward_abstraction).forward
         so_far.value u d w ×
         (r.value ≡ Some w) × (r.exactness ≡ worse so_far.exactness (worse c d))) }

@@ -62,8 +62,7 @@ pub record IsBackwardFinding (constants : List ℤ) (P : Program) (g : Node) (p 
   pub flagged : Option ℕ
   pub ahead : IsForward constants P g forward flagged
   pub traced : IsBackwardAnalysis polyhedron_abstraction polyhedron_backward P.globals (sites_of P) g forward flagged p
-      values
-      last
+      values last
   pub proved : (holds ≡ true) ↔ NothingLeftAtStart polyhedron_abstraction P.globals (sites_of P) g values
 
 -- and so it is told of a source
@@ -109,8 +108,7 @@ pub record IsDefinedBack (constants : List ℤ) (P : Program) (g : Node) (p : �
   pub written : IsWrittenForward constants P g forward
   pub values : List Polyhedron
   pub back : BackwardAnalysis (exact_back_operations polyhedron_abstraction polyhedron_backward) P.globals (sites_of P)
-      g forward None p values
-      None
+      g forward None p values None
   pub states : map (λ (x : PointReport). x.state) r.points ≡ map shown_polyhedron values
 
 -- an access of an array that is judged by these values strains at the point q
@@ -119,8 +117,7 @@ pub record StrainsInAccess (constants : List ℤ) (P : Program) (g : Node) (q : 
   pub written : IsWrittenForward constants P g forward
   pub inside : List (ℕ × List (Place × Bool))
   pub judged : JudgesAccesses polyhedron_abstraction (iteration.straining_operations polyhedron_abstraction) g forward
-      None inside
-      (Some q)
+      None inside (Some q)
 
 -- and so does an operation with which these are gone back over
 pub record StrainsBack (constants : List ℤ) (P : Program) (g : Node) (p q : ℕ) : Type 0 where

@@ -26,8 +26,7 @@ pub record IsForward (constants : List ℤ) (P : Program) (g : Node) (values : L
   pub solved : IsSolved polyhedron_abstraction (forward_plan constants) P g values verdicts iteration_flag
   pub inside : List (ℕ × List (Place × Bool))
   pub accessed : JudgesAccesses polyhedron_abstraction (lossy_operations polyhedron_abstraction) g values iteration_flag
-      inside
-      flagged
+      inside flagged
   pub accessed_written : flagged ≡ None →
       JudgesAccesses polyhedron_abstraction (exact_operations polyhedron_abstraction) g values None inside None
   pub accessed_strained : (q : ℕ) → iteration_flag ≡ None → flagged ≡ Some q →

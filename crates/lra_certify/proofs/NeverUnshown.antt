@@ -19,8 +19,7 @@ pub record AreLaws : Type 0 where
 
 module _ (laws : AreLaws) where
   pub none_show : (premises : List LinearRow) (claim : List ℤ) (m : Multipliers) → AreAsWide premises claim → AreNone premises claim →
-      IsFarkasCertificate premises claim m →
-      ⊥
+      IsFarkasCertificate premises claim m → ⊥
   none_show premises claim m wide none shows =
       let p = (laws.points premises claim m wide).1 shows in none (point_of m) p.is_point p.meets
 

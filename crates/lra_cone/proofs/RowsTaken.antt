@@ -119,8 +119,7 @@ lost_end first all kept s (earlier ∷ later) loss k c e strained = strains_long
 
 -- as the code tells it: after a row that was left out the cone is as it was
 pub conversion_left_out : (first all kept : List LinearRow) (old new : ConeContent) (losses after : List Loss) (loss : Loss) (g : LinearRow) (strained : Strained) (cause : Cause)
-    (taken : List LinearRow) →
-    IsCone new →
+    (taken : List LinearRow) → IsCone new →
     new ≡ old → taken ≡ new.taken →
     loss ≡ record { chosen = taken; further = g; cause = cause } → cause ≡ cause_of strained → after ≡ losses ++ loss ∷ [] → IsConeError old g.equal g.row (of_cone.Strained strained) →
     IsConversion first all kept old losses → IsConversion first (all ++ g ∷ []) kept new after

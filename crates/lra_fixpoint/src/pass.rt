@@ -70,8 +70,7 @@ fn go_on<'a, D: Domain, F: Interfere<D>>(
         MayBePassed (F.interference others) D.abstraction set whole
         × IsPassFrame (F.interference others) D.abstraction set
         place whole part × IsMade (F.interference others) D.abstraction set part
-        (outcome_view outcome)
-        memory.old ×
+        (outcome_view outcome) memory.old ×
         (1 ≤ set.parts) }
     ensures leads { (others : F) (set : Plan) (whole part : PassTask D) →
         MayBePassed (F.interference others) D.abstraction set whole →

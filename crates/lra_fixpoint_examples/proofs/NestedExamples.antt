@@ -225,8 +225,7 @@ module _ (set : Plan) (a x y z : Interval) (o : Option (List Interval))
   )
 
   inner_from : LoopRoundFromHead BoxContent BoxContent boxes 4 0 endless (Pass BoxContent BoxContent boxes set (seq (catch 4 continued inner_body) empty))
-      (two a x) None
-      (two a x)
+      (two a x) None (two a x)
       (inner_found (value 4 (two a x) ∷ value 5 (two a x) ∷ []) (box_of o) (two a y) (two a z))
   inner_from = (Exact, (refl, refl), inner_turn)
 

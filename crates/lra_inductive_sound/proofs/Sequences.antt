@@ -25,12 +25,11 @@ outs_both one behind two (jump k) = one (jump k) ++ then_outs (one normal) (behi
 module _ (V H X : Type 0) (m : Abstraction V H) (o : PointsOf V H X) where
   -- a part with these ways is closed
   pub record Closes (T : Completion → List (List SegmentStep)) (E : List GoalSegment) (O : Completion → List Suffix) (I : List Segment) (v : V)
-      (r : PassResult V) : Type 0
-    where
-      pub passes : (h : Completion) (ops : List SegmentStep) → Contains (T h) ops → KeptBy m o v ops (IsExitValue r h)
-      pub enters : (way : GoalSegment) → Contains E way → KeptBy m o v way.ops (IsGoalValue r way.goal)
-      pub leaves : (h : Completion) (out : Suffix) → Contains (O h) out → KeptFrom m o r out.source out.ops (IsExitValue r h)
-      pub goes : (s : Segment) → Contains I s → KeptFrom m o r s.source s.to_goal.ops (IsGoalValue r s.to_goal.goal)
+      (r : PassResult V) : Type 0 where
+    pub passes : (h : Completion) (ops : List SegmentStep) → Contains (T h) ops → KeptBy m o v ops (IsExitValue r h)
+    pub enters : (way : GoalSegment) → Contains E way → KeptBy m o v way.ops (IsGoalValue r way.goal)
+    pub leaves : (h : Completion) (out : Suffix) → Contains (O h) out → KeptFrom m o r out.source out.ops (IsExitValue r h)
+    pub goes : (s : Segment) → Contains I s → KeptFrom m o r s.source s.to_goal.ops (IsGoalValue r s.to_goal.goal)
 
   pub tree_closes : (g : Node) (v : V) (r : PassResult V) → IsInductiveThrough m o g v r → Closes (through g) (enter g) (exit_suffixes g) (inside g) v r
   tree_closes g v r i = record { passes = i.passes; enters = i.enters; leaves = i.leaves; goes = i.goes }

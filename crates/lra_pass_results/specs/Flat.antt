@@ -39,8 +39,7 @@ flat_view (Row r) = row (map node_view r.trees.now) (node_view r.last.now)
 
 -- what was found so far, and then by a pass of this tree
 abbrev pub Follows : {V H : Type 0} → Interference V → Abstraction V H → Plan → graph.Node → PassOutcome V →
-    PassOutcome V →
-    Type 0
+    PassOutcome V → Type 0
 Follows {V} o m set g so_far r = (t : PassResult V) × IsPassed o m set g so_far.flag so_far.normal t ×
     ((v : V) (f : Option ℕ) → ended r.found v f ≡ in_turn (outcome_view so_far) t v f) × (r.normal ≡ t.normal) ×
     (r.flag ≡ t.flag)

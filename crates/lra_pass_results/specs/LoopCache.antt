@@ -32,9 +32,8 @@ abbrev mutual
   ArmsHaveLoops loops (arm a arms) = HasLoops loops a × ArmsHaveLoops loops arms
 
 -- a loop's last pass may be given again
-abbrev pub IsRecalled : {V H : Type 0} → Interference V → Abstraction V H → Plan → (ℕ → Node) → Option ℕ →
-    CachedLoop V →
-    Type 0
+abbrev pub IsRecalled : {V H : Type 0} → Interference V → Abstraction V H → Plan → (ℕ → Node) → Option ℕ → CachedLoop V
+    → Type 0
 IsRecalled o m set loops f one = IsKept o m set (loops one.point) f one.first (outcome_view one.outcome)
 
 -- all that is kept may be given again, whatever the loop of each number is

@@ -101,8 +101,7 @@ HasGrown {V} {H} o m set q base c a first f u s =
 
 -- the value at a stable head and its round, narrowed as often as the plan says
 abbrev pub NarrowsTo : {V H : Type 0} → Interference V → Abstraction V H → Plan → ℕ → ℕ → Cond → Node → V → V →
-    PassResult V
-    → V →
+    PassResult V → V →
     PassResult V → Type 0
 NarrowsTo {V} {H} o m set q base c a first u s v r =
     DescendingIteration V H (lossy_operations m) q base c (LossyPass o m set a) set.narrow first u s v r
@@ -124,8 +123,7 @@ AreKept o m set g f (Some turn) = IsKept o m set g f turn.entered (outcome_view 
 
 -- a turn that is given, if one is, is that of a pass from this value
 abbrev pub AreGiven : {V H : Type 0} → Interference V → Abstraction V H → Plan → Node → Option ℕ → V →
-    Option (LoopRound V) →
-    Type 0
+    Option (LoopRound V) → Type 0
 AreGiven o m set g f v None = ⊤
 AreGiven o m set g f v (Some turn) = (turn.entered ≡ v) × IsPassed o m set g f v (outcome_view turn.outcome)
 

@@ -132,8 +132,7 @@ struck_other degree.Exact how.Widen p r given other = (refl, λ t. t)
 struck_other degree.Exact how.Limited p r given other = let wrong : ⊥ = cc in absurd wrong
 struck_other degree.Exact how.Tightest p r given other = let wrong : ⊥ = cc in absurd wrong
 
-pub struck_first : (e : Exactness) (mode : Mode) (p r : Polyhedron) (given : List LinearRow) → takes_thresholds mode ≡ true →
-    some_passes p.generators given ≡ true →
+pub struck_first : (e : Exactness) (mode : Mode) (p r : Polyhedron) (given : List LinearRow) → takes_thresholds mode ≡ true → some_passes p.generators given ≡ true →
     IsStruck e mode p r given degree.Flagged
 struck_first e how.Limited p r given is t = inr (rw t refl)
 struck_first e how.Tightest p r given is t = inr (rw t refl)

@@ -290,8 +290,7 @@ tightest_becomes p q r given few o hp hq d w is same made =
 
 -- some product passes
 pub lost_becomes : (p q r : Polyhedron) (given few : List LinearRow) (o lost : Outcome) → few ≡ tightest (kept_thresholds p q given) →
-    IsLimitedWidening p q few r o →
-    ¬ (lost ≡ Exact)
+    IsLimitedWidening p q few r o → ¬ (lost ≡ Exact)
     → IfFlagged (PassesOnBoth p q given) lost → Becomes p.dims (LimitedWidening p q given) (TightestStrains p q given) r lost
 lost_becomes p q r given few o Exact is made other passes = absurd (other refl)
 lost_becomes p q r given few o (Flagged loss) is made other passes = record {

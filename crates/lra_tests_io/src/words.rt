@@ -1,8 +1,8 @@
-use lra_options::{BEST_OPTIONS, DEFAULT_OPTIONS, Domain, NUMBER_OPTIONS, Options};
-use lra_words::{
+use lra_command_line::{
     Command, Format, PLAIN_COMMANDS, PlainCommand, Refusal, Request, find_command, parse_command,
     read_request,
 };
+use lra_options::{BEST_OPTIONS, DEFAULT_OPTIONS, Domain, NUMBER_OPTIONS, Options};
 use std::alloc::{AllocError, Global};
 use std::process::Abort;
 

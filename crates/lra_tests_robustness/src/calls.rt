@@ -1,8 +1,8 @@
 //! Calls in calls, which would double without end.
 
 use crate::pieces::{Ended, agrees};
+use lra_commands::Status;
 use lra_tests_runs::memory::{BOXES, told};
-use lra_top::Status;
 use std::alloc::{AllocError, Global};
 use std::fmt::Write;
 

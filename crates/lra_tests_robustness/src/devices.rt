@@ -1,7 +1,7 @@
 //! Devices that fail at each call in turn.
 
+use lra_commands::Status;
 use lra_tests_runs::memory::{BOXES, PROVED, PROVED_REPORT, ended, written};
-use lra_top::Status;
 use std::alloc::{AllocError, Global};
 
 /// Each of the six reads fails in turn, and nothing is written.

@@ -2,8 +2,8 @@
 
 use crate::hulls::count_lines;
 use crate::pieces::{Pieces, are_proved, joined};
+use lra_commands::Status;
 use lra_tests_runs::memory::{BOXES, SOUND, ended};
-use lra_top::Status;
 use std::alloc::{AllocError, Global};
 
 /// The greatest power of two that has 127 bits.

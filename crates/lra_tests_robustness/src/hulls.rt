@@ -1,7 +1,7 @@
 //! Hulls of many facets and lists of many points.
 
+use lra_commands::Status;
 use lra_tests_runs::memory::{SOUND, ended_within, written};
-use lra_top::Status;
 use std::alloc::{AllocError, Global};
 use std::fmt::Write;
 

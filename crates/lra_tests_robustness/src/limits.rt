@@ -1,8 +1,8 @@
 //! The numbers of bytes, variables and points of a source, from both sides of their limits.
 
 use crate::pieces::{Pieces, agrees, are_proved, are_refused, tells, writes};
+use lra_commands::Status;
 use lra_tests_runs::memory::{BOXES, PROVED, SOUND, ended, written};
-use lra_top::Status;
 use std::alloc::{AllocError, Global};
 
 /// One variable more than a point may have.

@@ -1,7 +1,7 @@
 //! Sources made of copies of a text.
 
+use lra_commands::Status;
 use lra_tests_runs::memory::{BOXES, SOUND, told, written};
-use lra_top::Status;
 use std::alloc::{AllocError, Global};
 use std::process::Abort;
 

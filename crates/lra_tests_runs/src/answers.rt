@@ -2,7 +2,7 @@
 
 use crate::checks::{Answer, agrees, are_answers};
 use crate::memory::{BOXES, PROVED, PROVED_REPORT, SOUND, written};
-use lra_top::Status;
+use lra_commands::Status;
 
 /// What is said to words that ask for no command.
 const USAGE: &str = "refused usage\n";

@@ -3,7 +3,7 @@
 
 use crate::checks::{Line, are_refused, have_lines};
 use crate::memory::BOXES;
-use lra_top::Status;
+use lra_commands::Status;
 
 /// The index is computed before the call that gives the element its value.
 const WAITED: &str =

@@ -2,7 +2,7 @@
 
 use crate::checks::{Answer, are_answers};
 use crate::memory::SOUND;
-use lra_top::Status;
+use lra_commands::Status;
 
 /// The assertion fails from one value that is read.
 const SUCCESSOR: &str = "int main(void){ long x=input(), y; y=x+1; assert(y!=0); }";

@@ -2,7 +2,7 @@
 
 use crate::checks::{Line, are_proved, have_lines};
 use crate::memory::{BOXES, PROVED};
-use lra_top::Status;
+use lra_commands::Status;
 
 /// A loop that counts to ten.
 const COUNTING: &str = "int main(void){ long i=0; while(i<10) i=i+1; }";

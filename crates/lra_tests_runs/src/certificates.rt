@@ -2,7 +2,7 @@
 
 use crate::checks::{Answer, Ended, agrees, are_answers};
 use crate::memory::{SOUND, written};
-use lra_top::Status;
+use lra_commands::Status;
 use std::alloc::Global;
 use std::process::Abort;
 

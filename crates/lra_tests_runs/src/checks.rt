@@ -1,7 +1,7 @@
 //! Tables of runs, each row as it should be.
 
 use crate::memory::{BOXES, SOUND, told, written};
-use lra_top::Status;
+use lra_commands::Status;
 use std::alloc::{AllocError, Global};
 use std::process::Abort;
 

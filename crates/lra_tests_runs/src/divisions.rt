@@ -2,7 +2,7 @@
 
 use crate::checks::{Line, have_lines};
 use crate::memory::BOXES;
-use lra_top::Status;
+use lra_commands::Status;
 
 /// Half of a number from 0 to 7.
 const HALF: &str = "int main(void){ long x=input(), q; assume(x>=0&&x<=7); q=x/2; }";

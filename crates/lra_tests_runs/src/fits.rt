@@ -7,7 +7,7 @@ use crate::memory::SOUND;
 use crate::types::{
     CONSTANTS, COUNTING, GIVEN, MIXED, OPPOSITE, READ, RESULTS, RETURNED, TOLD, WIDENED,
 };
-use lra_top::Status;
+use lra_commands::Status;
 
 /// The words that ask for it over boxes.
 const FITS: &str = "lra analyse --domain box --fits";

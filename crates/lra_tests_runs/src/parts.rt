@@ -1,7 +1,7 @@
 //! Reports over sets of parts.
 
 use crate::checks::{Line, have_lines};
-use lra_top::Status;
+use lra_commands::Status;
 
 /// A gap between two values.
 const GAP: &str = "int main(void){ long x; if(input()) x=0; else x=5; assert(x!=3); }";

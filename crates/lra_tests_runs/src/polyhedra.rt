@@ -2,7 +2,7 @@
 
 use crate::checks::{Answer, Line, are_answers, have_lines};
 use crate::memory::{PROVED, SOUND};
-use lra_top::Status;
+use lra_commands::Status;
 
 /// The program of Cousot and Halbwachs (1978).
 const SLOPES: &str =

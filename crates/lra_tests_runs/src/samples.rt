@@ -2,7 +2,7 @@
 
 use crate::checks::{Answer, are_answers};
 use crate::memory::{PROVED, SOUND};
-use lra_top::Status;
+use lra_commands::Status;
 
 const EMPTY: &str = "int main(void){}";
 

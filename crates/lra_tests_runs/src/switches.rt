@@ -3,7 +3,7 @@
 
 use crate::checks::{Line, are_refused, have_lines};
 use crate::memory::BOXES;
-use lra_top::Status;
+use lra_commands::Status;
 
 /// A case that falls through, and a `default`.
 const FALLEN: &str =

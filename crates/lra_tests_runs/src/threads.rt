@@ -2,7 +2,7 @@
 
 use crate::checks::{Answer, Line, are_answers, have_lines};
 use crate::memory::SOUND;
-use lra_top::Status;
+use lra_commands::Status;
 
 /// One thread gives a global two values, the other reads it.
 const HANDED: &str =

@@ -2,7 +2,7 @@
 
 use crate::checks::{Answer, Line, are_answers, have_lines};
 use crate::memory::SOUND;
-use lra_top::Status;
+use lra_commands::Status;
 
 /// A counter that wraps, in an endless loop.
 const WRAPPED: &str =

@@ -2,7 +2,7 @@
 
 use crate::checks::{Answer, Line, are_answers, are_proved, are_refused, have_lines};
 use crate::memory::{BOXES, SOUND};
-use lra_top::Status;
+use lra_commands::Status;
 
 /// A loop that counts to ten.
 pub const COUNTING: &str = "int main(void){ int i=0; while(i<10) i=i+1; }";

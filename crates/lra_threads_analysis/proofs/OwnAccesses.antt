@@ -24,8 +24,7 @@ pub judged_own : (n : ℕ) (g h : Node) (values : List BoxContent) (before last 
 judged_own n g h values before last inside opens judged =
     let same : accessing_ops None h ≡ accessing_ops None g = ap (accessing_ops None) opens ∙ asks_opened op_accesses_any None n g in
     subst (λ (asked : List OpAtPoint). Finds (lossy_operations box_abstraction) (OpInside box_abstraction (lossy_operations box_abstraction)) asked values
-    before inside last)
-    same
+    before inside last) same
     judged
 
 -- flags ------------------------------------------------------------------------------------------------------------

@@ -39,8 +39,7 @@ pub record IsAnalysed (plan : Plan) (globals : List GlobalVariable) (graph : Inl
       f.noted.solution.flagged (access_verdicts_of f) (flag_of_thread f)
 
 -- of the k-th thread
-abbrev pub IsAnalysedOf : Plan → List GlobalVariable → List InlinedProgram → ℕ → Interference BoxContent →
-    ThreadResult →
-    Type 0
+abbrev pub IsAnalysedOf : Plan → List GlobalVariable → List InlinedProgram → ℕ → Interference BoxContent → ThreadResult
+    → Type 0
 IsAnalysedOf plan globals graphs k o f =
     (graph : InlinedProgram) × (slice_get graphs k ≡ Some graph) × IsAnalysed plan globals graph o f

@@ -106,16 +106,14 @@ IsThreadResultOf plan P trees k o f = (g : Node) × (slice_get trees k ≡ Some 
 
 -- what is found is that of the written iteration, and of accesses judged by what it leaves
 pub record IsExactResult (o : Interference BoxContent) (plan : Plan) (P : Program) (g : Node) (f : ThreadResult) : Type
-    0
-  where
-    pub result : PassResult BoxContent
-    pub written : ExactIterationUnder o box_abstraction plan P (instrumented (length P.globals) g) result
-    pub solves : IsSolution box_abstraction result (thread_values f) (verdicts_of f) None
-    pub noted : (q place : ℕ) (v : BoxContent) →
-        Contains (notes_of f) (q, place, v) ↔ Contains result.entries (recorded q place v)
-    pub accessed : JudgesAccesses box_abstraction (exact_operations box_abstraction) g (thread_values f) None
-        (access_verdicts_of f)
-        None
+    0 where
+  pub result : PassResult BoxContent
+  pub written : ExactIterationUnder o box_abstraction plan P (instrumented (length P.globals) g) result
+  pub solves : IsSolution box_abstraction result (thread_values f) (verdicts_of f) None
+  pub noted : (q place : ℕ) (v : BoxContent) →
+      Contains (notes_of f) (q, place, v) ↔ Contains result.entries (recorded q place v)
+  pub accessed : JudgesAccesses box_abstraction (exact_operations box_abstraction) g (thread_values f) None
+      (access_verdicts_of f) None
 
 abbrev pub IsExactResultOf : Plan → Program → List Node → ℕ → Interference BoxContent → ThreadResult → Type 0
 IsExactResultOf plan P trees k o f = (g : Node) × (slice_get trees k ≡ Some g) × IsExactResult o plan P g f

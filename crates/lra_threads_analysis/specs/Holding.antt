@@ -28,34 +28,32 @@ use Rattle.lra_threads_analysis.specs.Found.{HoldsOf, IsExactResultOf, StrainsAt
 -- lives there, a verdict for each assertion, and what is judged of the tree's accesses by these values. Of which plan,
 -- and behind which flag, the rounds tell.
 pub record HoldsInRound (P : Program) (k : ℕ) (graph : InlinedProgram) (g : Node)
-    (end : ThreadsFixpoint ThreadResult) : Type 0
-  where
-    pub found : ThreadResult
-    pub is_found : slice_get end.found k ≡ Some found
-    pub solved : (plan : Plan)
-        × IsSolvedUnder (threads_interference (length P.globals) k end.table) box_abstraction plan P
-        (node_view graph.tree) (thread_values found) (notes_of found) (verdicts_of found) found.noted.solution.flagged
-    pub holds : HoldsOf (threads_interference (length P.globals) k end.table) P g found
-    pub wide : AreWide box_abstraction (sites_in graph) (thread_values found)
-    pub notes : NotesHave box_abstraction (notes_of found)
-    pub points : length (thread_values found) ≡ length (sites_in graph)
-    pub assertions : map (λ v. v.0) (verdicts_of found) ≡ map (λ a. a.0) (assertions_from 0 (sites_in graph))
-    pub inside : (before : Option ℕ)
-        × JudgesAccesses box_abstraction (lossy_operations box_abstraction) g (thread_values found) before
-        (access_verdicts_of found) (flag_of_thread found)
+    (end : ThreadsFixpoint ThreadResult) : Type 0 where
+  pub found : ThreadResult
+  pub is_found : slice_get end.found k ≡ Some found
+  pub solved : (plan : Plan)
+      × IsSolvedUnder (threads_interference (length P.globals) k end.table) box_abstraction plan P
+      (node_view graph.tree) (thread_values found) (notes_of found) (verdicts_of found) found.noted.solution.flagged
+  pub holds : HoldsOf (threads_interference (length P.globals) k end.table) P g found
+  pub wide : AreWide box_abstraction (sites_in graph) (thread_values found)
+  pub notes : NotesHave box_abstraction (notes_of found)
+  pub points : length (thread_values found) ≡ length (sites_in graph)
+  pub assertions : map (λ v. v.0) (verdicts_of found) ≡ map (λ a. a.0) (assertions_from 0 (sites_in graph))
+  pub inside : (before : Option ℕ)
+      × JudgesAccesses box_abstraction (lossy_operations box_abstraction) g (thread_values found) before
+      (access_verdicts_of found) (flag_of_thread found)
 
 -- the round that settles: nothing is written that isn't in the table, which has an interval for each thread and global;
 -- and so much holds of each thread
 pub record AllHold (globals : List GlobalVariable) (graphs : List InlinedProgram)
-    (end : ThreadsFixpoint ThreadResult) : Type 0
-  where
-    pub within : TableWithin (written_in thread_finding (length globals) end.found) end.table
-    pub count : length end.found ≡ length graphs
-    pub table : length end.table ≡ length graphs
-    pub wide : intervals.AreRowsWide (length globals) end.table
-    pub each : (P : Program) (k : ℕ) (graph : InlinedProgram) (g : Node) → P.globals ≡ globals →
-        slice_get graphs k ≡ Some graph → node_view graph.tree ≡ instrumented (length P.globals) g →
-        HoldsInRound P k graph g end
+    (end : ThreadsFixpoint ThreadResult) : Type 0 where
+  pub within : TableWithin (written_in thread_finding (length globals) end.found) end.table
+  pub count : length end.found ≡ length graphs
+  pub table : length end.table ≡ length graphs
+  pub wide : intervals.AreRowsWide (length globals) end.table
+  pub each : (P : Program) (k : ℕ) (graph : InlinedProgram) (g : Node) → P.globals ≡ globals →
+      slice_get graphs k ≡ Some graph → node_view graph.tree ≡ instrumented (length P.globals) g →
+      HoldsInRound P k graph g end
 
 -- Without a flag all rounds are those of the written iterations and of accesses judged by what these leave. A first
 -- flag is of a thread whose written iteration strains there, or whose accesses do behind it, and the rounds go as far

@@ -74,7 +74,6 @@ pub data RoundsEndIn {R : Type 0} (finding : ResultReadings R) (globals : ℕ)
 
 -- from empty intervals
 abbrev pub AllRounds : {R : Type 0} → ResultReadings R → ℕ → (ℕ → Interference BoxContent → R → Type 0) → ℕ →
-    ThreadsFixpoint R →
-    Type 0
+    ThreadsFixpoint R → Type 0
 AllRounds finding globals IsFound count end =
     RoundsEndIn finding globals IsFound count joining_rounds None (empty_table count globals) end

@@ -178,8 +178,7 @@ module _ (o : Interference BoxContent) (plan : Plan) (P Q : Program) (g : Node) 
   pub thread_flag : (q : ℕ) → flag_of_thread f ≡ Some q → q < m
   thread_flag q flagged =
       flagged_below (lossy_operations box_abstraction) (OpInside box_abstraction (lossy_operations box_abstraction)) (accessing_ops None g) (thread_values f)
-      f.noted.solution.flagged
-      (access_verdicts_of f)
+      f.noted.solution.flagged (access_verdicts_of f)
       (flag_of_thread f) is.accessed m many iteration_flag q flagged
 
 -- of all threads, whose trees these are

@@ -17,12 +17,11 @@ TakesTo m moves from to = Takes (lossy_operations m) moves from.value from.exact
 
 -- from this the one moves lead to the one side, and the others to the other one, over so many live variables
 pub record Splits {V H : Type 0} (m : Abstraction V H) (yes no : ℕ → Moves) (from : Kept V)
-    (sides : ConditionSplit V) : Type 0
-  where
-    pub on : TakesTo m (yes (m.dims from.value)) from sides.on
-    pub off : TakesTo m (no (m.dims from.value)) from sides.off
-    pub on_dims : m.dims sides.on.value ≡ m.dims from.value
-    pub off_dims : m.dims sides.off.value ≡ m.dims from.value
+    (sides : ConditionSplit V) : Type 0 where
+  pub on : TakesTo m (yes (m.dims from.value)) from sides.on
+  pub off : TakesTo m (no (m.dims from.value)) from sides.off
+  pub on_dims : m.dims sides.on.value ≡ m.dims from.value
+  pub off_dims : m.dims sides.off.value ≡ m.dims from.value
 
 -- a condition, as wanted and not so
 abbrev pub SplitsBy : {V H : Type 0} → Abstraction V H → ℕ → Bool → Cond → Kept V → ConditionSplit V → Type 0

@@ -37,6 +37,5 @@ points-preserved g c =
 pub returns-clause-met : goal.returns-clause-met
 returns-clause-met g c =
     last_meets (lossy_back_operations g.D.Domain.abstraction g.D.Backward.backward_abstraction) c.args.going.now.heads.items c.args.forward.now
-    c.args.going.now.flag
-    c.points.point
+    c.args.going.now.flag c.points.point
     c.points.flag c.points.values.items c.points-test.false c.requires.count c.points.invariant.still

@@ -47,6 +47,5 @@ targets-preserved g c =
 pub returns-clause-comes : goal.returns-clause-comes
 returns-clause-comes g c =
     last_from (lossy_back_operations g.D.Domain.abstraction g.D.Backward.backward_abstraction) c.args.forward.now (paths_from c.args.source.now)
-    c.args.heads.now
-    c.targets.point
+    c.args.heads.now c.targets.point
     c.targets.joined.value c.targets.joined.exactness c.targets-test.false c.targets.invariant.still

@@ -7,7 +7,6 @@ use Rattle.lra_back.proofs.paths.pre_of_all_points.Given as goal
 abbrev pub invariant-targets : goal.invariant-targets
 invariant-targets g l = record {
   still : StillFrom (lossy_back_operations g.D.Domain.abstraction g.D.Backward.backward_abstraction) l.forward (paths_from l.source) l.heads l.point
-      l.joined.value
-      l.joined.exactness;
+      l.joined.value l.joined.exactness;
   has : IfThereHas g.D.Domain.abstraction (g.D.Domain.abstraction.dims l.forward) l.joined.value;
 }

@@ -96,8 +96,7 @@ open_row-requires g c =
         c.args.others.now,
         pass_task tree c.args.memory.now,
         subst (λ (s : Plan). MayBePassed (g.F.Interfere.interference c.args.others.now) g.D.Domain.abstraction s (pass_task tree c.args.memory.now))
-            (sym shape.2)
-            c.requires.may,
+            (sym shape.2) c.requires.may,
         shape.0,
         refl,
         refl,
@@ -211,8 +210,7 @@ open_selection-requires g c =
         c.args.others.now,
         pass_task tree c.args.memory.now,
         subst (λ (s : Plan). MayBePassed (g.F.Interfere.interference c.args.others.now) g.D.Domain.abstraction s (pass_task tree c.args.memory.now))
-            (sym shape.2)
-            c.requires.may,
+            (sym shape.2) c.requires.may,
         shape.0,
         refl,
         refl,

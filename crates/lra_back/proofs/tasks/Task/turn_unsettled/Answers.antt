@@ -29,7 +29,6 @@ returns-clause-going g c =
     record {
       heads = c.in_ok-stable.ensures.heads;
       settled = turned_settled (lossy_back_operations g.D.Domain.abstraction g.D.Backward.backward_abstraction) task c.args.mode p before.flag
-          before.heads.items later.flag
-          stable
+          before.heads.items later.flag stable
           turns.0 later.heads.items before.settled.items c.settle.new.settled.items c.requires.going.settled turns.1 turns.2 settles;
     }

@@ -23,8 +23,7 @@ rounds-preserved g c =
     record {
       going = c.in_ok-round.ensures.going;
       still = next_round (lossy_back_operations g.D.Domain.abstraction g.D.Backward.backward_abstraction) (task_view c.args.self.now)
-          (length c.args.self.now.forward.now)
-          first.flag
+          (length c.args.self.now.forward.now) first.flag
           first.heads.items now.flag now.heads.items later.flag later.heads.items c.in_ok-round.field-0 c.if-branch.false c.rounds.invariant.still
           c.in_ok-round.ensures.round;
     }

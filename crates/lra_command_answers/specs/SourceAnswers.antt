@@ -1,0 +1,29 @@
+-- What a source deserves of which a command tells something: the text of its one refusal, or what is told of it.
+use Rattle.std.specs.Prelude.{◌≡◌, ◌⊎◌, ℕ, List}
+use Rattle.lra_base.specs.declared.refusals.Cause.{Cause}
+use Rattle.lra_base.specs.declared.refusals.Place.{Place}
+use Rattle.lra_syntax.specs.Trees.{FileTree}
+use Rattle.lra_syntax.specs.Grammar.{Spells}
+use Rattle.lra_resolution_spec.specs.Refuse.{Refuse, Accepts}
+use Rattle.lra_report.specs.RefusalText.{refusal_text}
+use Rattle.lra_front_end.specs.Claims.{HasRefusal}
+use Rattle.lra_command_answers.specs.Statuses.{refused}
+use Rattle.lra_command_answers.specs.declared.status.Status.{Status}
+use Rattle.lra_command_answers.specs.declared.status.Status.TheVariants.{Refused}
+
+-- the text is that of the source's refusal
+pub record IsRefusal (bytes text : List ℕ) : Type 0 where
+  pub cause : Cause
+  pub place : Place
+  pub refused : Refuse Spells bytes cause place
+  pub written : text ≡ refusal_text cause place
+
+-- the text and the status that a source's bytes deserve, where these are told of it
+abbrev pub AnswersSourceWith : (List ℕ → List ℕ → Status → Type 0) → List ℕ → List ℕ → Status → Type 0
+AnswersSourceWith Tells bytes text status = (IsRefusal bytes text × (status ≡ Refused)) ⊎ Tells bytes text status
+
+-- by one of these a source is answered: its refusal, where it has one, and where it is accepted what is told, whose
+-- statuses these are
+abbrev pub AllowedSourceStatuses : List Status → List ℕ → List Status → Type 0
+AllowedSourceStatuses told bytes among = (HasRefusal bytes × (among ≡ refused))
+    ⊎ ((tree : FileTree) × Accepts Spells bytes tree × (among ≡ told))

@@ -1,0 +1,11 @@
+-- The options from here on are still to be read.
+use Rattle.std.proofs.Common.{◌≡◌, Some, drop, fold}
+use Rattle.clap.specs.Words.{found_of, rows_of}
+use Rattle.lra_options.specs.OptionRows.{number_options}
+use Rattle.lra_command_line.specs.ParsedCommand.{with_number}
+use Rattle.lra_command_line.proofs.words.read_numbers.Given as goal
+
+abbrev pub invariant-loop-option : goal.invariant-loop-option
+invariant-loop-option l =
+    fold (with_number (rows_of (found_of l.matches))) (Some l.read) (drop l.option-index number_options)
+    ≡ fold (with_number (rows_of (found_of l.matches))) (Some l.initial.read) number_options

@@ -1,0 +1,49 @@
+-- From what a source deserves that is gone back over to what is claimed of its report.
+use Rattle.std.proofs.Common.{◌≡◌, ℕ, suc, List, subst, inl, inr}
+use Rattle.std.specs.Prelude.{Option}
+use Rattle.std.specs.Io.KnownBytes.{Appends}
+use Rattle.lra_certificate_spec.proofs.OneProgram.{accepted_of}
+use Rattle.lra_back_source.proofs.Showing.{backs_same_points}
+use Rattle.lra_back_source.proofs.Sound.{backs_sound, proved_at_first}
+use Rattle.lra_back_source.proofs.Strained.{unflagged_defined, flagged_strain}
+use Rattle.lra_command_line.specs.ParsedCommand.{Asks}
+use Rattle.lra_command_line.specs.declared.commands.Command.TheVariants.{Back}
+use Rattle.lra_command_answers.specs.Statuses.{Ends, reported}
+use Rattle.lra_commands.specs.BackAnswer.{AnswersBack, IsBackAnswer}
+use Rattle.lra_commands.specs.Run.{IsInput, WritesAnswer}
+use Rattle.lra_commands.specs.OutputClaims.{WritesBack}
+use Rattle.lra_commands.proofs.Certified.{not_refused}
+use Rattle.lra_commands.proofs.Ways.{asked_input}
+use Rattle.lra_command_answers.specs.declared.status.Status.{Status}
+
+of_back : (number : ℕ) (left held_old held_new : Option (List ℕ)) (bytes text : List ℕ) (status : Status) (point : ℕ) → IsInput left bytes
+    → number ≡ suc point → IsBackAnswer point bytes text status → Appends held_old held_new text → WritesBack number left held_old held_new status
+of_back number left held_old held_new bytes text status point input numbered b written = record {
+  bytes = bytes;
+  input = input;
+  point = point;
+  numbered = numbered;
+  report = b.report;
+  answers = b.answers;
+  accepted = accepted_of bytes b.answers.program;
+  holds = backs_sound bytes point b.report b.answers;
+  first = proved_at_first bytes point b.report b.answers;
+  is_defined = unflagged_defined bytes point b.report b.answers;
+  strains = flagged_strain bytes point b.report b.answers;
+  same_points = backs_same_points bytes point b.report b.answers;
+  counted = b.counted;
+  written = subst (Appends held_old held_new) b.written written;
+}
+
+of_answer : (number : ℕ) (left held_old held_new : Option (List ℕ)) (bytes text : List ℕ) (status : Status) → IsInput left bytes → Ends reported status
+    → AnswersBack number bytes text status → Appends held_old held_new text → WritesBack number left held_old held_new status
+of_answer number left held_old held_new bytes text status input ends d written = elim d.answer [
+  | inl (r, is) ↦ absurd (not_refused status is ends)
+  | inr b ↦ of_back number left held_old held_new bytes text status d.point input d.numbered b written
+]
+
+pub writes_back : (number : ℕ) (words : List (List ℕ)) (left held_old held_new : Option (List ℕ)) (status : Status) → Asks words (Back number)
+    → Ends reported status → WritesAnswer words left held_old held_new status → WritesBack number left held_old held_new status
+writes_back number words left held_old held_new status asks ends w =
+    of_answer number left held_old held_new w.answers.bytes w.text status w.answers.input ends
+    (asked_input words left w.text status (Back number) asks w.answers) w.written

@@ -1,0 +1,224 @@
+-- From what a source deserves to what is claimed of its report.
+use Rattle.std.proofs.Common.{◌≡◌, ◌∙◌, ℕ, ℤ, List, [], ◌∷◌, length, map, Bool, true, false, ap, refl, sym, subst, inl, inr}
+use Rattle.std.specs.Prelude.{IsTrue, Option, None, Some}
+use Rattle.std.specs.List.{AllByRecursion}
+use Rattle.std.specs.Io.KnownBytes.{Appends}
+use Rattle.lra_base.specs.declared.refusals.Place.{Place}
+use Rattle.lra_options.specs.declared.options.Domain.{Domain}
+use Rattle.lra_options.specs.declared.options.Domain.TheVariants.{Poly}
+use Rattle.lra_options.specs.declared.options.Options.{Options}
+use Rattle.lra_domain.specs.Abstraction.{Abstraction}
+use Rattle.lra_program.specs.Program.{Program}
+use Rattle.lra_analysis_spec.specs.Analysis.{IsSolution}
+use Rattle.lra_analysis_spec.specs.Operations.{lossy_operations}
+use Rattle.lra_analysis_spec.specs.Fits.{Judges, JudgesIf}
+use Rattle.lra_operations.specs.Tree.{Node}
+use Rattle.lra_report_build.specs.AnalysisResults.{reported_all, reported_of}
+use Rattle.lra_analyse_source.proofs.OneReport.{unflagged_behind, unflagged_first}
+use Rattle.lra_resolution_spec.specs.Resolve.{resolve}
+use Rattle.lra_report.specs.Report.{Invariant, InvariantHolds, PointReport, Report, IsInvariant}
+use Rattle.lra_report.specs.Parts.{ShowsPart}
+use Rattle.lra_report.specs.Listing.{AreParts}
+use Rattle.lra_back_source.proofs.Showing.{same_parts}
+use Rattle.lra_back_source.proofs.Strained.{unflagged}
+use Rattle.lra_analyse_source.specs.AnalysisReport.{ReportsIteration}
+use Rattle.lra_analyse_source.specs.SourceReports.{IsAnalysisReport}
+use Rattle.lra_analyse_source.proofs.Sayings.{over_each, over_same}
+use Rattle.lra_sample.specs.Sample.{sample_source}
+use Rattle.lra_sample.specs.Summary.{summary_text}
+use Rattle.lra_command_line.specs.ParsedCommand.{Asks, default_options}
+use Rattle.lra_command_line.specs.declared.commands.Format.{Format}
+use Rattle.lra_command_line.specs.declared.commands.Command.TheVariants.{Analyse, Sample}
+use Rattle.lra_command_answers.specs.Statuses.{Ends, reported}
+use Rattle.lra_commands.specs.SourceAnswer.{AnswersSource, written_report}
+use Rattle.lra_commands.specs.Run.{IsInput, WritesAnswer}
+use Rattle.lra_commands.specs.OutputClaims.{WritesReport, IsNeverReached, HoldsInAllRuns, ReportsWritten, IsWrittenUnlessFlagged, ReportsAccessing}
+use Rattle.lra_commands.specs.OutputClaims.{ReportsAccesses, ReportsFitting, ReportsFits, HasSamePointsAt, ReportsSamePoints, WritesSummary}
+use Rattle.lra_commands.proofs.Ways.{asked_input}
+use Rattle.lra_command_answers.specs.declared.status.Status.{Status}
+use Rattle.lra_command_answers.specs.declared.status.Status.TheVariants.{Refused}
+
+-- invariants ----------------------------------------------------------------------
+
+never_reached : (P : Program) (p : PointReport) → IsInvariant P p → IsNeverReached P p
+never_reached P p holds none store at = let h : InvariantHolds [] store = subst (λ (state : Invariant). InvariantHolds state store) none (holds store at) in h
+
+all_unreached : (P : Program) (ps : List PointReport) → AllByRecursion (IsInvariant P) ps → AllByRecursion (IsNeverReached P) ps
+all_unreached P [] h = tt
+all_unreached P (p ∷ ps) h = (never_reached P p h.0, all_unreached P ps h.1)
+
+pub holds : (o : Options) (bytes : List ℕ) (r : Report) → IsAnalysisReport o bytes r → HoldsInAllRuns bytes r
+holds o bytes r a = record {
+  tree = a.report.tree;
+  accepted = a.report.accepted;
+  lists = a.report.lists;
+  sound = a.report.sound;
+  unreached = all_unreached (resolve a.report.tree) r.points a.report.sound.invariants;
+}
+
+-- the written iteration -----------------------------------------------------------
+
+tells_written : {V H : Type 0} (m : Abstraction V H) (shown : V → Invariant) (o : Options) (constants : List ℤ) (P : Program) (r : Report) → r.flagged ≡ None
+    → ReportsIteration m shown o constants P r → ReportsWritten m shown o constants P r
+tells_written m shown o constants P r free x =
+    let none_last = unflagged x.last (sym x.flag ∙ free) in
+    let none_behind = unflagged_behind m x none_last in
+    let none = unflagged_first m x none_last in
+    record {
+      tree = x.tree;
+      is_graph = x.is_graph;
+      result = x.result;
+      written = x.written none;
+      values = x.values;
+      verdicts = x.verdicts;
+      solves = subst (λ (f : Option ℕ). IsSolution m x.result x.values x.verdicts f) none x.solves;
+      states = x.states;
+      are_shown = x.are_shown;
+      fitting = x.fitting;
+      judged = x.judged_written none_behind;
+      inside = x.inside;
+      accessed = x.accessed_written none_last;
+      proved = x.proved;
+    }
+
+pub is_written : (o : Options) (bytes : List ℕ) (r : Report) → IsAnalysisReport o bytes r → IsWrittenUnlessFlagged o bytes r
+is_written o bytes r a = record {
+  tree = a.report.tree;
+  accepted = a.report.accepted;
+  constants = a.constants;
+  own = a.own;
+  tells = λ free.
+      let P = resolve a.report.tree in
+      let ks = a.constants in
+      over_each (λ V H m shown. ReportsIteration m shown o ks P r) (λ V H m shown. ReportsWritten m shown o ks P r) (λ V H m shown x. tells_written m shown o ks P r free x) o a.analysed;
+}
+
+-- accesses ------------------------------------------------------------------------
+
+abbrev tells_accessing : {V H : Type 0} (m : Abstraction V H) (shown : V → Invariant) (o : Options) (constants : List ℤ) (P : Program) (r : Report)
+    → ReportsIteration m shown o constants P r → ReportsAccessing m shown o P r
+tells_accessing m shown o constants P r x = record {
+  tree = x.tree;
+  is_graph = x.is_graph;
+  values = x.values;
+  states = x.states;
+  are_shown = x.are_shown;
+  verdicts = x.verdicts;
+  fitting = x.fitting;
+  flag_before = x.overflow_flag;
+  inside = x.inside;
+  last = x.last;
+  accessed = x.accessed;
+  told = x.proved;
+  flag = x.flag;
+}
+
+pub tells_accesses : (o : Options) (bytes : List ℕ) (r : Report) → IsAnalysisReport o bytes r → ReportsAccesses o bytes r
+tells_accesses o bytes r a = record {
+  tree = a.report.tree;
+  accepted = a.report.accepted;
+  right = a.report.sound.verdicts;
+  tells =
+      let P = resolve a.report.tree in
+      over_each (λ V H m shown. ReportsIteration m shown o a.constants P r) (λ V H m shown. ReportsAccessing m shown o P r)
+      (λ V H m shown x. tells_accessing m shown o a.constants P r x) o a.analysed;
+}
+
+-- what fits -----------------------------------------------------------------------
+
+judges_so : {V H : Type 0} (m : Abstraction V H) (b : Bool) (g : Node) (values : List V) (flagged : Option ℕ) (fitting : List (ℕ × Bool)) (behind : Option ℕ) →
+    b ≡
+    true
+    → JudgesIf m (lossy_operations m) b g values flagged fitting behind → Judges m (lossy_operations m) g values flagged fitting behind
+judges_so m true g values flagged fitting behind is j = j
+judges_so m false g values flagged fitting behind is j = absurd (let wrong : ⊥ = cc in wrong)
+
+judges_none : {V H : Type 0} (m : Abstraction V H) (b : Bool) (g : Node) (values : List V) (flagged : Option ℕ) (fitting : List (ℕ × Bool)) (behind : Option ℕ)
+    → b
+    ≡ false
+    → JudgesIf m (lossy_operations m) b g values flagged fitting behind → fitting ≡ []
+judges_none m true g values flagged fitting behind is j = absurd (let wrong : ⊥ = cc in wrong)
+judges_none m false g values flagged fitting behind is j = j.0
+
+tells_fitting : {V H : Type 0} (m : Abstraction V H) (shown : V → Invariant) (o : Options) (constants : List ℤ) (P : Program) (r : Report) → IsTrue o.fits
+    → ReportsIteration m shown o constants P r → ReportsFitting m shown o P r
+tells_fitting m shown o constants P r asked x = record {
+  beside = tells_accessing m shown o constants P r x;
+  flagged = x.flagged;
+  judged = judges_so m o.fits x.tree x.values x.flagged x.fitting x.overflow_flag asked x.judged;
+}
+
+abbrev Silent : Report → Type 0
+Silent r = (verdicts : List (ℕ × Bool)) × (inside : List (ℕ × List (Place × Bool))) × (map reported_of r.verdicts ≡ reported_all verdicts [] inside)
+
+silent_so : {V H : Type 0} (m : Abstraction V H) (shown : V → Invariant) (o : Options) (constants : List ℤ) (P : Program) (r : Report) → o.fits ≡ false
+    → ReportsIteration m shown o constants P r → Silent r
+silent_so m shown o constants P r never x =
+    let none = judges_none m o.fits x.tree x.values x.flagged x.fitting x.overflow_flag never x.judged in
+    (x.verdicts, x.inside, x.proved ∙ ap (λ (f : List (ℕ × Bool)). reported_all x.verdicts f x.inside) none)
+
+pub tells_fits : (o : Options) (bytes : List ℕ) (r : Report) → IsAnalysisReport o bytes r → ReportsFits o bytes r
+tells_fits o bytes r a = record {
+  tree = a.report.tree;
+  accepted = a.report.accepted;
+  right = a.report.sound.verdicts;
+  tells = λ asked.
+      let P = resolve a.report.tree in
+      over_each (λ V H m shown. ReportsIteration m shown o a.constants P r) (λ V H m shown. ReportsFitting m shown o P r)
+      (λ V H m shown x. tells_fitting m shown o a.constants P r asked x) o a.analysed;
+  silent = λ never.
+      over_same (Silent r) o (over_each (λ V H m shown. ReportsIteration m shown o a.constants (resolve a.report.tree) r) (λ V H m shown. Silent r)
+      (λ V H m shown x. silent_so m shown o a.constants (resolve a.report.tree) r never x) o a.analysed);
+}
+
+-- rows and generators -------------------------------------------------------------
+
+same_at : (o : Options) (ps : List PointReport) → o.domain ≡ Poly → AllByRecursion (AreParts o) ps → AllByRecursion HasSamePointsAt ps
+same_at o [] is h = tt
+same_at o (p ∷ ps) is h = (
+  same_parts (length p.names) p.state (subst (λ (d : Domain). AllByRecursion (ShowsPart d (length p.names)) p.state) is h.0.tell),
+  same_at o ps is h.1,
+)
+
+pub same_points : (o : Options) (bytes : List ℕ) (r : Report) → IsAnalysisReport o bytes r → ReportsSamePoints o bytes r
+same_points o bytes r a is = same_at o r.points is a.report.parts
+
+-- what is written -----------------------------------------------------------------
+
+module _ (so : List ℕ → Report → Type 0) (left held_old held_new : Option (List ℕ)) (options : Options) (write : Report → List ℕ)
+    (claimed : (bytes : List ℕ) (r : Report) → IsAnalysisReport options bytes r → so bytes r) where
+  not_refused : (status : Status) → status ≡ Refused → Ends reported status → ⊥
+  not_refused status is (inl proved) = cc
+  not_refused status is (inr (inl unknown)) = cc
+  not_refused status is (inr (inr none)) = none
+
+  of_answer : (bytes text : List ℕ) (status : Status) → Ends reported status → IsInput left bytes → AnswersSource options write bytes text status → Appends held_old held_new text
+      → WritesReport options write so left held_old held_new
+  of_answer bytes text status ends input (inl (d, is)) written = absurd (not_refused status is ends)
+  of_answer bytes text status ends input (inr r) written = record {
+    bytes = bytes;
+    input = input;
+    report = r.report;
+    answers = r.answered;
+    written = subst (Appends held_old held_new) r.written written;
+    is_so = claimed bytes r.report r.answered;
+  }
+
+pub writes_report : (so : List ℕ → Report → Type 0) (words : List (List ℕ)) (left held_old held_new : Option (List ℕ)) (options : Options) (format : Format)
+    → ((bytes : List ℕ) (r : Report) → IsAnalysisReport options bytes r → so bytes r) → (status : Status)
+    → Asks words (Analyse options format) → Ends reported status → WritesAnswer words left held_old held_new status
+    → WritesReport options (written_report format) so left held_old held_new
+writes_report so words left held_old held_new options format claimed status asks ends w =
+    of_answer so left held_old held_new options (written_report format) claimed w.answers.bytes w.text status ends w.answers.input
+    (asked_input words left w.text status (Analyse options format) asks w.answers) w.written
+
+all_held : (bytes : List ℕ) (r : Report) → IsAnalysisReport default_options bytes r →
+    HoldsInAllRuns bytes r × IsWrittenUnlessFlagged default_options bytes r × ReportsSamePoints default_options bytes r
+all_held bytes r a = (holds default_options bytes r a, is_written default_options bytes r a, same_points default_options bytes r a)
+
+pub writes_summary : (words : List (List ℕ)) (left held_old held_new : Option (List ℕ)) (seed size : ℕ) (status : Status)
+    → Asks words (Sample seed size) → Ends reported status → WritesAnswer words left held_old held_new status
+    → WritesSummary seed size held_old held_new
+writes_summary words left held_old held_new seed size status asks ends w =
+    of_answer _ (Some (sample_source seed size)) held_old held_new default_options (summary_text seed size) all_held (sample_source seed size) w.text status ends refl
+    (asked_input words left w.text status (Sample seed size) asks w.answers) w.written

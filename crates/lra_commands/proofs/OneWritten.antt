@@ -1,0 +1,12 @@
+-- Two reports that a source deserves and that are written alike are the same.
+use Rattle.lra_command_line.specs.declared.commands.Format.TheVariants.{Lines, Json}
+use Rattle.lra_syntax.specs.Grammar.{Spells}
+use Rattle.lra_resolution_spec.specs.Refuse.{OneAnswer}
+use Rattle.lra_report_json.proofs.OneJson.{one_source_json}
+use Rattle.lra_analyse_source.proofs.OneText.{one_text}
+use Rattle.lra_commands.specs.SourceAnswer.{OneWrittenReport}
+
+pub one_written : OneAnswer Spells → OneWrittenReport
+one_written one Lines o source r s x y same = one_text one o source r s x y same
+one_written one Json o source r s x y same =
+    one_source_json Spells (λ t z h. h) r s o source (λ t u a b. (one source).0 t u a b) x.report y.report x.readable y.readable same

@@ -1,0 +1,56 @@
+-- From a report that a source deserves to how a call ends that answers it.
+use Rattle.std.proofs.Common.{◌≡◌, ◌<◌, ℕ, zero, suc, List, refl, sym, subst, arith, inl, inr}
+use Rattle.lra_base.specs.declared.refusals.Cause.{Cause}
+use Rattle.lra_base.specs.declared.refusals.Place.{Place}
+use Rattle.lra_options.specs.declared.options.Options.{Options}
+use Rattle.lra_report.specs.Report.{Report}
+use Rattle.lra_report.specs.ReportText.{unknown_count}
+use Rattle.lra_syntax.specs.Grammar.{Spells}
+use Rattle.lra_resolution_spec.specs.Refuse.{Refuse}
+use Rattle.lra_report.specs.RefusalText.{refusal_text}
+use Rattle.lra_analyse_source.specs.SourceReports.{IsAnalysisReport}
+use Rattle.lra_command_answers.specs.Statuses.{Ends, reported}
+use Rattle.lra_command_answers.proofs.ToldWays.{IsTelling}
+use Rattle.lra_command_answers.proofs.ToldWays as told
+use Rattle.lra_commands.specs.SourceAnswer.{IsReport, report_status, AnswersSource}
+use Rattle.lra_command_answers.specs.declared.status.Status.{Status}
+use Rattle.lra_command_answers.specs.declared.status.Status.TheVariants.{Proved, Unknown, Refused}
+
+-- answers ------------------------------------------------------------------------
+
+pub none_unknown : (unknown : ℕ) → unknown ≡ 0 → Proved ≡ report_status unknown
+none_unknown unknown is = subst (λ n. Proved ≡ report_status n) (sym is) refl
+
+pub some_unknown : (unknown : ℕ) → 0 < unknown → Unknown ≡ report_status unknown
+some_unknown zero some = absurd (let wrong : ⊥ = omega arith in wrong)
+some_unknown (suc n) some = refl
+
+pub ruleset counting = (none_unknown, some_unknown)
+
+-- a source with a report deserves what is written of it
+pub deserves_report : (o : Options) (write : Report → List ℕ) (bytes : List ℕ) (r : Report) (text : List ℕ) (status : Status) → IsAnalysisReport o bytes r → text ≡ write r
+    → status ≡ report_status (unknown_count r.verdicts) → AnswersSource o write bytes text status
+deserves_report o write bytes r text status answered written counted = inr (record { report = r; answered = answered; written = written; counted = counted })
+
+-- a source that is refused deserves the refusal's
+pub deserves_refusal : (o : Options) (write : Report → List ℕ) (bytes text : List ℕ) (c : Cause) (at : Place) (status : Status) → Refuse Spells bytes c at → text ≡ refusal_text c at → status ≡ Refused
+    → AnswersSource o write bytes text status
+deserves_refusal o write = told.deserves_refusal (IsReport o write)
+
+pub ruleset deserving = (deserves_report, deserves_refusal)
+
+-- the status -----------------------------------------------------------------------
+
+pub report_ends : (unknown : ℕ) → Ends reported (report_status unknown)
+report_ends zero = inl refl
+report_ends (suc n) = inr (inl refl)
+
+reported_ends : (o : Options) (write : Report → List ℕ) (bytes text : List ℕ) (status : Status) → IsReport o write bytes text status → Ends reported status
+reported_ends o write bytes text status d = subst (Ends reported) (sym d.counted) (report_ends (unknown_count d.report.verdicts))
+
+pub report_telling : (o : Options) (write : Report → List ℕ) → IsTelling (IsReport o write) reported
+report_telling o write = record {
+  accepted = λ bytes text status d. (d.answered.report.tree, d.answered.report.accepted);
+  ends = λ bytes text status d. reported_ends o write bytes text status d;
+  own = λ status ends. ends;
+}

@@ -1,0 +1,49 @@
+-- From what a source of several threads deserves to what is claimed of its report.
+use Rattle.std.proofs.Common.{ℕ, List, length, subst, inl, inr}
+use Rattle.std.specs.Prelude.{Option}
+use Rattle.std.specs.Io.KnownBytes.{Appends}
+use Rattle.lra_threads_fixpoint.proofs.FlagLemmas.{settles}
+use Rattle.lra_threads_analysis.specs.Found.{IsThreadResultOf, thread_finding}
+use Rattle.lra_threads_source.specs.ThreadsReports.{shared_program, threads_plan}
+use Rattle.lra_threads_source.proofs.Sound.{threads_sound}
+use Rattle.lra_threads_source.proofs.Strained.{unflagged_defined, flagged_strain}
+use Rattle.lra_command_line.specs.ParsedCommand.{Asks}
+use Rattle.lra_command_line.specs.declared.commands.Command.TheVariants.{Threads}
+use Rattle.lra_command_answers.specs.Statuses.{Ends, reported}
+use Rattle.lra_commands.specs.ThreadsAnswer.{AnswersThreads, IsThreadsAnswer}
+use Rattle.lra_commands.specs.Run.{IsInput, WritesAnswer}
+use Rattle.lra_commands.specs.OutputClaims.{WritesThreads}
+use Rattle.lra_commands.proofs.Certified.{not_refused}
+use Rattle.lra_commands.proofs.Ways.{asked_input}
+use Rattle.lra_command_answers.specs.declared.status.Status.{Status}
+
+module _ (delay narrow : ℕ) where
+  of_threads : (left held_old held_new : Option (List ℕ)) (bytes text : List ℕ) (status : Status) → IsInput left bytes
+      → IsThreadsAnswer delay narrow bytes text status → Appends held_old held_new text → WritesThreads delay narrow left held_old held_new status
+  of_threads left held_old held_new bytes text status input d written = record {
+    bytes = bytes;
+    input = input;
+    report = d.report;
+    answers = d.answers;
+    accepted = d.answers.program.accepted;
+    holds = threads_sound delay narrow bytes d.report d.answers;
+    found = (settles thread_finding (length (shared_program d.answers.program.tree).globals)
+        (IsThreadResultOf (threads_plan delay narrow d.answers.constants) (shared_program d.answers.program.tree) d.answers.program.operations)
+        (length d.answers.program.operations) d.answers.end d.answers.rounds).0;
+    is_defined = unflagged_defined delay narrow bytes d.report d.answers;
+    strains = flagged_strain delay narrow bytes d.report d.answers;
+    counted = d.counted;
+    written = subst (Appends held_old held_new) d.written written;
+  }
+
+  of_answer : (left held_old held_new : Option (List ℕ)) (bytes text : List ℕ) (status : Status) → IsInput left bytes → Ends reported status
+      → AnswersThreads delay narrow bytes text status → Appends held_old held_new text → WritesThreads delay narrow left held_old held_new status
+  of_answer left held_old held_new bytes text status input ends (inl (r, is)) written = absurd (not_refused status is ends)
+  of_answer left held_old held_new bytes text status input ends (inr d) written =
+      of_threads left held_old held_new bytes text status input d written
+
+  pub writes_threads : (words : List (List ℕ)) (left held_old held_new : Option (List ℕ)) (status : Status) → Asks words (Threads delay narrow)
+      → Ends reported status → WritesAnswer words left held_old held_new status → WritesThreads delay narrow left held_old held_new status
+  writes_threads words left held_old held_new status asks ends w =
+      of_answer left held_old held_new w.answers.bytes w.text status w.answers.input ends
+      (asked_input words left w.text status (Threads delay narrow) asks w.answers) w.written

@@ -1,0 +1,263 @@
+-- What is claimed of the report that a call writes, and of what it says is verified.
+use Rattle.std.specs.Prelude.{◌≡◌, ◌≤◌, ℕ, suc, ℤ, List, [], length, map, Bool, false, IsTrue, Option, None, Some}
+use Rattle.std.specs.Prelude.{◌∷◌, pos, option_map, slice_get, Contains}
+use Rattle.std.specs.List.{AllByRecursion}
+use Rattle.std.specs.Io.KnownBytes.{Appends}
+use Rattle.lra_base.specs.declared.refusals.Place.{Place}
+use Rattle.lra_options.specs.declared.options.Domain.TheVariants.{Poly}
+use Rattle.lra_options.specs.declared.options.Options.{Options}
+use Rattle.lra_syntax.specs.Trees.{FileTree}
+use Rattle.lra_syntax.specs.Grammar.{Spells}
+use Rattle.lra_resolution_spec.specs.Refuse.{Accepts}
+use Rattle.lra_resolution_spec.specs.RefuseThreads.{AcceptsThreads}
+use Rattle.lra_resolution_spec.specs.Resolve.{resolve}
+use Rattle.lra_program.specs.Program.{Program}
+use Rattle.lra_program.specs.Run.{At, Fails}
+use Rattle.lra_program.specs.Sites.{Site, sites_of}
+use Rattle.lra_operations.specs.Tree.{Node}
+use Rattle.lra_operations.specs.Agree.{IsInlinedTree, point_of}
+use Rattle.lra_linear_spec.specs.Descriptions.{LinearRow, Con}
+use Rattle.lra_domain.specs.Abstraction.{Abstraction}
+use Rattle.lra_front_end.specs.Stages.{HasConstants}
+use Rattle.lra_analysis_spec.specs.Plan.{plan_of}
+use Rattle.lra_analysis_spec.specs.Pass.{PassResult}
+use Rattle.lra_analysis_spec.specs.Analysis.{ExactIteration, IsSolution}
+use Rattle.lra_analysis_spec.specs.Operations.{exact_operations, lossy_operations}
+use Rattle.lra_analysis_spec.specs.Fits.{Judges, JudgesIf}
+use Rattle.lra_analysis_spec.specs.Accesses.{JudgesAccesses}
+use Rattle.lra_report.specs.Report.{Invariant, PointReport, Report, IsRight, IsSound}
+use Rattle.lra_report.specs.Parts.{HasSamePoints}
+use Rattle.lra_report.specs.ReportText.{unknown_count}
+use Rattle.lra_report.specs.BackText.{BackReport, back_text}
+use Rattle.lra_report.specs.Listing.{Lists}
+use Rattle.lra_report_build.specs.AnalysisResults.{reported_all, reported_of}
+use Rattle.lra_sample.specs.Sample.{sample_source}
+use Rattle.lra_sample.specs.Summary.{summary_text}
+use Rattle.lra_analyse_source.specs.SourceReports.{ForOptions, IsAnalysisReport}
+use Rattle.lra_certificate_spec.specs.Certificates.{ListedAssertion, Certificate}
+use Rattle.lra_certificate_spec.specs.Claims.{IsCertificate, greatest_certificate, program_of}
+use Rattle.lra_certify_source.specs.Settings.{certify_options}
+use Rattle.lra_certify_source.specs.Assertions.{unknown_assertions}
+use Rattle.lra_certify_source.specs.Certified.{IsCertificateOf, IsCertificateWith}
+use Rattle.lra_back_source.specs.BackReports.{ReportCoversFailingRuns, IsBackReportOf, IsDefinedBack, IsProvedAtFirst}
+use Rattle.lra_back_source.specs.BackReports.{StrainsAt}
+use Rattle.lra_report_states.specs.Shown.{AreShown}
+use Rattle.lra_threads_source.specs.ThreadsText.{ThreadsReport, threads_text}
+use Rattle.lra_threads_source.specs.ThreadsReports.{AreDefinedThreads, HoldsInInterleavings, IsThreadsReportOf}
+use Rattle.lra_threads_source.specs.ThreadsReports.{StrainsAtNumber}
+use Rattle.lra_threads_source.specs.ThreadsReports.{shared_program, threads_plan}
+use Rattle.lra_threads_fixpoint.specs.Rounds.{AreThreadResults}
+use Rattle.lra_threads_analysis.specs.Found.{IsThreadResultOf}
+use Rattle.lra_command_line.specs.ParsedCommand.{default_options}
+use Rattle.lra_command_answers.specs.declared.status.Status.{Status}
+use Rattle.lra_command_answers.specs.declared.status.Status.TheVariants.{Proved}
+use Rattle.lra_commands.specs.SourceAnswer.{report_status}
+use Rattle.lra_commands.specs.CertificateAnswer.{verified_text, AnswersCertificate}
+use Rattle.lra_commands.specs.BackAnswer.{back_status}
+use Rattle.lra_commands.specs.Run.{IsInput}
+
+-- What `write` makes of a report that the input deserves under the options is written whole, and so it is with the
+-- input's bytes and this report.
+pub record WritesReport (o : Options) (write : Report → List ℕ) (so : List ℕ → Report → Type 0)
+    (left held_old held_new : Option (List ℕ)) : Type 0 where
+  pub bytes : List ℕ
+  pub input : IsInput left bytes
+  pub report : Report
+  pub answers : IsAnalysisReport o bytes report
+  pub written : Appends held_old held_new (write report)
+  pub is_so : so bytes report
+
+-- no run comes to a point that is shown as unreachable
+abbrev pub IsNeverReached : Program → PointReport → Type 0
+IsNeverReached P p = p.state ≡ [] → (store : List ℤ) → At P p.point store → ⊥
+
+-- The report lists all points of the accepted source and what is judged of them. Each state holds whenever a run is at
+-- its point, no assertion that is marked proved fails, no run stops by a number where all is told to fit, no access
+-- that is told to be in bounds is evaluated outside its array, and no point that is shown as unreachable is reached.
+pub record HoldsInAllRuns (bytes : List ℕ) (r : Report) : Type 0 where
+  pub tree : FileTree
+  pub accepted : Accepts Spells bytes tree
+  pub lists : Lists tree r
+  pub sound : IsSound (resolve tree) r
+  pub unreached : AllByRecursion (IsNeverReached (resolve tree)) r.points
+
+-- the report tells what the written iteration finds, whose loops have these constants as thresholds where the options
+-- ask for such: at each point the state that shows its value there, whose rows
+-- mean the value, on each assertion its verdict, where it is asked for at each point at which something is computed
+-- whether all of it fits, and of each access whether it lies inside its array
+pub record ReportsWritten {V H : Type 0} (m : Abstraction V H) (shown : V → Invariant) (o : Options)
+    (constants : List ℤ)
+    (P : Program) (r : Report) : Type 0 where
+  pub tree : Node
+  pub is_graph : IsInlinedTree P tree
+  pub result : PassResult V
+  pub written : ExactIteration m (plan_of o constants) P tree result
+  pub values : List V
+  pub verdicts : List (ℕ × Bool)
+  pub solves : IsSolution m result values verdicts None
+  pub states : map (λ (p : PointReport). p.state) r.points ≡ map shown values
+  pub are_shown : AreShown m o.domain shown values
+  pub fitting : List (ℕ × Bool)
+  pub judged : JudgesIf m (exact_operations m) o.fits tree values None fitting None
+  pub inside : List (ℕ × List (Place × Bool))
+  pub accessed : JudgesAccesses m (exact_operations m) tree values None inside None
+  pub proved : map reported_of r.verdicts ≡ reported_all verdicts fitting inside
+
+-- where nothing is flagged, every value is the written iteration's, by the source's own constants
+pub record IsWrittenUnlessFlagged (o : Options) (bytes : List ℕ) (r : Report) : Type 0 where
+  pub tree : FileTree
+  pub accepted : Accepts Spells bytes tree
+  pub constants : List ℤ
+  pub own : HasConstants bytes constants
+  pub tells : r.flagged ≡ None → ForOptions o (λ V H m shown. ReportsWritten m shown o constants (resolve tree) r)
+
+-- A line for each access of an array, in the order in which they are evaluated at each point, tells whether it is in
+-- bounds by the values whose states are shown: it is unknown exactly where these leave an index outside. Behind what is
+-- flagged of all else stands what is flagged of that.
+pub record ReportsAccessing {V H : Type 0} (m : Abstraction V H) (shown : V → Invariant) (o : Options) (P : Program)
+    (r : Report) : Type 0 where
+  pub tree : Node
+  pub is_graph : IsInlinedTree P tree
+  pub values : List V
+  pub states : map (λ (p : PointReport). p.state) r.points ≡ map shown values
+  pub are_shown : AreShown m o.domain shown values
+  pub verdicts : List (ℕ × Bool)
+  pub fitting : List (ℕ × Bool)
+  pub flag_before : Option ℕ
+  pub inside : List (ℕ × List (Place × Bool))
+  pub last : Option ℕ
+  pub accessed : JudgesAccesses m (lossy_operations m) tree values flag_before inside last
+  pub told : map reported_of r.verdicts ≡ reported_all verdicts fitting inside
+  pub flag : r.flagged ≡ option_map suc last
+
+-- and no run evaluates an access outside its array that is told to be in bounds
+pub record ReportsAccesses (o : Options) (bytes : List ℕ) (r : Report) : Type 0 where
+  pub tree : FileTree
+  pub accepted : Accepts Spells bytes tree
+  pub right : AllByRecursion (IsRight (resolve tree)) r.verdicts
+  pub tells : ForOptions o (λ V H m shown. ReportsAccessing m shown o (resolve tree) r)
+
+-- Where it is asked for, a line for each point at which something is computed tells whether all of it fits by the
+-- values whose states are shown: it may overflow exactly where something doesn't.
+pub record ReportsFitting {V H : Type 0} (m : Abstraction V H) (shown : V → Invariant) (o : Options) (P : Program)
+    (r : Report) : Type 0 where
+  pub beside : ReportsAccessing m shown o P r
+  pub flagged : Option ℕ
+  pub judged : Judges m (lossy_operations m) beside.tree beside.values flagged beside.fitting beside.flag_before
+
+-- and where all of it fits no run stops there by a number; where it isn't asked for nothing is told of it
+pub record ReportsFits (o : Options) (bytes : List ℕ) (r : Report) : Type 0 where
+  pub tree : FileTree
+  pub accepted : Accepts Spells bytes tree
+  pub right : AllByRecursion (IsRight (resolve tree)) r.verdicts
+  pub tells : IsTrue o.fits → ForOptions o (λ V H m shown. ReportsFitting m shown o (resolve tree) r)
+  pub silent : o.fits ≡ false → (verdicts : List (ℕ × Bool)) × (inside : List (ℕ × List (Place × Bool))) ×
+      (map reported_of r.verdicts ≡ reported_all verdicts [] inside)
+
+abbrev pub HasSamePointsAt : PointReport → Type 0
+HasSamePointsAt p = AllByRecursion (HasSamePoints (length p.names)) p.state
+
+-- over polyhedra the rows and the generators of each part tell the same points, flagged or not
+abbrev pub ReportsSamePoints : Options → List ℕ → Report → Type 0
+ReportsSamePoints o bytes r = o.domain ≡ Poly → AllByRecursion HasSamePointsAt r.points
+
+-- what is told of a report of the sample is written whole, and all of this is claimed of that report
+abbrev pub WritesSummary : ℕ → ℕ → Option (List ℕ) → Option (List ℕ) → Type 0
+WritesSummary seed size held_old held_new = WritesReport default_options (summary_text seed size)
+    (λ source r. HoldsInAllRuns source r × IsWrittenUnlessFlagged default_options source r
+    × ReportsSamePoints default_options source r)
+    (Some (sample_source seed size)) held_old held_new
+
+-- In all runs the rows of a certificate hold whenever a run is at their point, no run comes to a point that is empty
+-- there, and no listed assertion is false. Points are counted from 0.
+pub record IsVerifiedInAllRuns (P : Program) (c : Certificate) : Type 0 where
+  pub rows : (q : ℕ) (s : Site) (store : List ℤ) (given : List LinearRow) → slice_get (sites_of P) q ≡ Some s →
+      slice_get c.states q ≡ Some (Some given) → At P (point_of s) store → Con given (pos 1 ∷ store)
+  pub unreached : (q : ℕ) (s : Site) (store : List ℤ) → slice_get (sites_of P) q ≡ Some s →
+      slice_get c.states q ≡ Some None → At P (point_of s) store → ⊥
+  pub asserted : (one : ListedAssertion) (s : Site) → Contains c.asserted one →
+      slice_get (sites_of P) one.number ≡ Some s →
+      Fails P (point_of s) → ⊥
+
+-- the input is a certificate that meets the program of its source, all of this is so of it, and the numbers of its
+-- points and of its listed assertions are written whole
+pub record WritesVerified (left held_old held_new : Option (List ℕ)) : Type 0 where
+  pub bytes : List ℕ
+  pub input : IsInput left bytes
+  pub is : IsCertificate bytes
+  pub accepted : Accepts Spells is.certificate.source is.program.tree
+  pub holds : IsVerifiedInAllRuns (resolve is.program.tree) is.certificate
+  pub written : Appends held_old held_new
+      (verified_text (length (sites_of (resolve is.program.tree))) (length is.certificate.asserted))
+
+-- The certificate of a report that the input deserves, in which nothing is narrowed, is written whole: it has the rows,
+-- the empty points and the proved assertions of that report, of which all is claimed that is claimed of reports, and the
+-- status is that of its assertions alone. It is a certificate that meets its program, so it deserves to be verified
+-- where it isn't too long.
+pub record WritesCertificate (left held_old held_new : Option (List ℕ)) (status : Status) : Type 0 where
+  pub bytes : List ℕ
+  pub input : IsInput left bytes
+  pub report : Report
+  pub answers : IsAnalysisReport certify_options bytes report
+  pub holds : HoldsInAllRuns bytes report
+  pub written_iteration : IsWrittenUnlessFlagged certify_options bytes report
+  pub fits : ReportsFits certify_options bytes report
+  pub accesses : ReportsAccesses certify_options bytes report
+  pub same_points : ReportsSamePoints certify_options bytes report
+  pub counted : status ≡ report_status (unknown_assertions report.verdicts)
+  pub text : List ℕ
+  pub certificate : IsCertificateOf bytes report text
+  pub meets : IsCertificateWith bytes certificate.states certificate.proved text
+  pub verifies : length text ≤ greatest_certificate → AnswersCertificate text
+      (verified_text (length certificate.states) (length certificate.proved)) Proved
+  pub written : Appends held_old held_new text
+
+-- At each point of the input's program, whose forward analysis is gone back over, what is left of the stores from which
+-- the assertion of this number may fail is written whole. A point's state holds at each store with which a run comes
+-- there that goes on to fail at the assertion, flagged or not; rows and generators tell the same points. No run fails
+-- where the assertion is proved, and the status says whether it is: exactly where the point to which paths from the start
+-- lead is shown as unreachable. Without a flag all that is shown is as it is defined, over the values of the written
+-- iteration; the number of a flag is that of a point of which an operation strains, and all before it is exact.
+pub record WritesBack (number : ℕ) (left held_old held_new : Option (List ℕ)) (status : Status) : Type 0 where
+  pub bytes : List ℕ
+  pub input : IsInput left bytes
+  pub point : ℕ
+  pub numbered : number ≡ suc point
+  pub report : BackReport
+  pub answers : IsBackReportOf bytes point report
+  pub accepted : Accepts Spells bytes answers.program.tree
+  pub holds : ReportCoversFailingRuns (program_of answers.program) point report
+  pub first : IsProvedAtFirst (program_of answers.program) answers.program.operations report
+  pub is_defined : report.flagged ≡ None →
+      IsDefinedBack answers.constants (program_of answers.program) answers.program.operations point report
+  pub strains : (q : ℕ) → report.flagged ≡ Some (suc q) →
+      StrainsAt answers.constants (program_of answers.program) answers.program.operations point q
+  pub same_points : AllByRecursion HasSamePointsAt report.points
+  pub counted : status ≡ back_status report.proved
+  pub written : Appends held_old held_new (back_text report)
+
+-- What is found of the input's threads is written whole. It holds in every interleaving of their steps: the state of a
+-- point whenever its thread is there, whatever the others have done by then; no assertion that is marked proved fails,
+-- no access that is told to be in bounds is evaluated outside its array, no thread comes to a point that is shown as
+-- unreachable, and whatever value a thread gives a global variable lies in the interval that is told for these two. The
+-- status says whether some verdict is unknown. Flagged or not, what is shown of a thread was found of it among what the
+-- settled intervals tell of the others: a verdict is unknown exactly where the values that are shown say so. Without a
+-- flag all that is shown is as it is defined, round by round; the number of a flag is that of a point of which an
+-- operation strains in the written rounds, all before it exact.
+pub record WritesThreads (delay narrow : ℕ) (left held_old held_new : Option (List ℕ)) (status : Status) : Type 0 where
+  pub bytes : List ℕ
+  pub input : IsInput left bytes
+  pub report : ThreadsReport
+  pub answers : IsThreadsReportOf delay narrow bytes report
+  pub accepted : AcceptsThreads Spells bytes answers.program.tree
+  pub holds : HoldsInInterleavings answers.program.tree report
+  pub found : AreThreadResults (length (shared_program answers.program.tree).globals)
+      (IsThreadResultOf (threads_plan delay narrow answers.constants) (shared_program answers.program.tree)
+      answers.program.operations) (length answers.program.operations) answers.end.table answers.end.found
+  pub is_defined : report.flagged ≡ None → AreDefinedThreads (threads_plan delay narrow answers.constants)
+      answers.program.tree answers.program.operations report
+  pub strains : (number : ℕ) → report.flagged ≡ Some number →
+      StrainsAtNumber (threads_plan delay narrow answers.constants) answers.program.tree answers.program.operations
+      number
+  pub counted : status ≡ report_status (unknown_count report.verdicts)
+  pub written : Appends held_old held_new (threads_text report)

@@ -1,0 +1,41 @@
+-- What a source of several threads deserves: the text of its one refusal, or of a report of what is found of them, by
+-- these two options of the iteration.
+use Rattle.std.specs.Prelude.{◌≡◌, ◌⊎◌, ℕ, List}
+use Rattle.lra_base.specs.declared.refusals.Cause.{Cause}
+use Rattle.lra_base.specs.declared.refusals.Place.{Place}
+use Rattle.lra_syntax.specs.Trees.{FileTree}
+use Rattle.lra_syntax.specs.Grammar.{Spells}
+use Rattle.lra_resolution_spec.specs.RefuseThreads.{RefuseThreads, AcceptsThreads}
+use Rattle.lra_report.specs.RefusalText.{refusal_text}
+use Rattle.lra_report.specs.ReportText.{unknown_count}
+use Rattle.lra_threads_front_end.specs.Claims.{HasThreadsRefusal}
+use Rattle.lra_threads_source.specs.ThreadsText.{ThreadsReport, threads_text}
+use Rattle.lra_threads_source.specs.ThreadsReports.{IsThreadsReportOf}
+use Rattle.lra_command_answers.specs.Statuses.{refused, reported}
+use Rattle.lra_command_answers.specs.declared.status.Status.{Status}
+use Rattle.lra_command_answers.specs.declared.status.Status.TheVariants.{Refused}
+use Rattle.lra_commands.specs.SourceAnswer.{report_status}
+
+-- the text is that of the source's refusal as a program of several threads
+pub record IsThreadsRefusal (bytes text : List ℕ) : Type 0 where
+  pub cause : Cause
+  pub place : Place
+  pub refused : RefuseThreads Spells bytes cause place
+  pub written : text ≡ refusal_text cause place
+
+-- the text is that of a report which the source deserves, and the status tells whether some verdict is unknown
+pub record IsThreadsAnswer (delay narrow : ℕ) (bytes text : List ℕ) (status : Status) : Type 0 where
+  pub report : ThreadsReport
+  pub answers : IsThreadsReportOf delay narrow bytes report
+  pub written : text ≡ threads_text report
+  pub counted : status ≡ report_status (unknown_count report.verdicts)
+
+-- the text and the status that a source's bytes deserve
+abbrev pub AnswersThreads : ℕ → ℕ → List ℕ → List ℕ → Status → Type 0
+AnswersThreads delay narrow bytes text status = (IsThreadsRefusal bytes text × (status ≡ Refused))
+    ⊎ IsThreadsAnswer delay narrow bytes text status
+
+-- by one of these it is answered: its refusal, where it has one, and a report where it is accepted
+abbrev pub AllowedThreadsStatuses : List ℕ → List Status → Type 0
+AllowedThreadsStatuses bytes among = (HasThreadsRefusal bytes × (among ≡ refused))
+    ⊎ ((tree : FileTree) × AcceptsThreads Spells bytes tree × (among ≡ reported))

@@ -1,0 +1,23 @@
+// One text or JSON, one report; one answer for each input that is to be a certificate; one refusal of a source that is
+// to be gone back over.
+ghost use Rattle.lra_commands.specs.BackAnswer.{OneBackRefusal};
+ghost use Rattle.lra_commands.specs.CertificateAnswer.{EachCertificateAnswer};
+ghost use Rattle.lra_commands.specs.SourceAnswer.{OneWrittenReport};
+
+/// Two reports that a source deserves under one list of options and that are written alike, in one format, are the
+/// same report.
+pub fn one_written_report()
+    ensures { OneWrittenReport }
+{
+    lra_front_end::one_answer();
+}
+
+/// Each input that is to be a certificate deserves one text and one status.
+pub fn each_certificate_answer()
+    ensures { EachCertificateAnswer }
+{}
+
+/// A source that isn't gone back over from an assertion is refused in one way.
+pub fn one_back_refusal()
+    ensures { OneBackRefusal }
+{}

@@ -1,6 +1,0 @@
--- Goals of `each_certificate_answer`: each input that is to be a certificate deserves one text and one status.
-use Rattle.lra_top.proofs.CertificateWays.{each_answer}
-use Rattle.lra_top.proofs.law.each_certificate_answer.Goals as goal
-
-pub returns : goal.returns
-returns c = λ bytes. each_answer bytes

@@ -1,7 +1,0 @@
--- Goals of `one_written_report`: two reports that a source deserves under one list of options and that are written
--- alike, in one format, are the same report.
-use Rattle.lra_top.proofs.OneWritten.{one_written}
-use Rattle.lra_top.proofs.law.one_written_report.Goals as goal
-
-pub returns : goal.returns
-returns c = one_written c.one_answer.ensures

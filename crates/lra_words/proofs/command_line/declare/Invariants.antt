@@ -1,8 +1,0 @@
--- So far the first subcommands are declared.
-use Rattle.std.proofs.Common.{◌≡◌, take}
-use Rattle.clap.specs.Words.{app_of}
-use Rattle.lra_words.specs.CommandLine.{begun, subcommands, with_subcommands}
-use Rattle.lra_words.proofs.command_line.declare.Given as goal
-
-abbrev pub invariant-loop-named : goal.invariant-loop-named
-invariant-loop-named l = app_of l.declared ≡ with_subcommands l.domains (take l.named-index subcommands) begun

@@ -1,7 +1,0 @@
--- Goals of `parse_command`: `Usage` comes exactly where the command line doesn't take the words, `Memory` only for want
--- of memory.
-use Rattle.lra_words.proofs.ParsedWords.{unasked_asks_none}
-use Rattle.lra_words.proofs.words.parse_command.Goals as goal
-
-pub returns-in-Err-clause-usage : goal.returns-in-Err-clause-usage
-returns-in-Err-clause-usage c = λ e. unasked_asks_none _ c.in-Err.why c.in-Err.ensures.none (let is = c.refusal.ensures in cc)
