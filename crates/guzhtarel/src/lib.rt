@@ -22,12 +22,10 @@ pub use lra_octagon as octagons;
 pub use lra_octagon::Octagon;
 pub use lra_poly as poly;
 pub use lra_poly::{Outcome, Poly};
-pub use lra_poly_dimensions as maps;
-pub use lra_poly_dimensions::{embed, remove_last, time_elapse};
 pub use lra_poly_domain as polyhedra;
 pub use lra_poly_domain::Polyhedron;
-pub use lra_poly_images as images;
-pub use lra_poly_images::{forget, image, preimage};
+pub use lra_poly_images as maps;
+pub use lra_poly_images::{embed, forget, image, preimage, remove_last, time_elapse};
 pub use lra_poly_queries as queries;
 pub use lra_poly_queries::{
     Extent, Fraction, Minimum, Relation, least_box, minimise, polyhedra_of, relate, simplify,

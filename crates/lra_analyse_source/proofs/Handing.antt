@@ -27,8 +27,8 @@ use Rattle.lra_analysis_spec.specs.Analysis.{LossyIteration, IsSolution}
 use Rattle.lra_fixpoint.specs.Numbers.{values_in, checks_in, asserts_of, IsNumbered}
 use Rattle.lra_fixpoint.proofs.Counting.{Found, iteration_found, value_counted, failing_counted, counted_value, counted_failing}
 use Rattle.lra_report_build.specs.AnalysisResults.{IsAssertion, ReportedVerdict, reported_verdict, reported_from, reported_accesses}
-use Rattle.lra_report_states.specs.Canonical.{AreCanonicallyShown, IsCanonicalState}
-use Rattle.lra_report_states.specs.Shown.{AreShown}
+use Rattle.lra_report_build.specs.Canonical.{AreCanonicallyShown, IsCanonicalState}
+use Rattle.lra_report_build.specs.Shown.{AreShown}
 use Rattle.lra_analyse_source.proofs.Numbering.{numbered}
 use Rattle.lra_analyse_source.proofs.Flags.{IsBelow, graph_below, iteration_below}
 use Rattle.lra_fixpoint.proofs.Widths.{values_wide}

@@ -12,7 +12,7 @@ use Rattle.lra_poly_domain.specs.Laws.{polyhedron_single, polyhedron_base}
 use Rattle.lra_powerset.specs.Content.{SetContent, SetHead}
 use Rattle.lra_powerset.specs.Abstraction.{set_abstraction}
 use Rattle.lra_powerset.specs.Single.{set_single}
-use Rattle.lra_report_states.specs.Sets.{shown_set}
+use Rattle.lra_report_build.specs.Sets.{shown_set}
 use Rattle.lra_resolution_spec.specs.LiveNames.{globals_named}
 use Rattle.lra_options.specs.declared.options.Domain.{Domain}
 use Rattle.lra_options.specs.declared.options.Domain.TheVariants.{Poly, Box, Oct}

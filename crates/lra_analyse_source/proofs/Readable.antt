@@ -11,10 +11,10 @@ use Rattle.lra_resolution_spec.specs.ShownNames.{shown_names}
 use Rattle.lra_report.specs.Listing.{HasWidth, AreListed, Lists}
 use Rattle.lra_resolution_spec.specs.LiveNames.{live_names, globals_named}
 use Rattle.lra_report.specs.Spelled.{IsSpelledPart, IsReadablePart, IsReadablePoint, IsSmallFlag, IsReadable}
-use Rattle.lra_resolution_sound.proofs.Named.{shown_as_many}
+use Rattle.lra_front_end.proofs.Named.{shown_as_many}
 use Rattle.lra_options.specs.declared.options.Domain.{Domain}
 use Rattle.lra_options.specs.declared.options.Options.{Options}
-use Rattle.lra_report_states.specs.Canonical.{IsCanonicalState}
+use Rattle.lra_report_build.specs.Canonical.{IsCanonicalState}
 use Rattle.lra_analyse_source.specs.SourceReports.{AreCanonical}
 
 state_readable : (n : ℕ) (ps : Invariant) → AllByRecursion IsSpelledPart ps → AllByRecursion (HasWidth n) ps → AllByRecursion (IsReadablePart n) ps

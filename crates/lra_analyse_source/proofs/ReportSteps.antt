@@ -35,8 +35,8 @@ use Rattle.lra_fixpoint.specs.Solved.{IsSolved}
 use Rattle.lra_report_build.specs.AnalysisResults.{AreInvariants, AreVerdicts, AreFitting, AreAccessVerdicts, ReportedVerdict, state_of, reported_of}
 use Rattle.lra_report_build.specs.AnalysisResults.{reported_all}
 use Rattle.lra_report.specs.Spelled.{IsSpelledPart}
-use Rattle.lra_report_states.specs.Canonical.{AreCanonicallyShown}
-use Rattle.lra_report_states.specs.Shown.{AreShown}
+use Rattle.lra_report_build.specs.Canonical.{AreCanonicallyShown}
+use Rattle.lra_report_build.specs.Shown.{AreShown}
 use Rattle.lra_front_end.specs.Stages.{HasInlinedTree}
 use Rattle.lra_analyse_source.specs.Stages.{IsReportOfTree, ReportsSolution}
 use Rattle.lra_analyse_source.proofs.Fitting.{tree_fits, few_globals}

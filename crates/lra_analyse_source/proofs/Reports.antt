@@ -41,7 +41,7 @@ use Rattle.lra_analyse_source.specs.AnalysisReport.{ReportsIteration}
 use Rattle.lra_analyse_source.proofs.Numbering.{numbered}
 use Rattle.lra_fixpoint.proofs.Counting.{iteration_fails_once}
 use Rattle.lra_analyse_source.proofs.Flags.{IsBelow, graph_below, iteration_below}
-use Rattle.lra_resolution_sound.proofs.Named.{shown_as_many}
+use Rattle.lra_front_end.proofs.Named.{shown_as_many}
 use Rattle.lra_analyse_source.proofs.Handing.{as_many, contained, one_access, one_told, value_dims}
 use Rattle.lra_analyse_source.proofs.Found.{flagged_below}
 use Rattle.lra_analyse_source.proofs.Sound.{value_there, proved_holds, IsListed, listed_all, IsOn, judged_all}

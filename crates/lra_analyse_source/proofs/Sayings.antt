@@ -10,11 +10,11 @@ use Rattle.lra_program.specs.Program.{Program}
 use Rattle.lra_box.specs.Abstraction.{box_abstraction}
 use Rattle.lra_octagon.specs.Abstraction.{octagon_abstraction}
 use Rattle.lra_poly_domain.specs.Abstraction.{polyhedron_abstraction}
-use Rattle.lra_report_states.specs.Polyhedra.{shown_polyhedron}
-use Rattle.lra_report_states.specs.Shown.{shown_state}
+use Rattle.lra_report_build.specs.Polyhedra.{shown_polyhedron}
+use Rattle.lra_report_build.specs.Shown.{shown_state}
 use Rattle.lra_powerset.specs.Content.{SetContent, SetHead}
 use Rattle.lra_powerset.specs.Abstraction.{set_abstraction}
-use Rattle.lra_report_states.specs.Sets.{shown_set}
+use Rattle.lra_report_build.specs.Sets.{shown_set}
 use Rattle.lra_analyse_source.specs.AnalysisReport.{ReportsIteration}
 use Rattle.lra_analyse_source.specs.SourceReports.{DomainProperty, WithParts, ForDomain, ForOptions, IsAnalysisReportOver, ReportsAnalysis, IsAnalysisReport}
 

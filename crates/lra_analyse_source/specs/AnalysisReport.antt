@@ -17,7 +17,7 @@ use Rattle.lra_analysis_spec.specs.Operations.{exact_operations, lossy_operation
 use Rattle.lra_analysis_spec.specs.Fits.{JudgesIf}
 use Rattle.lra_analysis_spec.specs.Accesses.{JudgesAccesses}
 use Rattle.lra_report_build.specs.AnalysisResults.{reported_all, reported_of}
-use Rattle.lra_report_states.specs.Shown.{AreShown}
+use Rattle.lra_report_build.specs.Shown.{AreShown}
 
 -- `shown` is what the domain shows of a value; the program has these constants
 pub record ReportsIteration {V H : Type 0} (m : Abstraction V H) (shown : V → Invariant) (settings : Options)

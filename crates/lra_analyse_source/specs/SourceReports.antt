@@ -16,10 +16,10 @@ use Rattle.lra_octagon.specs.Abstraction.{octagon_abstraction}
 use Rattle.lra_poly_domain.specs.Abstraction.{polyhedron_abstraction}
 use Rattle.lra_powerset.specs.Content.{SetContent, SetHead}
 use Rattle.lra_powerset.specs.Abstraction.{set_abstraction}
-use Rattle.lra_report_states.specs.Polyhedra.{shown_polyhedron}
-use Rattle.lra_report_states.specs.Sets.{shown_set}
-use Rattle.lra_report_states.specs.Canonical.{IsCanonicalState}
-use Rattle.lra_report_states.specs.Shown.{shown_state}
+use Rattle.lra_report_build.specs.Polyhedra.{shown_polyhedron}
+use Rattle.lra_report_build.specs.Sets.{shown_set}
+use Rattle.lra_report_build.specs.Canonical.{IsCanonicalState}
+use Rattle.lra_report_build.specs.Shown.{shown_state}
 use Rattle.lra_front_end.specs.Stages.{HasConstants}
 use Rattle.lra_analyse_source.specs.AnalysisReport.{ReportsIteration}
 

@@ -27,8 +27,7 @@ use lra_operations::Node;
 use lra_options::Options;
 use lra_overflow_checks::{OverflowVerdicts, judge};
 use lra_report::Report;
-use lra_report_build::{Findings, Outline, list};
-use lra_report_states::{Show, states_of};
+use lra_report_build::{Findings, Outline, Show, list, states_of};
 use std::alloc::{AllocError, Global};
 
 /// Which operations of a tree fit, where it is asked for; else nothing is told, and nothing done.

@@ -26,7 +26,7 @@ use lra_options::{Domain, Options};
 use lra_poly_domain::Polyhedron;
 use lra_powerset::PowerSet;
 use lra_report::Report;
-use lra_report_states::Show;
+use lra_report_build::Show;
 use std::alloc::{AllocError, Global};
 
 /// The report of the iteration over the tree of operations of what is read of a source.

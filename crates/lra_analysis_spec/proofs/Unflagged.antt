@@ -1,6 +1,6 @@
 -- What a derivation with drops says of the written iteration.
 use Rattle.std.proofs.Common.{◌≡◌, ℕ, Option, None, Some, refl, inl, inr}
-use Rattle.lra_interference.specs.Interference.{Interference, no_interference}
+use Rattle.lra_domain.specs.Interference.{Interference, no_interference}
 use Rattle.lra_domain.specs.Abstraction.{Abstraction}
 use Rattle.lra_domain.specs.Laws.{Laws}
 use Rattle.lra_domain.specs.declared.Exactness.{Exactness}

@@ -4,7 +4,7 @@ use Rattle.lra_domain.specs.Abstraction.{Abstraction}
 use Rattle.lra_domain.specs.Parts.{CapsWithin}
 use Rattle.lra_domain.specs.declared.Exactness.{Exactness}
 use Rattle.lra_domain.specs.declared.Exactness.TheVariants.{Exact, Flagged}
-use Rattle.lra_interference.specs.Interference.{Interference, Absorbs}
+use Rattle.lra_domain.specs.Interference.{Interference, Absorbs}
 use Rattle.lra_program.specs.Program.{Program}
 use Rattle.lra_operations.specs.Tree.{Node}
 use Rattle.lra_analysis_spec.specs.Plan.{Plan}

@@ -16,11 +16,11 @@ use Rattle.lra_front_end.specs.Stages.{HasInlinedTree}
 use Rattle.lra_report.specs.Listing.{AreListed, HasWidth}
 use Rattle.lra_report.specs.Parts.{HasSamePoints, ShowsPart}
 use Rattle.lra_report.specs.Report.{Invariant, PointReport}
-use Rattle.lra_resolution_sound.proofs.Named.{shown_as_many}
+use Rattle.lra_front_end.proofs.Named.{shown_as_many}
 use Rattle.lra_report_build.specs.AnalysisResults.{AreInvariants, state_of}
 use Rattle.lra_poly_domain.specs.Abstraction.{polyhedron_abstraction}
-use Rattle.lra_report_states.specs.Polyhedra.{shown_polyhedron}
-use Rattle.lra_report_states.specs.Shown.{AreShown}
+use Rattle.lra_report_build.specs.Polyhedra.{shown_polyhedron}
+use Rattle.lra_report_build.specs.Shown.{AreShown}
 use Rattle.lra_analyse_source.proofs.Handing.{contained, image_of}
 use Rattle.lra_analyse_source.proofs.Sound.{listed_all}
 use Rattle.lra_back.specs.BackwardAnalysis.{AreWide}

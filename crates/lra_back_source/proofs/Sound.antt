@@ -13,7 +13,7 @@ use Rattle.lra_certificate_spec.specs.Claims.{program_of}
 use Rattle.lra_poly_domain.specs.Laws.{polyhedron_laws}
 use Rattle.lra_poly_domain.specs.Abstraction.{polyhedron_abstraction}
 use Rattle.lra_poly_domain.specs.Backward.{polyhedron_backward}
-use Rattle.lra_report_states.specs.Polyhedra.{shown_polyhedron}
+use Rattle.lra_report_build.specs.Polyhedra.{shown_polyhedron}
 use Rattle.lra_analyse_source.proofs.Handing.{contained}
 use Rattle.lra_analyse_source.proofs.Sound.{held_there, listed_all}
 use Rattle.lra_back.specs.BackwardAnalysis.{FailsFrom}

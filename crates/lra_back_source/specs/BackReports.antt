@@ -22,8 +22,8 @@ use Rattle.lra_report.specs.BackText.{BackReport}
 use Rattle.lra_report.specs.Listing.{AreListed}
 use Rattle.lra_report.specs.Parts.{HasSamePoints}
 use Rattle.lra_report.specs.Report.{PointReport, InvariantHolds}
-use Rattle.lra_report_states.specs.Polyhedra.{shown_polyhedron}
-use Rattle.lra_report_states.specs.Shown.{AreShown}
+use Rattle.lra_report_build.specs.Polyhedra.{shown_polyhedron}
+use Rattle.lra_report_build.specs.Shown.{AreShown}
 use Rattle.lra_front_end.specs.Stages.{HasConstants}
 use Rattle.lra_analysis_spec.specs.Accesses.{JudgesAccesses}
 use Rattle.lra_analysis_spec.specs.Analysis.{ExactIteration, IsSolution, StrainsAtPoint}

@@ -24,8 +24,7 @@ use lra_front_end::{AcceptedSource, read_source};
 use lra_options::default_options;
 use lra_poly_domain::Polyhedron;
 use lra_report::{BackReport, PointReport};
-use lra_report_build::{list_points, names_of_globals, number_of};
-use lra_report_states::states_of;
+use lra_report_build::{list_points, names_of_globals, number_of, states_of};
 use std::alloc::{AllocError, Global};
 
 /// The values at the points, and the first flagged point.

@@ -13,8 +13,8 @@ use Rattle.lra_domain.specs.declared.Exactness.TheVariants.{Exact, Flagged}
 use Rattle.lra_domain.specs.Abstraction.{Abstraction, worse}
 use Rattle.lra_program.specs.Program.{Element}
 use Rattle.lra_program.specs.Value.{◌>>=◌}
-use Rattle.lra_accesses.specs.declared.listing.Access.{Access}
-use Rattle.lra_accesses.specs.Listed.{access_view}
+use Rattle.lra_bounds_checks.specs.declared.listing.Access.{Access}
+use Rattle.lra_bounds_checks.specs.Listed.{access_view}
 use Rattle.lra_analysis_spec.specs.Accesses.{AccessJudged, EachJudged, outside}
 use Rattle.lra_analysis_spec.specs.Linear.{at_least_zero, comparison_test, less_by}
 use Rattle.lra_analysis_spec.specs.Operations.{lossy_operations}

@@ -1,2 +1,4 @@
+mod ListedSteps
+mod BoundSteps
 mod BoundsSteps
 mod ShownSteps

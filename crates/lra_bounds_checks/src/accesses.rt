@@ -5,7 +5,7 @@ ghost use Rattle.lra_program.specs.Accesses.{expr_accesses, op_accesses, op_acce
 ghost use Rattle.lra_program.specs.ProgramViews.{expr_view};
 ghost use Rattle.lra_operations.specs.TreeViews.{op_view};
 ghost use Rattle.lra_operations_list.specs.TreeOperations.{op_ref_view};
-ghost use Rattle.lra_accesses.specs.Listed.{access_view};
+ghost use Rattle.lra_bounds_checks.specs.Listed.{access_view};
 ghost use Rattle.lra_analysis_spec.specs.Accesses.{outside_of, BothInside, OneInside, OpInside};
 ghost use Rattle.lra_analysis_spec.specs.Accesses.{AccessJudged, IndexJudged};
 ghost use Rattle.lra_analysis_spec.specs.Analysis.{IsUnreachable};
@@ -15,7 +15,8 @@ ghost use Rattle.lra_analysis_spec.specs.LiveLimit.{most_live};
 ghost use Rattle.lra_overflow_checks.specs.Judged.{IsWide};
 ghost use Rattle.lra_bounds_checks.specs.BoundsChecks.{AreWide, IsEachTold, IsOpTold};
 
-use lra_accesses::{Access, accesses, outside, push_accesses};
+use crate::bounds::outside;
+use crate::listing::{Access, accesses, push_accesses};
 use lra_base::Place;
 use lra_domain::{Domain, Exactness, worse};
 use lra_linear_forms::{LinExpr, Test};

@@ -1,8 +1,13 @@
-//! Which accesses of arrays lie inside their arrays, as the values at the points of a program's tree tell it, for any
+//! The accesses of arrays that an operation evaluates, in their order, with the tests that an index is outside its
+//! array; and which accesses lie inside their arrays, as the values at the points of a program's tree tell it, for any
 //! domain.
 #![tactic(auto)]
 
 mod accesses;
+mod bounds;
 mod judgements;
+mod listing;
 
+pub use bounds::outside;
 pub use judgements::{BoundsVerdicts, judge_accesses};
+pub use listing::{Access, accesses, push_accesses};

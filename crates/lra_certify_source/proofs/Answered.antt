@@ -21,7 +21,7 @@ use Rattle.lra_fixpoint.specs.Solved.{IsSolved}
 use Rattle.lra_fixpoint.proofs.Counting.{iteration_fails_once}
 use Rattle.lra_poly_domain.specs.Laws.{polyhedron_laws}
 use Rattle.lra_poly_domain.specs.Abstraction.{polyhedron_abstraction}
-use Rattle.lra_report_states.specs.Polyhedra.{shown_polyhedron}
+use Rattle.lra_report_build.specs.Polyhedra.{shown_polyhedron}
 use Rattle.lra_report.specs.Report.{Report}
 use Rattle.lra_front_end.specs.Stages.{HasTree, HasInlinedTree, HasConstants}
 use Rattle.lra_paths.specs.Paths.{AreFewPaths, live_of}

@@ -17,7 +17,7 @@ use Rattle.lra_row_text.specs.ShownDescriptions.{shown_constraint, shown_generat
 use Rattle.lra_report.specs.declared.verdict_kinds.VerdictKind.TheVariants.{Assertion}
 use Rattle.lra_report.specs.Report.{PointReport, Verdict, Report}
 use Rattle.lra_report_build.specs.AnalysisResults.{IsAssertion, ReportedVerdict, reported_verdict, reported_from, reported_accesses, reported_of, reported_all}
-use Rattle.lra_report_states.specs.Polyhedra.{part_if_any, shown_polyhedron}
+use Rattle.lra_report_build.specs.Polyhedra.{part_if_any, shown_polyhedron}
 use Rattle.lra_analyse_source.specs.Stages.{ReportsSolution}
 use Rattle.lra_certify.specs.Certified.{AscendStrictly, AreListable}
 use Rattle.lra_certify_source.specs.Extraction.{rows_if_any, state_by, proved_in}

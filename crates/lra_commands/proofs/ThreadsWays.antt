@@ -12,8 +12,8 @@ use Rattle.lra_syntax.specs.Grammar.{Spells}
 use Rattle.lra_resolution_spec.specs.RefuseThreads.{RefuseThreads, AcceptsThreads, NotParsed, too_long, bad_token, bad_text, unread, bad_tree}
 use Rattle.lra_report.specs.RefusalText.{refusal_text}
 use Rattle.lra_report.specs.ReportText.{unknown_count}
-use Rattle.lra_threads_front_end.specs.Claims.{HasThreadsRefusal}
-use Rattle.lra_threads_front_end.proofs.EachAnswer.{each_answer}
+use Rattle.lra_front_end.specs.ThreadsClaims.{HasThreadsRefusal}
+use Rattle.lra_front_end.proofs.ThreadsEachAnswer.{each_answer}
 use Rattle.lra_threads_source.specs.ThreadsText.{ThreadsReport, threads_text}
 use Rattle.lra_threads_source.specs.ThreadsReports.{IsThreadsReportOf}
 use Rattle.lra_command_answers.specs.Statuses.{Ends, reported, refused, source_statuses}

@@ -41,7 +41,7 @@ use Rattle.lra_certify_source.specs.Assertions.{unknown_assertions}
 use Rattle.lra_certify_source.specs.Certified.{IsCertificateOf, IsCertificateWith}
 use Rattle.lra_back_source.specs.BackReports.{ReportCoversFailingRuns, IsBackReportOf, IsDefinedBack, IsProvedAtFirst}
 use Rattle.lra_back_source.specs.BackReports.{StrainsAt}
-use Rattle.lra_report_states.specs.Shown.{AreShown}
+use Rattle.lra_report_build.specs.Shown.{AreShown}
 use Rattle.lra_threads_source.specs.ThreadsText.{ThreadsReport, threads_text}
 use Rattle.lra_threads_source.specs.ThreadsReports.{AreDefinedThreads, HoldsInInterleavings, IsThreadsReportOf}
 use Rattle.lra_threads_source.specs.ThreadsReports.{StrainsAtNumber}

@@ -8,7 +8,7 @@ use Rattle.lra_syntax.specs.Grammar.{Spells}
 use Rattle.lra_resolution_spec.specs.RefuseThreads.{RefuseThreads, AcceptsThreads}
 use Rattle.lra_report.specs.RefusalText.{refusal_text}
 use Rattle.lra_report.specs.ReportText.{unknown_count}
-use Rattle.lra_threads_front_end.specs.Claims.{HasThreadsRefusal}
+use Rattle.lra_front_end.specs.ThreadsClaims.{HasThreadsRefusal}
 use Rattle.lra_threads_source.specs.ThreadsText.{ThreadsReport, threads_text}
 use Rattle.lra_threads_source.specs.ThreadsReports.{IsThreadsReportOf}
 use Rattle.lra_command_answers.specs.Statuses.{refused, reported}

@@ -9,3 +9,5 @@ pub mod Gammas
 pub mod Changes
 pub mod ExactDomains
 pub mod Backward
+-- What others may do to a store, and what a value becomes for them.
+pub mod Interference

@@ -1,4 +1,5 @@
-//! What an abstract domain owes to the iteration that stands on it.
+//! What an abstract domain owes to the iteration that stands on it, and interference: what others may do to the stores
+//! of a run between two of its steps, and what a value becomes for them.
 #![tactic(auto)]
 
 pub mod backward;
@@ -6,11 +7,13 @@ pub mod bounds;
 pub mod changes;
 pub mod domain;
 pub mod flags;
+mod interference;
 
 pub use backward::Backward;
 pub use changes::{Change, change_all};
 pub use domain::{BaseDomain, Domain, ExactParts};
 pub use flags::worse;
+pub use interference::{Interfere, NoInterference};
 
 /// Whether a result is the defined one, or only covers it because a number or a count passed its limit.
 #[derive(Clone, Copy, Debug, PartialEq, Eq)]

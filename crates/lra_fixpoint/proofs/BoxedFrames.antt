@@ -6,7 +6,7 @@ use Rattle.std.proofs.Math.Nat.{suc-mul}
 use Rattle.std.proofs.lemmas.Result.{IfOk-weaker}
 use Rattle.lra_analysis_spec.specs.Plan.{Plan}
 use Rattle.lra_domain.specs.Abstraction.{Abstraction}
-use Rattle.lra_interference.specs.Interference.{Interference}
+use Rattle.lra_domain.specs.Interference.{Interference}
 use Rattle.lra_pass_results.specs.declared.loop_cache.LoopCache.{LoopCache}
 use Rattle.lra_pass_results.specs.declared.outcome.PassOutcome.{PassOutcome}
 use Rattle.lra_pass_stack.specs.declared.stack.Entering.{Entering}

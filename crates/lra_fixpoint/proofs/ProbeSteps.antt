@@ -3,7 +3,7 @@ use Rattle.std.proofs.Common.{Vec, Global, map, ◌≡◌, ℕ, List, [], ◌∷
 use Rattle.std.proofs.lemmas.List.{map-append}
 use Rattle.lra_domain.specs.Abstraction.{Abstraction}
 use Rattle.lra_domain.specs.declared.Exactness.{Exactness}
-use Rattle.lra_interference.specs.Interference.{Interference}
+use Rattle.lra_domain.specs.Interference.{Interference}
 use Rattle.lra_operations.specs.declared.probes.Probe.TheVariants.{InterferencePoint, RecordWrite}
 use Rattle.lra_operations.specs.Tree.{probe}
 use Rattle.lra_analysis_spec.specs.Plan.{Plan}

@@ -15,8 +15,7 @@ ghost use Rattle.lra_pass_stack.specs.Stack.{PassTask, IsMade, PassStepLeads, Ma
 ghost use Rattle.lra_pass_stack.specs.Stack.{IsLoopDue, IsNarrowed, IsNarrowing, IsWaiting};
 ghost use Rattle.lra_pass_stack.specs.StepsLeft.{next_left, most_rounds, rounds_left, tree_steps, turns_left};
 
-use lra_domain::{Domain, Exactness};
-use lra_interference::Interfere;
+use lra_domain::{Domain, Exactness, Interfere};
 use lra_pass_results::{
     Entered, Growing, HeadRound, Loop, LoopCache, LoopRound, PassEntry, PassFindings, PassOutcome,
     enter_with, grow_by, note, start,

@@ -15,8 +15,7 @@ ghost use Rattle.lra_pass_stack.specs.StepsLeft.{all_left, next_left, place_left
 use crate::catches::catch_jumps;
 use crate::loops::{go_on_growing, go_on_narrowing, open_loop};
 use crate::probes::pass_probe;
-use lra_domain::Domain;
-use lra_interference::Interfere;
+use lra_domain::{Domain, Interfere};
 use lra_pass_results::{LoopCache, PassOutcome, Plan, TreeForm, pass_leaf};
 use lra_pass_stack::{
     Entering, Next, PassFrame, PassStack, Step, go_on_choice, go_on_row, go_on_selection,

@@ -7,8 +7,7 @@ ghost use Rattle.lra_analysis_spec.specs.Plan.{Plan};
 ghost use Rattle.lra_analysis_spec.specs.Pass.{recorded, goes_on};
 ghost use Rattle.lra_pass_results.specs.Outcome.{outcome_view, IsPassed};
 
-use lra_domain::Domain;
-use lra_interference::Interfere;
+use lra_domain::{Domain, Interfere};
 use lra_operations::Probe;
 use lra_pass_results::{PassEntry, PassOutcome, note};
 use std::alloc::{AllocError, Global};

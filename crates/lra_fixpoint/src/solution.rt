@@ -26,8 +26,7 @@ ghost use Rattle.lra_fixpoint.specs.Tables.{note_view, notes_in};
 
 use crate::pass::pass;
 use crate::tables::{Note, number_held, tables_of, take_held};
-use lra_domain::Domain;
-use lra_interference::{Interfere, NoInterference};
+use lra_domain::{Domain, Interfere, NoInterference};
 use lra_operations::{InlinedProgram, Site};
 use lra_pass_results::{LoopCache, PassOutcome, Plan, note};
 use lra_pass_stack::Entering;

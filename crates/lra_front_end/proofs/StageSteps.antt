@@ -25,8 +25,8 @@ use Rattle.lra_inline_steps.specs.declared.points.Limit.{Limit}
 use Rattle.lra_inline_steps.specs.declared.points.InlineError.{InlineError}
 use Rattle.lra_inline_steps.specs.declared.points.InlineError.TheVariants.{Passed}
 use Rattle.lra_inline_steps.specs.Limits.{refusal_of, OnError}
-use Rattle.lra_resolution_sound.proofs.Spelled.{spelled_are_small}
-use Rattle.lra_resolution_sound.proofs.Whole.{well_formed}
+use Rattle.lra_front_end.proofs.Spelled.{spelled_are_small}
+use Rattle.lra_front_end.proofs.Whole.{well_formed}
 use Rattle.lra_base.specs.declared.error.SourceError.{SourceError}
 use Rattle.lra_base.specs.declared.error.SourceError.TheVariants.{Refused, Memory}
 use Rattle.lra_front_end.specs.Claims.{AreFew}

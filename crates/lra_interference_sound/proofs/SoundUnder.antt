@@ -13,7 +13,7 @@ use Rattle.lra_domain.specs.Actions.{Within}
 use Rattle.lra_domain.specs.Abstraction.{Abstraction}
 use Rattle.lra_domain.specs.Laws.{Laws}
 use Rattle.lra_domain.specs.declared.Exactness.{Exactness}
-use Rattle.lra_interference.specs.Interference.{Interference, RelyClosure, none}
+use Rattle.lra_domain.specs.Interference.{Interference, RelyClosure, none}
 use Rattle.lra_program.specs.Program.{Expr, Cond}
 use Rattle.lra_program.specs.Step.{State, Op, run_op, test}
 use Rattle.lra_program.specs.Traces.{Trace}

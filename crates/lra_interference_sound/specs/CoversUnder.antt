@@ -3,7 +3,7 @@ use Rattle.std.specs.Prelude.{◌≡◌, ◌<◌, ℕ, ℤ, List, Option, Bool}
 use Rattle.std.specs.List.{Contains}
 use Rattle.lra_base.specs.declared.case_labels.CaseLabel.{CaseLabel}
 use Rattle.lra_domain.specs.Abstraction.{Abstraction}
-use Rattle.lra_interference.specs.Interference.{Interference, RelyClosure}
+use Rattle.lra_domain.specs.Interference.{Interference, RelyClosure}
 use Rattle.lra_program.specs.Step.{State}
 use Rattle.lra_program.specs.Traces.{Trace}
 use Rattle.lra_operations.specs.Tree.{Node, Arms}

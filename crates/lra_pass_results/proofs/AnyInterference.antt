@@ -1,6 +1,6 @@
 -- Trees in which others don't act: a pass among nobody is one among any.
 use Rattle.std.proofs.Common.{ℕ, List, [], ◌∷◌, map, Option, sym, subst}
-use Rattle.lra_interference.specs.Interference.{Interference, no_interference}
+use Rattle.lra_domain.specs.Interference.{Interference, no_interference}
 use Rattle.lra_domain.specs.Abstraction.{Abstraction}
 use Rattle.lra_operations.specs.declared.tree.Node as node
 use Rattle.lra_operations.specs.Tree as graph

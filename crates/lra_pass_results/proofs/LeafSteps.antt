@@ -3,7 +3,7 @@ use Rattle.std.proofs.Common.{Vec, Global, map, ◌≡◌, ℕ, List, [], ◌∷
 use Rattle.std.specs.Prelude.{OnOk}
 use Rattle.std.specs.Prelude as outcome_or
 use Rattle.std.proofs.lemmas.List.{append-nil, map-append}
-use Rattle.lra_interference.specs.Interference.{Interference}
+use Rattle.lra_domain.specs.Interference.{Interference}
 use Rattle.lra_domain.specs.Abstraction.{Abstraction}
 use Rattle.lra_domain.specs.declared.Exactness.{Exactness}
 use Rattle.lra_operations.specs.Tree.{Exit, broken, continued, returned}

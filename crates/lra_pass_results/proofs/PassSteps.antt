@@ -5,7 +5,7 @@ use Rattle.std.specs.Prelude as outcome_or
 use Rattle.std.specs.List.{Contains, sum_by}
 use Rattle.std.proofs.lemmas.List.Sums.{sum_by-cons}
 use Rattle.std.proofs.lemmas.List.Elements.{Contains-append_cases}
-use Rattle.lra_interference.specs.Interference.{Interference}
+use Rattle.lra_domain.specs.Interference.{Interference}
 use Rattle.lra_domain.specs.Abstraction.{Abstraction}
 use Rattle.lra_domain.specs.declared.Exactness.{Exactness}
 use Rattle.lra_program.specs.declared.program.Cond as declared_cond

@@ -1,6 +1,6 @@
 -- Trees that are passed where they stand: what they are, and what was found before them with what their pass finds.
 use Rattle.std.specs.Prelude.{◌≡◌, ℕ, List, [], ◌∷◌, map, Option, ⊤}
-use Rattle.lra_interference.specs.Interference.{Interference}
+use Rattle.lra_domain.specs.Interference.{Interference}
 use Rattle.lra_domain.specs.Abstraction.{Abstraction}
 use Rattle.lra_operations.specs.declared.tree.Node.{Node}
 use Rattle.lra_operations.specs.TreeViews.{node_view, row}

@@ -1,7 +1,7 @@
 -- What is kept of loops that stand inside others.
 use Rattle.std.specs.Prelude.{◌≡◌, ℕ, Option, None, Some, ⊤}
 use Rattle.std.specs.List.{All}
-use Rattle.lra_interference.specs.Interference.{Interference}
+use Rattle.lra_domain.specs.Interference.{Interference}
 use Rattle.lra_domain.specs.Abstraction.{Abstraction}
 use Rattle.lra_operations.specs.Tree.{Node, empty, point, probe, act, check, seq, choose, iterate, catch, leave}
 use Rattle.lra_operations.specs.Tree.{select, Arms, no_arms, entry, arm}

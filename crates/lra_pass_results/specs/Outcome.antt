@@ -1,6 +1,6 @@
 -- What a pass in code gives, as the result of a pass.
 use Rattle.std.specs.Prelude.{◌≡◌, ℕ, true, false, List, [], ◌∷◌, map, Option, None, Some, ⊤}
-use Rattle.lra_interference.specs.Interference.{Interference}
+use Rattle.lra_domain.specs.Interference.{Interference}
 use Rattle.lra_domain.specs.Abstraction.{Abstraction}
 use Rattle.lra_pass_results.specs.declared.outcome.PassEntry as entry
 use Rattle.lra_pass_results.specs.declared.outcome.PassEntry.TheVariants.{Value, Failing, Recorded}

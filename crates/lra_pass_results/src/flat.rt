@@ -4,7 +4,7 @@
 ghost use Rattle.lra_analysis_spec.specs.LiveLimit.{most_live};
 ghost use Rattle.lra_analysis_spec.specs.Plan.{Plan};
 ghost use Rattle.std.specs.Prelude.{◌≡◌, ◌≤◌, true, map, IfSome, OnOk};
-ghost use Rattle.lra_interference.specs.Interference.{no_interference};
+ghost use Rattle.lra_domain.specs.Interference.{no_interference};
 ghost use Rattle.lra_operations.specs.TreeViews.{node_view, row};
 ghost use Rattle.lra_pass_results.specs.Dimensions.{TreeFits};
 ghost use Rattle.lra_pass_results.specs.Flat.{flat_view, AreLeaves, Follows, HasLeaves, IsLeaf};

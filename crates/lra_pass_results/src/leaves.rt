@@ -1,7 +1,7 @@
 //! The pass over trees with no tree in them: others don't act there, so that it is the same among any.
 
 ghost use Rattle.std.specs.Prelude.{◌≡◌, ◌≤◌, IfOk, OnOk};
-ghost use Rattle.lra_interference.specs.Interference.{no_interference};
+ghost use Rattle.lra_domain.specs.Interference.{no_interference};
 ghost use Rattle.lra_operations.specs.Tree.{act, check, leave, point as point_node};
 ghost use Rattle.lra_program.specs.ProgramViews.{cond_view};
 ghost use Rattle.lra_operations.specs.TreeViews.{exit_view, op_view};

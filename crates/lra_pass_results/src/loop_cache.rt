@@ -8,8 +8,7 @@ ghost use Rattle.lra_pass_results.specs.Outcome.{outcome_view, IsKept};
 ghost use Rattle.lra_pass_results.specs.LoopCache.{IsRecalled, AreRecalled, MayRecall};
 
 use crate::outcome::PassOutcome;
-use lra_domain::Domain;
-use lra_interference::Interfere;
+use lra_domain::{Domain, Interfere};
 use std::alloc::{AllocError, Global};
 
 /// A loop's last pass: the number of its point, its first value, and what it gave.

@@ -10,8 +10,7 @@ ghost use Rattle.lra_pass_results.specs.Outcome.{entry_view, ended, outcome_view
 ghost use Rattle.lra_pass_results.specs.Outcome.{AreKept};
 ghost use Rattle.lra_pass_results.specs.Outcome.{running_on, EntersWith};
 
-use lra_domain::{Domain, Exactness, worse};
-use lra_interference::Interfere;
+use lra_domain::{Domain, Exactness, Interfere, worse};
 use lra_operations::Exit;
 use std::alloc::{AllocError, Global};
 use std::mem;

@@ -2,7 +2,7 @@
 use Rattle.std.proofs.Common.{Box, Global, ◌≡◌, ◌≤◌, true, false, ℕ, List, [], ◌∷◌, ◌++◌, map, Option, Some, refl, sym, ap, subst, ◌∙◌}
 use Rattle.std.specs.Prelude.{option_to_list, IfOk, MatchResult, OnOk}
 use Rattle.std.specs.Prelude as outcome_or
-use Rattle.lra_interference.specs.Interference.{Interference}
+use Rattle.lra_domain.specs.Interference.{Interference}
 use Rattle.lra_domain.specs.Abstraction.{Abstraction}
 use Rattle.lra_domain.specs.declared.Exactness.{Exactness}
 use Rattle.lra_domain.specs.declared.Exactness.TheVariants.{Exact}

@@ -2,7 +2,7 @@
 -- whole finds.
 use Rattle.std.proofs.Common.{◌≡◌, ℕ, ◌≤◌, [], Option}
 use Rattle.std.proofs.Common.{sym, ap, subst, ◌∙◌}
-use Rattle.lra_interference.specs.Interference.{Interference}
+use Rattle.lra_domain.specs.Interference.{Interference}
 use Rattle.lra_domain.specs.Abstraction.{Abstraction}
 use Rattle.lra_operations.specs.Tree as graph
 use Rattle.lra_analysis_spec.specs.LiveLimit.{most_live}

@@ -8,7 +8,7 @@ use Rattle.std.specs.List.{Contains, list_any}
 use Rattle.lra_base.specs.CaseLabels.{is_same_case}
 use Rattle.lra_base.specs.declared.case_labels.CaseLabel.{CaseLabel}
 use Rattle.lra_base.specs.declared.case_labels.CaseLabel.TheVariants.{Case, Default}
-use Rattle.lra_interference.specs.Interference.{Interference}
+use Rattle.lra_domain.specs.Interference.{Interference}
 use Rattle.lra_domain.specs.Abstraction.{Abstraction, worse}
 use Rattle.lra_domain.specs.declared.Exactness.{Exactness}
 use Rattle.lra_domain.specs.declared.Exactness.TheVariants.{Exact}

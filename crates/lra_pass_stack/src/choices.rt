@@ -15,8 +15,7 @@ ghost use Rattle.lra_pass_stack.specs.Stack.{PassTask, IsChoice, IsMade, PassSte
 ghost use Rattle.lra_pass_stack.specs.StepsLeft.{next_left, place_left, tree_steps};
 
 use crate::stack::{BranchFrame, ChoiceFrame, Entering, Next, PassFrame};
-use lra_domain::{Domain, Exactness};
-use lra_interference::Interfere;
+use lra_domain::{Domain, Exactness, Interfere};
 use lra_pass_results::{Choice, PassOutcome, note};
 use lra_transfer::{ConditionSplit, Kept, split};
 use std::alloc::{AllocError, Global};

@@ -14,8 +14,7 @@ ghost use Rattle.lra_pass_stack.specs.StepsLeft.{most_rounds, next_left, place_l
 ghost use Rattle.lra_pass_results.specs.Steps.{row_steps};
 
 use crate::stack::{Entering, Next, PassFrame, RowFrame};
-use lra_domain::Domain;
-use lra_interference::Interfere;
+use lra_domain::{Domain, Interfere};
 use lra_operations::Node;
 use lra_pass_results::{Flat, PassOutcome, Plan, Row};
 use std::alloc::{AllocError, Global};

@@ -26,8 +26,7 @@ ghost use Rattle.lra_pass_stack.specs.StepsLeft.{most_rounds, next_left, tree_st
 use crate::stack::{Entering, Next, PassFrame, SelectFrame, Selecting, passed};
 use lra_analysis_spec::Linearized;
 use lra_base::CaseLabel;
-use lra_domain::{Domain, Exactness, worse};
-use lra_interference::Interfere;
+use lra_domain::{Domain, Exactness, Interfere, worse};
 use lra_linearize::linearize;
 use lra_operations::{Arm, Node, any_default};
 use lra_pass_results::{PassOutcome, Running, Selection, note};

@@ -13,8 +13,7 @@ ghost use Rattle.lra_pass_stack.specs.Stack.{PassTask, IsMade, PassStepLeads};
 ghost use Rattle.lra_pass_stack.specs.StepsLeft.{next_left};
 
 use lra_analysis_spec::Linearized;
-use lra_domain::Domain;
-use lra_interference::Interfere;
+use lra_domain::{Domain, Interfere};
 use lra_operations::{Arm, Exit, Node};
 use lra_pass_results::{Choice, Growing, Loop, PassFindings, PassOutcome, Row, Selection};
 use lra_transfer::Kept;

@@ -16,8 +16,7 @@ use lra_domain::{
 };
 use lra_linear_forms::{LinExpr, Test};
 use lra_poly::Poly;
-use lra_poly_dimensions::{embed, remove_last};
-use lra_poly_images::{forget, image, preimage};
+use lra_poly_images::{embed, forget, image, preimage, remove_last};
 use lra_systems::{ConSys, GenSys};
 use std::alloc::{AllocError, Global};
 use std::marker::Model;

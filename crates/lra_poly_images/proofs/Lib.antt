@@ -8,3 +8,6 @@ pub mod MovedFacets
 pub mod MovedPolyhedra
 pub mod BackImages
 pub mod KeptLists
+pub mod ShortenedSets
+pub mod EmbeddedSets
+pub mod ElapsedSets

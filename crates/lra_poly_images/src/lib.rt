@@ -1,7 +1,9 @@
-//! Images and preimages of polyhedra, and coordinates that are forgotten.
+//! Images and preimages of polyhedra, coordinates that are forgotten, changes of their dimensions, and time-elapse.
 #![tactic(auto)]
 
 mod images;
+mod maps;
 mod moved;
 
 pub use images::{forget, image, preimage};
+pub use maps::{embed, remove_last, time_elapse};

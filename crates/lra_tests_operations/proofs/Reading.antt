@@ -9,9 +9,9 @@ use Rattle.lra_resolution_spec.specs.NameFaults.{name_faults}
 use Rattle.lra_resolution_spec.specs.Resolve.{resolve}
 use Rattle.lra_program.specs.Program.{Program}
 use Rattle.lra_program.specs.WellFormed.{IsWellFormed}
-use Rattle.lra_resolution_sound.specs.Literals.{HasSmallLiterals}
-use Rattle.lra_resolution_sound.proofs.Spelled.{spelled_are_small}
-use Rattle.lra_resolution_sound.proofs.Whole.{well_formed}
+use Rattle.lra_front_end.specs.Literals.{HasSmallLiterals}
+use Rattle.lra_front_end.proofs.Spelled.{spelled_are_small}
+use Rattle.lra_front_end.proofs.Whole.{well_formed}
 
 pub read_small : (source : List ℕ) (tokens given : List Token) (t : FileTree) → Lex source tokens → given ≡ tokens → IsTree Spells given t → HasSmallLiterals t
 read_small source tokens given t lexed same parsed =

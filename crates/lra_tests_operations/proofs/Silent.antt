@@ -11,8 +11,8 @@ use Rattle.std.proofs.Common.{None}
 use Rattle.lra_operations_list.specs.declared.tree_operations.OpRefAtPoint.{OpRefAtPoint}
 use Rattle.lra_operations_list.specs.TreeOperations.{op_at_point_view, done_in}
 use Rattle.lra_operations_list.proofs.Filtered.{asking_filtered}
-use Rattle.lra_accesses.specs.declared.listing.Access.{Access}
-use Rattle.lra_accesses.specs.Listed.{access_view}
+use Rattle.lra_bounds_checks.specs.declared.listing.Access.{Access}
+use Rattle.lra_bounds_checks.specs.Listed.{access_view}
 use Rattle.lra_report.specs.Listing.{accesses_at}
 use Rattle.lra_report_build.specs.AnalysisResults.{AreAccessVerdicts}
 use Rattle.lra_analysis_spec.proofs.OneTree.{one_tree}

@@ -13,8 +13,8 @@ ghost use Rattle.lra_report.specs.Listing.{HasWidth, accesses_at};
 ghost use Rattle.lra_report_build.specs.AnalysisResults.{AreInvariants, AreVerdicts};
 
 use crate::sources::{program_of, tree_of};
-use lra_accesses::accesses;
 use lra_base::SourceError;
+use lra_bounds_checks::accesses;
 use lra_inline::build;
 use lra_operations::{Node, Site};
 use lra_operations_list::list_operations;

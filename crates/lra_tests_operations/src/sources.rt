@@ -6,7 +6,7 @@ ghost use Rattle.lra_syntax.specs.Labels.{labels_of};
 ghost use Rattle.lra_resolution_spec.specs.Resolve.{resolve};
 ghost use Rattle.lra_program.specs.ProgramViews.{program_view};
 ghost use Rattle.lra_program.specs.WellFormed.{IsWellFormed};
-ghost use Rattle.lra_resolution_sound.specs.Literals.{HasSmallLiterals};
+ghost use Rattle.lra_front_end.specs.Literals.{HasSmallLiterals};
 
 use lra_base::{Cause, GREATEST_LENGTH, Place, Refusal, SourceError};
 use lra_lex::tokens;

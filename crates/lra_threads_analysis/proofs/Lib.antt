@@ -3,3 +3,14 @@ pub mod ReadyValues
 pub mod OwnAccesses
 pub mod RoundsOf
 pub mod RoundsHold
+-- What threads tell and write.
+pub mod TellsAll
+pub mod Allowed
+pub mod NotesWritten
+-- Runs of trees among others.
+pub mod NamedWrites
+pub mod ChecksUnder
+pub mod Held
+pub mod InsideHolds
+-- All of it, for the threads beside each other.
+pub mod HoldBeside

@@ -13,7 +13,7 @@ use Rattle.lra_analysis_spec.specs.Judging.{Finding, Finds, first_flagged}
 use Rattle.lra_analysis_spec.specs.Instrumented.{instrumented}
 use Rattle.lra_analysis_spec.specs.Operations.{exact_operations, lossy_operations, straining_operations}
 use Rattle.lra_analysis_spec.proofs.OneAccess.{accesses_written, accesses_strained}
-use Rattle.lra_threads_instrument_sound.proofs.InstrumentedTrees.{asks_opened}
+use Rattle.lra_threads_instrument.proofs.InstrumentedTrees.{asks_opened}
 
 abbrev Told : Type 0
 Told = List (ℕ × List (Place × Bool))

@@ -1,6 +1,6 @@
 -- What the code finds of a thread by its graph, whose tree is opened already.
 use Rattle.std.specs.Prelude.{◌≡◌, ℕ, List, length, map, Some, slice_get}
-use Rattle.lra_interference.specs.Interference.{Interference}
+use Rattle.lra_domain.specs.Interference.{Interference}
 use Rattle.lra_box.specs.Content.{BoxContent}
 use Rattle.lra_box.specs.Abstraction.{box_abstraction}
 use Rattle.lra_program.specs.Assertions.{assertions_from}

@@ -1,7 +1,7 @@
 -- What is found of threads, each by its tree, among what the others give.
 use Rattle.std.specs.Prelude.{◌≡◌, ◌↔◌, ◌≤◌, ◌<◌, ◌⊎◌, ℕ, List, length, map, Bool, Option, None, Some, All, slice_get}
 use Rattle.std.specs.List.{Contains}
-use Rattle.lra_interference.specs.Interference.{Interference}
+use Rattle.lra_domain.specs.Interference.{Interference}
 use Rattle.lra_box.specs.Content.{BoxContent}
 use Rattle.lra_box.specs.Abstraction.{box_abstraction}
 use Rattle.lra_base.specs.declared.refusals.Place.{Place}

@@ -2,3 +2,5 @@
 pub mod Found
 pub mod Holding
 pub mod Analysed
+pub mod Written
+pub mod Interleaved

@@ -5,7 +5,7 @@ use Rattle.std.specs.Prelude.{slice_set}
 use Rattle.std.proofs.Math.ListN.{length-set}
 use Rattle.std.proofs.lemmas.Option.{same_Some}
 use Rattle.lra_domain.specs.declared.Exactness.TheVariants.{Exact}
-use Rattle.lra_interference.specs.Interference.{RelyClosure, none, more, Absorbs}
+use Rattle.lra_domain.specs.Interference.{RelyClosure, none, more, Absorbs}
 use Rattle.lra_box.specs.declared.interval.Interval.{Interval}
 use Rattle.lra_box.specs.Bounds.{InInterval, InBounds}
 use Rattle.lra_box.specs.Content.{BoxContent, WellFormedBox, BoundsFit}

@@ -3,7 +3,7 @@ use Rattle.std.proofs.Common.{◌≡◌, ◌∙◌, ◌+◌, ◌-◌, ℕ, zero,
 use Rattle.std.proofs.Common.{true, false, ◌↔◌, length, map, Option, None, Some, refl, ap, sym, subst, arith}
 use Rattle.std.specs.Prelude.{slice_get, IsTrue}
 use Rattle.std.proofs.lemmas.List.{length-map}
-use Rattle.lra_interference.specs.Interference.{Interference}
+use Rattle.lra_domain.specs.Interference.{Interference}
 use Rattle.lra_box.specs.Content.{BoxContent}
 use Rattle.lra_threads_fixpoint.specs.Intervals.{IntervalRow, IntervalTable, TableWithin, AreRowsWide, empty_table, grown_table, growth_of}
 use Rattle.lra_threads_fixpoint.specs.Interference.{threads_interference, row_interference, interference_on, written_by, written_from}

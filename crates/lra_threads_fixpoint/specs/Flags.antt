@@ -1,6 +1,6 @@
 -- What a first flag of all rounds tells.
 use Rattle.std.specs.Prelude.{◌≡◌, ◌<◌, ◌-◌, ℕ, List, length, None, Some, slice_get}
-use Rattle.lra_interference.specs.Interference.{Interference}
+use Rattle.lra_domain.specs.Interference.{Interference}
 use Rattle.lra_box.specs.Content.{BoxContent}
 use Rattle.lra_threads_fixpoint.specs.Intervals.{IntervalTable, TableWithin, next_table}
 use Rattle.lra_threads_fixpoint.specs.Interference.{threads_interference}

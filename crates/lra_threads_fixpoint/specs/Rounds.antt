@@ -1,7 +1,7 @@
 -- Threads are analysed in rounds, each thread among what the others wrote so far, until nothing is written that wasn't
 -- told. What an analysis of one thread is stands open here: a relation.
 use Rattle.std.specs.Prelude.{◌≡◌, ◌-◌, ℕ, suc, List, [], ◌∷◌, length, map, Option, None, Some, slice_get}
-use Rattle.lra_interference.specs.Interference.{Interference}
+use Rattle.lra_domain.specs.Interference.{Interference}
 use Rattle.lra_box.specs.Content.{BoxContent}
 use Rattle.lra_threads_fixpoint.specs.Intervals.{IntervalTable, empty_table, TableWithin, next_table}
 use Rattle.lra_threads_fixpoint.specs.Interference.{threads_interference, written_by}

@@ -11,8 +11,7 @@ ghost use Rattle.lra_threads_fixpoint.specs.Interference.{admitting_option, row_
 use crate::growth::Growth;
 use crate::rows::{all_within, grow_all, grow_at, nothing};
 use lra_box::{Boxes, Interval};
-use lra_domain::{Domain, Exactness};
-use lra_interference::Interfere;
+use lra_domain::{Domain, Exactness, Interfere};
 use std::alloc::{AllocError, Global};
 use std::marker::Model;
 

@@ -1,7 +1,7 @@
 //! The rounds: each thread is analysed among what the others wrote so far, until nothing is written that wasn't told.
 
 ghost use Rattle.std.specs.Prelude.{◌≡◌, ◌<◌, ℕ, [], ◌∷◌, ◌++◌, None, length, IfOk};
-ghost use Rattle.lra_interference.specs.Interference.{Interference};
+ghost use Rattle.lra_domain.specs.Interference.{Interference};
 ghost use Rattle.lra_box.specs.Content.{BoxContent};
 ghost use Rattle.lra_threads_fixpoint.specs.Interference.{row_interference, interference_on, written_by};
 ghost use Rattle.lra_threads_fixpoint.specs.Rounds.{flag_of, flag_so_far, ResultReadings, IsRound, AllRounds};

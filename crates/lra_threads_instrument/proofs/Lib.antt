@@ -4,3 +4,4 @@ pub mod PartViews
 pub mod OpenFrames
 -- Worked examples.
 mod InstrumentedExamples
+pub mod InstrumentedTrees

@@ -1,3 +1,4 @@
 -- In the order in which they are to be read.
 pub mod Instrumented
 pub mod StepsLeft
+pub mod InstrumentKeeps

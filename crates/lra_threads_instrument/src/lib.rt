@@ -1,7 +1,13 @@
-//! A program's tree with what others do written into it, which is then passed among others.
+//! A program's tree with what others do written into it, which is then passed under interference; and laws: what is
+//! required of the tree before it is passed holds of the instrumented one.
 #![tactic(auto)]
 
+mod laws;
 mod stack;
 mod trees;
 
+pub use laws::{
+    instrument_keeps_dims, instrument_keeps_jumps, instrument_keeps_live, instrument_keeps_numbers,
+    instrument_keeps_ops, instrument_keeps_points,
+};
 pub use trees::{instrument_program, instrument_tree};

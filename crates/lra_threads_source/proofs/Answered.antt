@@ -18,8 +18,8 @@ use Rattle.lra_operations.specs.Tree.{Node}
 use Rattle.lra_operations.specs.TreeViews.{node_view, site_view}
 use Rattle.lra_operations.specs.declared.tree.InlinedProgram.{InlinedProgram}
 use Rattle.lra_front_end.specs.Stages.{HasConstants}
-use Rattle.lra_threads_front_end.specs.Claims.{IsAcceptedThreads, IsThreadTree}
-use Rattle.lra_threads_front_end.specs.Stages.{IsInlinedOf, IsThreadInlined}
+use Rattle.lra_front_end.specs.ThreadsClaims.{IsAcceptedThreads, IsThreadTree}
+use Rattle.lra_front_end.specs.ThreadsStages.{IsInlinedOf, IsThreadInlined}
 use Rattle.lra_analyse_source.proofs.Handing.{image_of}
 use Rattle.lra_analysis_spec.specs.Instrumented.{instrumented}
 use Rattle.lra_analysis_spec.specs.Plan.{Plan}
@@ -27,7 +27,7 @@ use Rattle.lra_threads_fixpoint.specs.Rounds.{AllRounds, ThreadsFixpoint}
 use Rattle.lra_threads_analysis.specs.Found.{AreInstrumented, AreReady, IsThreadResultOf, thread_finding}
 use Rattle.lra_threads_analysis.specs.Holding.{AllHold, AreFlagged}
 use Rattle.lra_threads_analysis.specs.declared.found.ThreadResult.{ThreadResult}
-use Rattle.lra_threads_sound.specs.Interleaved.{AreThreads, IsThread, ThreadsHold}
+use Rattle.lra_threads_analysis.specs.Interleaved.{AreThreads, IsThread, ThreadsHold}
 use Rattle.lra_threads_source.specs.Listed.{ShowsThreads, thread_place}
 use Rattle.lra_threads_source.specs.Stages.{AreGraphsOf, AreOfGraphs, IsFlagIn, IsInstrumented}
 use Rattle.lra_threads_source.specs.ThreadsReports.{IsThreadsReportOf, shared_program, thread_functions, threads_plan}

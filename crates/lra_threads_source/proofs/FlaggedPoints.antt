@@ -3,7 +3,7 @@ use Rattle.std.proofs.Common.{◌≡◌, ◌∙◌, ◌≤◌, ◌<◌, ◌+◌,
 use Rattle.std.specs.Prelude.{⊤, Option, None, Some, slice_get}
 use Rattle.std.specs.List.{Contains}
 use Rattle.std.proofs.lemmas.Option.{slice_get_past, slice_get_within}
-use Rattle.lra_interference.specs.Interference.{Interference}
+use Rattle.lra_domain.specs.Interference.{Interference}
 use Rattle.lra_box.specs.Content.{BoxContent}
 use Rattle.lra_box.specs.Abstraction.{box_abstraction}
 use Rattle.lra_base.specs.declared.refusals.Place.{Place}
@@ -20,7 +20,7 @@ use Rattle.lra_analysis_spec.specs.Plan.{Plan}
 use Rattle.lra_fixpoint.specs.Counts.{failing_at, values_at}
 use Rattle.lra_fixpoint.specs.Numbers.{IsNumbered, asserts_of, values_in}
 use Rattle.lra_fixpoint.proofs.Counting.{counted_value, failing_counted, pass_found, value_counted}
-use Rattle.lra_threads_instrument_sound.proofs.InstrumentedTrees.{numbered_of}
+use Rattle.lra_threads_instrument.proofs.InstrumentedTrees.{numbered_of}
 use Rattle.lra_threads_fixpoint.specs.Intervals.{IntervalTable, empty_table, next_table}
 use Rattle.lra_threads_fixpoint.specs.Rounds.{AllRounds, AreThreadResults, ResultReadings, IsRound, RoundsEndIn, ThreadsFixpoint, first_flag, flag_of, flag_so_far, joining_rounds, settled, unsettled}
 use Rattle.lra_analyse_source.proofs.Flags.{IsBelow, graph_below, iteration_among_below}

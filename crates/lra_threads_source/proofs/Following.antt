@@ -13,7 +13,7 @@ use Rattle.lra_report.specs.declared.verdict_kinds.VerdictKind.{VerdictKind}
 use Rattle.lra_report.specs.declared.verdict_kinds.VerdictKind.TheVariants.{Assertion, Fit}
 use Rattle.lra_report_build.specs.Views.{reported_view}
 use Rattle.lra_report_build.specs.AnalysisResults.{access_verdicts, access_verdicts_at, site_at, verdict_at}
-use Rattle.lra_report_states.proofs.PolyhedronShown.{each_of}
+use Rattle.lra_report_build.proofs.PolyhedronShown.{each_of}
 use Rattle.lra_threads_source.specs.Stages.{CanFollow}
 
 -- all that is so of the view of each is so of it

@@ -21,7 +21,7 @@ use Rattle.lra_fixpoint.specs.Lives.{AreWide}
 use Rattle.lra_report_build.specs.AnalysisResults.{AreInvariants, access_verdicts_at, state_of, verdict_at}
 use Rattle.lra_report_build.specs.Views.{reported_view}
 use Rattle.lra_report_build.specs.declared.listing.Findings.{Findings}
-use Rattle.lra_report_states.specs.Shown.{AreShown, shown_state}
+use Rattle.lra_report_build.specs.Shown.{AreShown, shown_state}
 use Rattle.lra_analyse_source.proofs.Handing.{image_of}
 use Rattle.lra_threads_analysis.specs.Found.{sites_in, thread_values}
 use Rattle.lra_threads_analysis.specs.declared.found.ThreadResult.{ThreadResult}

@@ -7,7 +7,7 @@ use Rattle.std.proofs.lemmas.List.{length-map}
 use Rattle.std.proofs.lemmas.List.Sums.{sum_by-cons}
 use Rattle.std.proofs.lemmas.Option.{get_or_from_slice_get, none-some, same_Some, slice_get-get_or}
 use Rattle.std.proofs.Math.Seq.{take-length}
-use Rattle.lra_resolution_sound.proofs.Faultless.{none_right}
+use Rattle.lra_front_end.proofs.Faultless.{none_right}
 use Rattle.lra_base.specs.declared.refusals.Refusal.{Refusal}
 use Rattle.lra_syntax.specs.Functions.{functions_of}
 use Rattle.lra_syntax.specs.Labels.{labels_of}
@@ -33,14 +33,14 @@ use Rattle.lra_overflow_checks.specs.Judged.{AreBelow}
 use Rattle.lra_pass_results.specs.Dimensions.{TreeFits}
 use Rattle.lra_fixpoint.specs.Lives.{PointsHave}
 use Rattle.lra_fixpoint.specs.Numbers.{IsNumbered}
-use Rattle.lra_threads_instrument_sound.proofs.InstrumentedTrees.{asks_opened, fits_of, numbered_of, points_of}
+use Rattle.lra_threads_instrument.proofs.InstrumentedTrees.{asks_opened, fits_of, numbered_of, points_of}
 use Rattle.lra_analyse_source.proofs.Fitting.{few_globals, tree_fits}
 use Rattle.lra_analyse_source.proofs.Flags.{graph_below}
 use Rattle.lra_analyse_source.proofs.Found.{asked_one}
 use Rattle.lra_analyse_source.proofs.Numbering.{numbered}
 use Rattle.lra_analyse_source.proofs.ReportSteps.{few_behind}
 use Rattle.lra_analyse_source.proofs.Widths.{graph_lives}
-use Rattle.lra_threads_front_end.specs.Stages.{IsInlinedOf, IsThreadInlined}
+use Rattle.lra_front_end.specs.ThreadsStages.{IsInlinedOf, IsThreadInlined}
 use Rattle.lra_threads_analysis.specs.Found.{AreReady, IsReady, sites_in as points_of_graph}
 use Rattle.lra_threads_source.specs.Stages.{AreGraphsOf, IsInstrumented, points_in}
 use Rattle.lra_threads_source.specs.Listed.{thread_sites}

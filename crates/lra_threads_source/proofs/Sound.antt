@@ -25,17 +25,17 @@ use Rattle.lra_report.specs.Listing.{AreListed, listed_verdict}
 use Rattle.lra_report.specs.Report.{InvariantHolds, Invariant, PointReport, Verdict}
 use Rattle.lra_report.specs.declared.verdict_kinds.VerdictKind.{VerdictKind}
 use Rattle.lra_report.specs.declared.verdict_kinds.VerdictKind.TheVariants.{Assertion, Access}
-use Rattle.lra_resolution_sound.proofs.Named.{globals_as_many}
+use Rattle.lra_front_end.proofs.Named.{globals_as_many}
 use Rattle.lra_report_build.specs.AnalysisResults.{access_verdicts, access_verdicts_at, site_at, state_of, verdict_at}
-use Rattle.lra_report_states.specs.Shown.{shown_state}
+use Rattle.lra_report_build.specs.Shown.{shown_state}
 use Rattle.lra_analyse_source.proofs.Handing.{contained, image_of}
 use Rattle.lra_interleavings.specs.Interleavings.{AtThread, FailsThread, ThreadWritesValue, OutOfBoundsThread}
 use Rattle.lra_threads_fixpoint.specs.Rounds.{ThreadsFixpoint}
 use Rattle.lra_threads_fixpoint.specs.Interference.{interval_at, threads_interference}
 use Rattle.lra_threads_analysis.specs.Found.{IsThreadResultOf, thread_finding, access_verdicts_of, thread_values, verdicts_of}
 use Rattle.lra_threads_analysis.specs.declared.found.ThreadResult.{ThreadResult}
-use Rattle.lra_threads_sound.specs.Interleaved.{HoldsInterleaved}
-use Rattle.lra_threads_front_end.specs.Claims.{IsThreadTree}
+use Rattle.lra_threads_analysis.specs.Interleaved.{HoldsInterleaved}
+use Rattle.lra_front_end.specs.ThreadsClaims.{IsThreadTree}
 use Rattle.lra_threads_source.specs.Listed.{AreListedAlone, ShowsPoints, accesses_alone, assertions_alone, number_in}
 use Rattle.lra_threads_source.specs.Listed.{point_in_thread, points_before, reported_points, one_by_one, thread_place, thread_sites, verdict_in_thread}
 use Rattle.lra_threads_source.specs.Listed.{reported_verdicts}

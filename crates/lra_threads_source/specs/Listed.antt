@@ -16,7 +16,7 @@ use Rattle.lra_report.specs.Listing.{AreListed}
 use Rattle.lra_report.specs.Report.{PointReport, Verdict}
 use Rattle.lra_report.specs.declared.verdict_kinds.VerdictKind.TheVariants.{Assertion}
 use Rattle.lra_report_build.specs.AnalysisResults.{access_verdicts_at, state_of, verdict_at}
-use Rattle.lra_report_states.specs.Shown.{AreShown, shown_state}
+use Rattle.lra_report_build.specs.Shown.{AreShown, shown_state}
 use Rattle.lra_threads_fixpoint.specs.Intervals.{IntervalRow, IntervalTable}
 use Rattle.lra_threads_fixpoint.specs.Interference.{interval_at}
 use Rattle.lra_threads_fixpoint.specs.Rounds.{ThreadsFixpoint}

@@ -15,8 +15,8 @@ use Rattle.lra_operations.specs.declared.tree.InlinedProgram.{InlinedProgram}
 use Rattle.lra_report.specs.Report.{Verdict}
 use Rattle.lra_report.specs.declared.verdict_kinds.VerdictKind.TheVariants.{Assertion, Fit}
 use Rattle.lra_front_end.specs.Stages.{HasConstants}
-use Rattle.lra_threads_front_end.specs.Stages.{IsThreadInlined}
-use Rattle.lra_threads_front_end.specs.declared.front.AcceptedThreads.{AcceptedThreads}
+use Rattle.lra_front_end.specs.ThreadsStages.{IsThreadInlined}
+use Rattle.lra_front_end.specs.declared.threads_front.AcceptedThreads.{AcceptedThreads}
 use Rattle.lra_report_build.specs.AnalysisResults.{access_verdicts_at, verdict_at}
 use Rattle.lra_report_build.specs.Views.{reported_view}
 use Rattle.lra_report_build.specs.declared.listing.Findings.{Findings}

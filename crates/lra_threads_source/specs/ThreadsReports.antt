@@ -20,7 +20,7 @@ use Rattle.lra_report.specs.Report.{PointReport, Verdict, InvariantHolds}
 use Rattle.lra_report.specs.declared.verdict_kinds.VerdictKind.{VerdictKind}
 use Rattle.lra_report.specs.declared.verdict_kinds.VerdictKind.TheVariants.{Assertion, Fit, Access}
 use Rattle.lra_front_end.specs.Stages.{HasConstants}
-use Rattle.lra_threads_front_end.specs.Claims.{IsAcceptedThreads}
+use Rattle.lra_front_end.specs.ThreadsClaims.{IsAcceptedThreads}
 use Rattle.lra_analysis_spec.specs.Plan.{Plan, plan_of}
 use Rattle.lra_interleavings.specs.Interleavings.{AtThread, FailsThread, ThreadWritesValue, OutOfBoundsThread}
 use Rattle.lra_threads_fixpoint.specs.Intervals.{empty_table}
@@ -29,7 +29,7 @@ use Rattle.lra_threads_fixpoint.specs.Flags.{ComesToStrain}
 use Rattle.lra_threads_analysis.specs.Found.{IsThreadResultOf, IsExactResultOf, StrainsAt, thread_finding}
 use Rattle.lra_threads_analysis.specs.Holding.{AreFlagged}
 use Rattle.lra_threads_analysis.specs.declared.found.ThreadResult.{ThreadResult}
-use Rattle.lra_threads_sound.specs.Interleaved.{HoldsInterleaved}
+use Rattle.lra_threads_analysis.specs.Interleaved.{HoldsInterleaved}
 use Rattle.lra_threads_source.specs.ThreadsText.{ThreadsReport, Writes}
 use Rattle.lra_threads_source.specs.Listed.{ShowsThreads, number_in, points_before, thread_place, thread_sites}
 

@@ -28,8 +28,9 @@ use crate::text::{ThreadsReport, Writes};
 use lra_box::Interval;
 use lra_operations::InlinedProgram;
 use lra_report::{PointReport, Verdict};
-use lra_report_build::{Findings, list_points, list_verdicts, names_of_globals, number_of};
-use lra_report_states::states_of;
+use lra_report_build::{
+    Findings, list_points, list_verdicts, names_of_globals, number_of, states_of,
+};
 use lra_resolution_spec::Labels;
 use lra_row_text::Names;
 use lra_syntax::TranslationUnit;

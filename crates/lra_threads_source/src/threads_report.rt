@@ -14,12 +14,11 @@ use crate::listing::{ThreadsOutline, list};
 use crate::text::ThreadsReport;
 use lra_base::SourceError;
 use lra_fixpoint::Plan;
+use lra_front_end::{AcceptedThreads, read_threads};
 use lra_operations::InlinedProgram;
 use lra_options::{Domain, Options, default_options};
-use lra_threads_analysis::analyse_threads;
-use lra_threads_front_end::{AcceptedThreads, read_threads};
+use lra_threads_analysis::{analyse_threads, threads_hold};
 use lra_threads_instrument::instrument_program;
-use lra_threads_sound::threads_hold;
 use std::alloc::{AllocError, Global};
 use std::mem;
 

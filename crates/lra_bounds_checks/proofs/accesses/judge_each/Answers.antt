@@ -1,6 +1,6 @@
 -- Goals of `judge_each`: what is told of each access comes behind the others.
 use Rattle.std.proofs.Common.{◌≤◌, length, map, arith}
-use Rattle.lra_accesses.specs.Listed.{access_view}
+use Rattle.lra_bounds_checks.specs.Listed.{access_view}
 use Rattle.lra_bounds_checks.proofs.BoundsSteps.{all_told, none_told, told_more}
 use Rattle.lra_bounds_checks.proofs.accesses.judge_each.Goals as goal
 

@@ -1,5 +1,5 @@
 use Rattle.std.proofs.Common.{map, drop}
-use Rattle.lra_accesses.specs.Listed.{access_view}
+use Rattle.lra_bounds_checks.specs.Listed.{access_view}
 use Rattle.lra_bounds_checks.proofs.BoundsSteps.{AreToldSoFar}
 use Rattle.lra_bounds_checks.proofs.accesses.judge_each.Given as goal
 

@@ -5,7 +5,7 @@ use Rattle.lra_operations.specs.Tree.{probe}
 use Rattle.lra_analysis_spec.specs.Plan.{Plan}
 use Rattle.lra_pass_results.specs.declared.tree_forms.TreeForm.{TreeForm}
 use Rattle.lra_pass_results.specs.declared.tree_forms.TreeForm.TheVariants.{Probe, Leaf, Row, Choice, Loop, Catch, Select}
-use Rattle.lra_interference.specs.Interference.{no_interference}
+use Rattle.lra_domain.specs.Interference.{no_interference}
 use Rattle.lra_pass_results.specs.Dimensions.{TreeFits}
 use Rattle.std.proofs.lemmas.Result.{IfOk-weaker}
 use Rattle.lra_pass_stack.specs.Stack.{pass_task, IsMade, MayBePassed}

@@ -1,7 +1,7 @@
 -- Goals of `pass_along`: one leaf more is passed, and the last.
 use Rattle.std.proofs.Common.{rules, ◌≡◌, ◌∷◌, map, ap, ◌∙◌}
 use Rattle.std.proofs.lemmas.List.{nil_from_length}
-use Rattle.lra_interference.specs.Interference.{no_interference}
+use Rattle.lra_domain.specs.Interference.{no_interference}
 use Rattle.lra_operations.specs.Tree.{seq}
 use Rattle.lra_operations.specs.TreeViews.{node_view, row}
 use Rattle.lra_pass_results.specs.TreeForms.{leaf_view}

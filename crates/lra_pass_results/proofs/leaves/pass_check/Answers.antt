@@ -1,6 +1,6 @@
 -- Goals of `pass_check`: both sides of the condition.
 use Rattle.std.proofs.Common.{[], ◌∷◌, refl, subst, true, false}
-use Rattle.lra_interference.specs.Interference.{no_interference}
+use Rattle.lra_domain.specs.Interference.{no_interference}
 use Rattle.lra_domain.specs.declared.Exactness.{Exactness}
 use Rattle.lra_program.specs.ProgramViews.{cond_view}
 use Rattle.lra_transfer.specs.Splits.{SplitsBy}

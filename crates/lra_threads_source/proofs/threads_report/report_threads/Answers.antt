@@ -4,7 +4,7 @@ use Rattle.std.specs.List.{AllZip}
 use Rattle.lra_syntax.specs.Views.{tree_view}
 use Rattle.lra_program.specs.declared.program.GlobalVariable.{GlobalVariable}
 use Rattle.lra_operations.specs.declared.tree.InlinedProgram.{InlinedProgram}
-use Rattle.lra_threads_front_end.specs.declared.front.AcceptedThreads.{AcceptedThreads}
+use Rattle.lra_front_end.specs.declared.threads_front.AcceptedThreads.{AcceptedThreads}
 use Rattle.lra_threads_fixpoint.specs.Found.{fixpoint_view}
 use Rattle.lra_threads_source.specs.Stages.{AreThreadsInstrumented, IsInstrumented, IsReadOf}
 use Rattle.lra_threads_source.specs.ThreadsView.{threads_report_of}

@@ -3,7 +3,7 @@ use Rattle.std.proofs.Common.{◌∙◌, ℕ, ℤ, List, ap₂, subst}
 use Rattle.std.specs.List.{AllZip}
 use Rattle.lra_syntax.specs.Views.{tree_view}
 use Rattle.lra_options.specs.declared.options.Options.{Options}
-use Rattle.lra_threads_front_end.specs.Stages.{IsThreadInlined}
+use Rattle.lra_front_end.specs.ThreadsStages.{IsThreadInlined}
 use Rattle.lra_analysis_spec.specs.Plan.{plan_of}
 use Rattle.lra_threads_source.proofs.threads_report.threads_source.Goals as goal
 

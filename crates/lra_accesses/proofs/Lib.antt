@@ -1,2 +1,0 @@
-mod ListedSteps
-mod BoundSteps

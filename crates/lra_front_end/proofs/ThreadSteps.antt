@@ -1,0 +1,175 @@
+-- What the stages behind the reading answer, as answers of the tree of a source of several threads.
+use Rattle.std.proofs.Common.{◌≡◌, ℕ, zero, suc, ◌+◌, ◌<◌, List, [], ◌∷◌, ◌++◌, length, map, drop, take, get_or, Some}
+use Rattle.std.proofs.Common.{None, Result, refl, sym, ap, ◌∙◌, subst, arith}
+use Rattle.std.proofs.Common.{length-append, add-one}
+use Rattle.std.proofs.lemmas.List.{at_drop_more}
+use Rattle.std.proofs.Math.Seq.{take-suc}
+use Rattle.std.specs.Prelude.{flat_map, slice_get}
+use Rattle.std.specs.List.{AllByRecursion, AllZip}
+use Rattle.std.specs.Result.{IsErrAnd}
+use Rattle.lra_base.specs.declared.refusals.Cause.{Cause}
+use Rattle.lra_base.specs.declared.refusals.Place.{Place}
+use Rattle.lra_base.specs.declared.refusals.Refusal.{Refusal}
+use Rattle.lra_base.specs.declared.error.SourceError.{SourceError}
+use Rattle.lra_base.specs.declared.error.SourceError.TheVariants.{Refused, Memory}
+use Rattle.lra_base.specs.Refused.{IfRefusal, IfRefused}
+use Rattle.lra_base.proofs.Refusing.{exit_refused, refusal_by}
+use Rattle.lra_syntax.specs.Trees.{FileTree}
+use Rattle.lra_syntax.specs.Grammar.{Spells}
+use Rattle.lra_syntax.specs.Labels.{Labelled, labels_of}
+use Rattle.lra_syntax.specs.Reach.{NotRecursive}
+use Rattle.lra_program.specs.declared.program.Program.{Program}
+use Rattle.lra_program.specs.Program as resolved
+use Rattle.lra_program.specs.ProgramViews.{function_or, program_view}
+use Rattle.lra_program.specs.Sites.{Event, events_of, sites_of}
+use Rattle.lra_program.specs.WellFormed.{IsWellFormed}
+use Rattle.lra_resolution_spec.specs.Refuse.{limit_fault}
+use Rattle.lra_resolution_spec.specs.Threads.{thread_faults, thread_places, thread_program, thread_events}
+use Rattle.lra_resolution_spec.specs.RefuseThreads.{RefusesThreads, bad_name, recursive, past_limit, RefuseThreads, NotParsed, unread, bad_tree, AcceptsThreads}
+use Rattle.lra_front_end.proofs.Spelled.{spelled_are_small}
+use Rattle.lra_front_end.proofs.Whole.{threads_formed}
+use Rattle.lra_scopes.specs.Outcome.{first_fault, IsFirstFault}
+use Rattle.lra_front_end.specs.Stages.{HasTree, IsRecursionRefusal}
+use Rattle.lra_front_end.proofs.StageSteps.{first_is}
+use Rattle.lra_front_end.specs.ThreadsStages.{HasThreads}
+use Rattle.lra_front_end.proofs.Limits.{fault_behind, fault_stays}
+
+-- names --------------------------------------------------------------------------------------------------------------
+
+names_refused : (t : FileTree) (r : Refusal) → first_fault (thread_faults t) ≡ Some r → RefusesThreads t r.cause r.place
+names_refused t r e = let (further, is) = first_is (thread_faults t) r e in bad_name r further is
+
+told_refused : (t : FileTree) (e : SourceError) → IsFirstFault (thread_faults t) e → IfRefusal (λ r. RefusesThreads t r.cause r.place) e
+told_refused t (Refused r) told = names_refused t r told
+told_refused t Memory told = tt
+
+pub exit_named : {X : Type 0} (t : FileTree) (x : Result X SourceError) (e : SourceError) → IsErrAnd x (λ y. y ≡ e) → IsFirstFault (thread_faults t) e
+    → IfRefused x (λ r. RefusesThreads t r.cause r.place)
+exit_named t x e is told = exit_refused (λ r. RefusesThreads t r.cause r.place) x e is (told_refused t e told)
+
+-- recursion ----------------------------------------------------------------------------------------------------------
+
+recursion_refused : (t : FileTree) (r : Refusal) → thread_faults t ≡ [] → IsRecursionRefusal t r → RefusesThreads t r.cause r.place
+recursion_refused t r names h = subst (λ (c : Cause). RefusesThreads t c r.place) (sym h.0) (recursive r.place names h.1)
+
+pub exit_recursive : {X : Type 0} (t : FileTree) (x : Result X SourceError) (e : SourceError) → thread_faults t ≡ [] → IsErrAnd x (λ y. y ≡ e)
+    → IfRefusal (IsRecursionRefusal t) e
+    → IfRefused x (λ r. RefusesThreads t r.cause r.place)
+exit_recursive t x e names is fault =
+    exit_refused (λ r. RefusesThreads t r.cause r.place) x e is (refusal_by (IsRecursionRefusal t) _ (λ r. recursion_refused t r names) e fault)
+
+-- threads ------------------------------------------------------------------------------------------------------------
+
+-- the source's program with another function in the place of `main`
+pub placed : (t : FileTree) (p : Program) (place : ℕ) → program_view p ≡ thread_program t p.main
+    → program_view (record p { main = place }) ≡ thread_program t place
+placed t p place e = ap (λ (P : resolved.Program). record P { main = function_or (slice_get P.functions place) }) e
+
+-- the points of the threads at these places
+abbrev pub events_at : FileTree → List ℕ → List Event
+events_at t places = flat_map events_of (map (thread_program t) places)
+
+module _ (t : FileTree) (n m place : ℕ) (places : List ℕ) where
+  -- those behind a thread that passes no limit
+  pub events_behind : limit_fault (labels_of t) n (events_of (thread_program t place)) ≡ None → m ≡ n + length (sites_of (thread_program t place))
+      → limit_fault (labels_of t) n (events_at t (place ∷ places)) ≡ limit_fault (labels_of t) m (events_at t places)
+  events_behind passed same =
+      fault_behind (labels_of t) n (events_of (thread_program t place)) (events_at t places) passed
+      ∙ ap (λ k. limit_fault (labels_of t) k (events_at t places)) (sym same)
+
+  -- a limit that a thread passes refuses the source
+  pub limit_refused : (r : Refusal) → thread_faults t ≡ [] → NotRecursive t
+      → limit_fault (labels_of t) 0 (thread_events t) ≡ limit_fault (labels_of t) n (events_at t (place ∷ places))
+      → limit_fault (labels_of t) n (events_of (thread_program t place)) ≡ Some r → RefusesThreads t r.cause r.place
+  limit_refused r names straight whole e =
+      past_limit r names straight (whole ∙ fault_stays (labels_of t) n (events_of (thread_program t place)) (events_at t places) r e)
+
+  -- and so with an error that tells it
+  pub exit_limit : {X : Type 0} (labels : List Labelled) (P : resolved.Program) (x : Result X SourceError) (e : SourceError) → thread_faults t ≡ []
+      → NotRecursive t
+      → limit_fault (labels_of t) 0 (thread_events t) ≡ limit_fault (labels_of t) n (events_at t (place ∷ places)) → labels ≡ labels_of t
+      → P ≡ thread_program t place
+      → IsErrAnd x (λ y. y ≡ e) → IfRefusal (λ r. limit_fault labels n (events_of P) ≡ Some r) e → IfRefused x (λ r. RefusesThreads t r.cause r.place)
+  exit_limit labels P x e names straight whole table is stops fault =
+      exit_refused (λ r. RefusesThreads t r.cause r.place) x e stops
+      (refusal_by (λ r. limit_fault labels n (events_of P) ≡ Some r) _
+      (λ r h. limit_refused r names straight whole
+      (subst (λ (ls : List Labelled). limit_fault ls n (events_of (thread_program t place)) ≡ Some r) table
+      (subst (λ (Q : resolved.Program). limit_fault labels n (events_of Q) ≡ Some r) is h))) e fault)
+
+-- an element that is there, whatever stands for one that isn't
+pub same_within : {A : Type 0} (xs : List A) (i : ℕ) (d e : A) → i < length xs → get_or xs i d ≡ get_or xs i e
+same_within [] i d e l = absurd (omega (arith, l))
+same_within (y ∷ xs) zero d e l = refl
+same_within (y ∷ xs) (suc i) d e l = same_within xs i d e (omega (arith, l))
+
+-- what holds of each holds of one
+pub each_at : {A : Type 0} (P : A → Type 0) (xs : List A) (i : ℕ) (x : A) → AllByRecursion P xs → i < length xs → x ≡ get_or xs i x → P x
+each_at P [] i x h l is = absurd (omega (arith, l))
+each_at P (y ∷ xs) zero x h l is = subst P (sym is) h.0
+each_at P (y ∷ xs) (suc i) x h l is = each_at P xs i x h.1 (omega (arith, l)) is
+
+-- of a list without its first elements, one more
+pub next_at : {A B : Type 0} (f : List A → B) (xs : List A) (i : ℕ) (x : A) → i < length xs → x ≡ get_or xs i x → f (drop i xs) ≡ f (x ∷ drop (i + 1) xs)
+next_at f xs i x l is = at_drop_more f xs i x l ∙ ap (λ y. f (y ∷ drop (i + 1) xs)) (sym is)
+
+-- the program as it stands then
+pub stays_placed : (t : FileTree) (old new : Program) (place : ℕ) → new ≡ record old { main = place }
+    → program_view (record old { main = place }) ≡ thread_program t place
+    → program_view new ≡ thread_program t new.main
+stays_placed t old new place e h = subst (λ (p : Program). program_view p ≡ thread_program t p.main) (sym e) h
+
+-- more points
+pub more_points : {A B : Type 0} (view : A → B) (old : List A) (sites new : List B) → new ≡ map view old ++ sites
+    → length new ≡ length (map view old) + length sites
+more_points view old sites new e = ap length e ∙ length-append (map view old) sites
+
+-- one thing more for each
+pub zip_push : {A B : Type 0} (R : A → B → Type 0) (xs : List A) (ys : List B) (x : A) (y : B) → AllZip R xs ys → R x y → AllZip R (xs ++ x ∷ []) (ys ++ y ∷ [])
+zip_push R [] [] x y h r = (r, tt)
+zip_push R [] (b ∷ ys) x y h r = absurd h
+zip_push R (a ∷ xs) [] x y h r = absurd h
+zip_push R (a ∷ xs) (b ∷ ys) x y h r = (h.0, zip_push R xs ys x y h.1 r)
+
+pub zip_more : {A B : Type 0} (R : A → B → Type 0) (xs : List A) (ys zs : List B) (i : ℕ) (x : A) (y : B) → AllZip R (take i xs) ys → i < length xs
+    → x ≡ get_or xs i x
+    → zs ≡ ys ++ y ∷ [] → R x y → AllZip R (take (i + 1) xs) zs
+zip_more {A} {B} R xs ys zs i x y h l is same r =
+    let taken : take (i + 1) xs ≡ take i xs ++ x ∷ [] =
+    ap (λ k. take k xs) (add-one i) ∙ take-suc xs i x l ∙ ap (λ z. take i xs ++ z ∷ []) (sym is) in
+    subst (λ (lefts : List A). AllZip R lefts zs) (sym taken) (subst (λ (rights : List B). AllZip R (take i xs ++ x ∷ []) rights) (sym same)
+    (zip_push R (take i xs) ys x y h r))
+
+-- sources ------------------------------------------------------------------------------------------------------------
+
+-- without faults of names each thread's program is well-formed
+pub well : (source : List ℕ) (t : FileTree) → HasTree source t → thread_faults t ≡ []
+    → AllByRecursion (λ place. IsWellFormed (thread_program t place)) (thread_places t)
+well source t has names = threads_formed t (spelled_are_small source has.tokens t has.parsed.0 has.lexed has.parsed.1 has.parsed.2) names
+
+pub accepted : (source : List ℕ) (t : FileTree) → HasTree source t → HasThreads t → AcceptsThreads Spells source t
+accepted source t has threads = record {
+  tokens = has.tokens;
+  not_long = has.not_long;
+  lexed = has.lexed;
+  parsed = has.parsed;
+  names = threads.names;
+  not_recursive = threads.straight;
+  within = threads.within;
+}
+
+-- exits by the errors of the stages
+pub exit_unread : {X : Type 0} (source : List ℕ) (x : Result X SourceError) (e : SourceError) → IsErrAnd x (λ y. y ≡ e)
+    → IfRefusal (λ r. NotParsed Spells source r.cause r.place) e → IfRefused x (λ r. RefuseThreads Spells source r.cause r.place)
+exit_unread source x e is fault =
+    exit_refused (λ r. RefuseThreads Spells source r.cause r.place) x e is
+    (refusal_by (λ r. NotParsed Spells source r.cause r.place) _ (λ r. unread r.cause r.place) e fault)
+
+tree_refused : (source : List ℕ) (t : FileTree) (c : Cause) (at : Place) → HasTree source t → RefusesThreads t c at → RefuseThreads Spells source c at
+tree_refused source t c at has fault = bad_tree has.tokens t c at has.not_long has.lexed has.parsed fault
+
+pub exit_tree : {X : Type 0} (source : List ℕ) (t : FileTree) (x : Result X SourceError) (e : SourceError) → HasTree source t → IsErrAnd x (λ y. y ≡ e)
+    → IfRefusal (λ r. RefusesThreads t r.cause r.place) e → IfRefused x (λ r. RefuseThreads Spells source r.cause r.place)
+exit_tree source t x e has is fault =
+    exit_refused (λ r. RefuseThreads Spells source r.cause r.place) x e is
+    (refusal_by (λ r. RefusesThreads t r.cause r.place) _ (λ r. tree_refused source t r.cause r.place has) e fault)

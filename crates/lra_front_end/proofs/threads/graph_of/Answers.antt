@@ -1,0 +1,24 @@
+-- Goals of `graph_of`: the tree of operations of one thread's program, or the refusal for the limit that it passes
+-- behind the threads before it.
+use Rattle.std.proofs.Common.{◌≡◌, List, length, Some, sym, ap, ◌∙◌}
+use Rattle.lra_syntax.specs.Labels.{Labelled}
+use Rattle.lra_program.specs.ProgramViews.{program_view}
+use Rattle.lra_program.specs.Sites.{events_of}
+use Rattle.lra_resolution_spec.specs.Refuse.{limit_fault}
+use Rattle.lra_inline_steps.specs.Inlining.{points_in}
+use Rattle.lra_inline_steps.specs.Limits.{refusal_of}
+use Rattle.lra_front_end.proofs.StageSteps.{limit_passed}
+use Rattle.lra_front_end.proofs.threads.graph_of.Goals as goal
+
+pub returns-in-Ok-clause-graph : goal.returns-in-Ok-clause-graph
+returns-in-Ok-clause-graph c =
+    let b = c.in-Ok.ensures in
+    record { well = c.requires; few = b.few; is_graph = b.graph; agrees = b.agrees; points = b.sites }
+
+pub returns-in-Err-Passed-clause-refused : goal.returns-in-Err-Passed-clause-refused
+returns-in-Err-Passed-clause-refused c =
+    let x = c.in-Err-Passed.limit in
+    let P = program_view (record c.args.program.now { main = c.args.thread }) in
+    let n = length (points_in c.args.before.now) in
+    limit_passed (λ y. (ls : List Labelled) → limit_fault ls n (events_of P) ≡ Some (refusal_of ls y)) c.in-Err-Passed.field-0 x c.in-Err-Passed.field-0-is
+    c.in-Err-Passed.ensures.limit c.args.labels.now.labels ∙ ap Some (sym c.refusal.ensures)

@@ -1,0 +1,21 @@
+-- The threads so far have their trees, and passed no limit; those that are left count behind their points.
+use Rattle.std.proofs.Common.{◌≡◌, length, drop, take}
+use Rattle.std.specs.List.{AllZip}
+use Rattle.lra_syntax.specs.Views.{tree_view}
+use Rattle.lra_syntax.specs.Labels.{labels_of}
+use Rattle.lra_program.specs.ProgramViews.{program_view}
+use Rattle.lra_resolution_spec.specs.Refuse.{limit_fault}
+use Rattle.lra_resolution_spec.specs.Threads.{thread_program, thread_events}
+use Rattle.lra_inline_steps.specs.Inlining.{points_in}
+use Rattle.lra_front_end.specs.ThreadsStages.{IsThreadInlined}
+use Rattle.lra_front_end.proofs.ThreadSteps.{events_at}
+use Rattle.lra_front_end.proofs.threads.inline_threads.Given as goal
+
+abbrev pub invariant-threads : goal.invariant-threads
+invariant-threads l = record {
+  program : program_view l.resolution.program ≡ thread_program (tree_view l.tree) l.resolution.program.main;
+  labels : l.resolution.labels ≡ l.fn.resolution.labels;
+  within : limit_fault (labels_of (tree_view l.tree)) 0 (thread_events (tree_view l.tree))
+      ≡ limit_fault (labels_of (tree_view l.tree)) (length (points_in l.before)) (events_at (tree_view l.tree) (drop l.thread-index l.threads));
+  graphs : AllZip (IsThreadInlined (tree_view l.tree)) (take l.thread-index l.threads) l.graphs.items;
+}

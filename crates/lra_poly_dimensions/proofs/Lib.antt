@@ -1,3 +1,0 @@
-pub mod ShortenedSets
-pub mod EmbeddedSets
-pub mod ElapsedSets

@@ -1,0 +1,30 @@
+//! What a domain owes to a report.
+
+ghost use Rattle.std.specs.Prelude.{◌≡◌, IfOk};
+ghost use Rattle.std.specs.List.{AllByRecursion};
+ghost use Rattle.lra_options.specs.declared.options.Domain as options;
+ghost use Rattle.lra_report.specs.Report.{Invariant};
+ghost use Rattle.lra_report.specs.Spelled.{IsSpelledPart};
+ghost use Rattle.lra_report_build.specs.Canonical.{IsCanonicalState};
+ghost use Rattle.lra_report_build.specs.Shown.{IsShown};
+
+use lra_domain::Domain;
+use lra_report::Part;
+use std::alloc::{AllocError, Global};
+
+/// A domain whose values a report shows.
+pub trait Show: Domain {
+    /// The domain as options name it.
+    ghost named: { options.Domain };
+
+    /// The state that a value is shown by.
+    ghost shown: { Self → Invariant };
+
+    /// The state of the value: a part for each of its parts, each as the domain has it and as its text tells it. Of
+    /// the lists with a number for each dimension it holds at the value's stores and at no other.
+    fn show(&self, alloc: Global) -> Result<Vec<Part>, AllocError>
+        ensures shown { IfOk result (λ s. s.items ≡ shown self.now) }
+        ensures told { IfOk result (λ s. IsShown Self.abstraction named self.now s.items) }
+        ensures spelled { IfOk result (λ s. AllByRecursion IsSpelledPart s.items) }
+        ensures canonical { IfOk result (λ s. IsCanonicalState named (Self.abstraction.dims self.now) s.items) };
+}

@@ -1,6 +1,0 @@
--- Goals of `boxes_are_shown`: boxes are shown by their rows, which hold at each of their stores.
-use Rattle.lra_report_states.proofs.BoxShown as law
-use Rattle.lra_report_states.proofs.laws.boxes_are_shown.Goals as goal
-
-pub returns : goal.returns
-returns c = law.boxes_are_shown

@@ -1,6 +1,0 @@
--- Goals of `octagons_are_shown`: octagons are shown by their rows, which hold at each of their stores.
-use Rattle.lra_report_states.proofs.OctShown as law
-use Rattle.lra_report_states.proofs.laws.octagons_are_shown.Goals as goal
-
-pub returns : goal.returns
-returns c = law.octagons_are_shown

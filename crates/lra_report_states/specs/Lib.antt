@@ -1,5 +1,0 @@
--- In the order in which they are to be read.
-pub mod Shown
-pub mod Polyhedra
-pub mod Sets
-pub mod Canonical

@@ -1,6 +1,0 @@
--- Goals of `threads_hold`: does nothing.
-use Rattle.lra_threads_sound.proofs.HoldBeside as proof
-use Rattle.lra_threads_sound.proofs.threads_hold.Goals as goal
-
-pub returns : goal.returns
-returns c = proof.threads_hold

@@ -1,7 +1,0 @@
--- What a step gives, in runs of programs and of their trees.
-pub mod TopWrites
-pub mod Guarded
-pub mod WriteHits
--- Whole programs.
-pub mod Writes
-pub mod ByTrees
